@@ -1,1 +1,5 @@
+mod Files
+mod Named
+mod Steps
 pub mod Strict
+mod Tasks

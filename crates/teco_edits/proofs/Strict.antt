@@ -1,9 +1,9 @@
 -- Runs that strict terms admit are sure.
-use Rattle.std.proofs.Common.{◌≡◌, ℕ, ◌+◌, ◌≤◌, Bool, true, Option, Some, None, inl, inr, ◌⊎◌, refl, arith}
+use Rattle.std.proofs.Common.{ℕ, ◌+◌, ◌≤◌, true, Option, Some, None, inl, inr, ◌⊎◌, refl, arith}
 use Rattle.std.specs.Prelude.{IfSome}
 use Rattle.teco_apply.specs.Apply.{IsNotRun}
 use Rattle.teco_apply.specs.ByPages.{AdmittedStops, IsAnswered}
-use Rattle.teco_apply.specs.Sure.{Call, IsReady, Runs, loaded, n_of}
+use Rattle.teco_apply.specs.Sure.{Call, IsReady, loaded, n_of}
 use Rattle.teco_edits.specs.Strict.{AreStrict, StrictRunsAreSure, on_terms}
 use Rattle.teco_edits.specs.Terms.{IsPromised, n_at_most}
 use Rattle.teco_edits.specs.declared.watching.Terms.{Terms}

@@ -1,16 +1,21 @@
 //! `apply`: a file is edited by a verified macro.
-ghost use Rattle.std.specs.Prelude.{◌≡◌, ◌≤◌, ◌<◌, [], length};
+ghost use Rattle.std.specs.Prelude.{◌≡◌, ◌<◌, [], length, false, IfOk};
 ghost use Rattle.teco_apply.specs.ByPages.{FileEdited};
 ghost use Rattle.teco_apply.specs.InPlace.{IsRewritten};
 ghost use Rattle.teco_apply.specs.Touched.{EditTouches};
 ghost use Rattle.teco_apply.specs.declared.editing.TheConstants.{NAME};
+ghost use Rattle.teco_edits.specs.Edits.{EditsBy, EditsOn, IsAnswer, IsAnswerTo, IsOutcome, IsSeen, RewritesBy};
+ghost use Rattle.teco_edits.specs.Edits.{RewritesOn, Watches, WatchesFile, call_of, trace_of};
 ghost use Rattle.teco_edits.specs.Strict.{OnTerms};
+ghost use Rattle.teco_edits.specs.Tasks.{AnswersNone, Applies, AppliesIn};
 ghost use Rattle.teco_pages.specs.HostFiles.{Notes};
 ghost use Rattle.teco_run.specs.Holdings.{Joined};
 ghost use Rattle.teco_verdicts.specs.Premise.{IsPremise};
+ghost use Rattle.teco_verdicts.specs.declared.outcome.Outcome.TheVariants.{Refused};
 
+use crate::names::Names;
 use crate::promise::Promise;
-use crate::subject::{Subject, read_subject, refuse_subject};
+use crate::subject::{Subject, read_subject, refuse_subject, warn_empty};
 use crate::watching::{Seen, Terms, Warden, Watch};
 use std::alloc::Global;
 use std::fs::{Files, Metadata};
@@ -28,9 +33,7 @@ use teco_session::SessionFault;
 use teco_source::Shown;
 use teco_text::GapText;
 use teco_tools::{Reporting, Start, ToolFault, machine_with, prepare, tell_anyway, told_name};
-use teco_verdicts::{
-    Console, Grouped, Known, Outcome, Request, Setup, Voice, tell_edition, warn_no_text,
-};
+use teco_verdicts::{Console, Grouped, Known, Outcome, Request, Setup, Voice, tell_edition};
 use teco_verify::Verified;
 
 /// A macro of a library, and how it is run on files.
@@ -68,15 +71,6 @@ impl Task<'_, '_> {
             is_open: self.certificate.is_none(),
         }
     }
-}
-
-/// A file that is edited into another.
-#[derive(Clone, Copy)]
-pub struct Names<'a> {
-    pub source: &'a [u8],
-    pub target: &'a [u8],
-    ghost short_source: { length source.now ≤ NAME },
-    ghost short_target: { length target.now ≤ NAME },
 }
 
 // Says how many commands the runs on a file took. It was asked for, so it is said in any case.
@@ -155,25 +149,20 @@ struct Watched {
 }
 
 // What came of an edit that was watched, if it came to its end.
-fn with_seen(edited: Result<Edited, SessionFault>, seen: Seen) -> Result<Watched, ToolFault> {
-    Ok(Watched {
-        edited: edited?,
-        seen,
-    })
+fn with_seen(edited: Result<Edited, SessionFault>, seen: Seen) -> Result<Watched, ToolFault>
+    ensures { IsSeen edited result }
+{
+    match edited {
+        Ok(edited) => Ok(Watched { edited, seen }),
+        Err(fault) => Err(ToolFault::Session(fault)),
+    }
 }
 
-/// Where what is typed goes, and what is said.
-#[derive(Drop)]
-pub struct Channels<'a, O: Write, E: Write + Drop> {
-    pub out: &'a mut O,
-    pub voice: &'a mut Voice<E>,
-}
-
-// What is done, and with which files.
+/// What is done, and with which files.
 #[derive(Clone, Copy)]
-struct Work<'a> {
-    job: Job<'a>,
-    names: Names<'a>,
+pub struct Work<'a> {
+    pub job: Job<'a>,
+    pub names: Names<'a>,
 }
 
 // Edits a file on a machine, on the terms of the job, which an observer hears.
@@ -211,40 +200,58 @@ fn edit_observed<H: Host, O: Write, V: Observer<H>>(
 
 // Edits a file on a machine, and watches the runs.
 fn watch_edit<H: Host + Reporting, O: Write, E: Write + Drop>(
-    channels: &mut Channels<'_, O, E>,
+    out: &mut O,
+    voice: &mut Voice<E>,
     machine: &mut Machine<GapText>,
     work: Work<'_>,
     host: &mut H,
-) -> Result<Watched, ToolFault> {
+) -> Result<Watched, ToolFault>
+    ensures { Watches work.entry.job.task.now (call_of work.entry.job) work.entry.names
+        machine.old machine.new (H.files host.old) (H.files host.new)
+        (trace_of (H.failures host.old) (O.contents out.old))
+        (trace_of (H.failures host.new) (O.contents out.new)) result }
+{
     let watch = work.job.watch(work.names.source);
-    let mut warden = Warden::new(channels.voice, watch);
-    let edited = edit_observed(machine, work, host, channels.out, &mut warden);
+    let mut warden = Warden::new(voice, watch);
+    let edited = edit_observed(machine, work, host, out, &mut warden);
     with_seen(edited, warden.seen())
 }
 
 // Edits a file on a machine, and says what there is to be said of it.
 fn edit_on<H: Host + Reporting, O: Write, E: Write + Drop>(
-    channels: &mut Channels<'_, O, E>,
+    out: &mut O,
+    voice: &mut Voice<E>,
     machine: &mut Machine<GapText>,
-    job: Job<'_>,
-    names: Names<'_>,
+    work: Work<'_>,
     host: &mut H,
-) -> Result<Outcome, ToolFault> {
-    prepare(machine, job.task.start, host)?;
-    let watched = watch_edit(channels, machine, Work { job, names }, host)?;
-    conclude(channels.voice, job.task, names.source, watched)
+) -> Result<Outcome, ToolFault>
+    ensures { EditsOn work.entry.job.task.now (call_of work.entry.job) work.entry.names
+        machine.old machine.new (H.files host.old) (H.files host.new)
+        (trace_of (H.failures host.old) (O.contents out.old))
+        (trace_of (H.failures host.new) (O.contents out.new)) result }
+{
+    match watch_edit(out, voice, machine, work, host) {
+        Ok(watched) => conclude(voice, work.job.task, work.names.source, watched),
+        Err(fault) => Err(fault),
+    }
 }
 
 /// Edits a file by a verified macro over the files of a host, and says what there is to be said of
 /// it.
 pub fn edit_by<H: Host + Reporting, O: Write, E: Write + Drop>(
-    channels: &mut Channels<'_, O, E>,
-    job: Job<'_>,
-    names: Names<'_>,
+    out: &mut O,
+    voice: &mut Voice<E>,
+    work: Work<'_>,
     host: &mut H,
-) -> Result<Outcome, ToolFault> {
-    let mut machine = machine_with(job.alloc, job.task.cap);
-    edit_on(channels, &mut machine, job, names, host)
+) -> Result<Outcome, ToolFault>
+    ensures { EditsBy work.entry.job.task.now (call_of work.entry.job) work.entry.names
+        (H.files host.old) (H.files host.new)
+        (trace_of (H.failures host.old) (O.contents out.old))
+        (trace_of (H.failures host.new) (O.contents out.new)) result }
+{
+    let mut machine = machine_with(work.job.alloc, work.job.task.cap);
+    prepare(&mut machine, work.job.task.start, host)?;
+    edit_on(out, voice, &mut machine, work, host)
 }
 
 /// What came of the edit of a file in place, and its host.
@@ -254,13 +261,23 @@ pub struct Replaced<H: Host + Drop> {
     pub host: H,
 }
 
-// A file that is edited in place on a machine, on the terms of a job.
+/// A file that is edited in place, on the terms of a job.
 #[derive(Clone, Copy)]
-struct OneWork<'a, E: Ending> {
-    job: Job<'a>,
-    name: &'a [u8],
-    // does its new text take its place?
-    ending: E,
+pub struct OneWork<'a, E: Ending> {
+    pub job: Job<'a>,
+    pub name: &'a [u8],
+    /// Does its new text take its place?
+    pub ending: E,
+}
+
+impl<'a, E: Ending> OneWork<'a, E> {
+    /// A file, by its name.
+    pub fn new(job: Job<'a>, name: &'a [u8], ending: E) -> OneWork<'a, E>
+        ensures job { result.job ≡ job.entry }
+        ensures name { result.name ≡ name.entry }
+    {
+        OneWork { job, name, ending }
+    }
 }
 
 // Edits a file in place on a machine, on the terms of the job, which an observer hears.
@@ -302,58 +319,83 @@ struct WatchedFile<H: Host + Drop> {
 
 // Edits a file in place on a machine, and watches the runs.
 fn watch_rewrite<H: Host + Reporting + Drop, O: Write, E: Write + Drop, K: Ending>(
-    channels: &mut Channels<'_, O, E>,
+    out: &mut O,
+    voice: &mut Voice<E>,
     machine: &mut Machine<GapText>,
     work: OneWork<'_, K>,
     host: H,
 ) -> WatchedFile<H>
     requires fresh { H.files host ≡ Notes [] }
     requires name { length work.name.now < NAME }
+    ensures { WatchesFile work.entry.job.task.now (call_of work.entry.job) work.entry.name.now K.replaces
+        machine.old machine.new (H.files result.host) (H.failures host)
+        (O.contents out.old) (O.contents out.new) result.watched }
 {
     let watch = work.job.watch(work.name);
-    let mut warden = Warden::new(channels.voice, watch);
-    let rewritten = rewrite_observed(machine, work, host, channels.out, &mut warden);
+    let mut warden = Warden::new(voice, watch);
+    let rewritten = rewrite_observed(machine, work, host, out, &mut warden);
     WatchedFile {
         watched: with_seen(rewritten.edited, warden.seen()),
         host: rewritten.host,
     }
 }
 
+// Says what there is to be said of the edit of a file in place.
+fn conclude_rewrite<H: Host + Drop, E: Write + Drop>(
+    voice: &mut Voice<E>,
+    task: &Task<'_, '_>,
+    name: &[u8],
+    file: WatchedFile<H>,
+) -> Replaced<H>
+    ensures answers { IsAnswerTo task.now file.watched result.outcome }
+    ensures host { result.host ≡ file.host }
+{
+    let WatchedFile { watched, host } = file;
+    let outcome = match watched {
+        Ok(watched) => conclude(voice, task, name, watched),
+        Err(fault) => Err(fault),
+    };
+    Replaced { outcome, host }
+}
+
 // Edits a file in place on a machine, and says what there is to be said of it.
 fn rewrite_on<H: Host + Reporting + Drop, O: Write, E: Write + Drop, K: Ending>(
-    channels: &mut Channels<'_, O, E>,
+    out: &mut O,
+    voice: &mut Voice<E>,
     machine: &mut Machine<GapText>,
     work: OneWork<'_, K>,
     host: H,
 ) -> Replaced<H>
     requires fresh { H.files host ≡ Notes [] }
     requires name { length work.name.now < NAME }
+    ensures { RewritesOn work.entry.job.task.now (call_of work.entry.job) work.entry.name.now K.replaces
+        machine.old machine.new (H.files result.host) (H.failures host)
+        (O.contents out.old) (O.contents out.new) result.outcome }
 {
-    let OneWork { job, name, ending } = work;
-    let work = OneWork { job, name, ending };
-    let WatchedFile { watched, host } = watch_rewrite(channels, machine, work, host);
-    let outcome = match watched {
-        Ok(watched) => conclude(channels.voice, job.task, name, watched),
-        Err(fault) => Err(fault),
-    };
-    Replaced { outcome, host }
+    let task = work.job.task;
+    let name = work.name;
+    let file = watch_rewrite(out, voice, machine, work, host);
+    conclude_rewrite(voice, task, name, file)
 }
 
 /// Edits a file in place by a verified macro over a host that has made no call yet, and says what there
 /// is to be said of it.
 pub fn rewrite_by<H: Host + Reporting + Drop, O: Write, E: Write + Drop, K: Ending>(
-    channels: &mut Channels<'_, O, E>,
-    job: Job<'_>,
-    name: &[u8],
-    ending: K,
+    out: &mut O,
+    voice: &mut Voice<E>,
+    work: OneWork<'_, K>,
     host: H,
 ) -> Replaced<H>
     requires fresh { H.files host ≡ Notes [] }
-    requires name { length name.now < NAME }
+    requires name { length work.name.now < NAME }
+    ensures { RewritesBy work.entry.job.task.now (call_of work.entry.job) work.entry.name.now K.replaces
+        (H.files result.host) (H.failures host)
+        (O.contents out.old) (O.contents out.new) result.outcome }
 {
+    let job = work.job;
     let mut machine = machine_with(job.alloc, job.task.cap);
     match prepare(&mut machine, job.task.start, &mut MemHost::new(job.alloc)) {
-        Ok(()) => rewrite_on(channels, &mut machine, OneWork { job, name, ending }, host),
+        Ok(()) => rewrite_on(out, voice, &mut machine, work, host),
         Err(fault) => Replaced {
             outcome: Err(fault),
             host,
@@ -367,7 +409,9 @@ fn conclude<E: Write + Drop>(
     task: &Task<'_, '_>,
     name: &[u8],
     watched: Watched,
-) -> Result<Outcome, ToolFault> {
+) -> Result<Outcome, ToolFault>
+    ensures { IsAnswer task.now.wants_all watched.edited result }
+{
     let Watched { edited, seen } = watched;
     if task.tells_counts {
         tell_counts(voice, name, edited, seen);
@@ -387,7 +431,9 @@ fn outcome_of_rest<E: Write + Drop>(
     task: &Task<'_, '_>,
     name: &[u8],
     seen: Seen,
-) -> Outcome {
+) -> Outcome
+    ensures { IsOutcome task.now.wants_all false false result }
+{
     match (task.pages, seen.unread) {
         (Pages::First, Some(unread)) if unread > 0 => {
             tell_unedited(voice, name, unread);
@@ -402,7 +448,9 @@ fn outcome_of_rest<E: Write + Drop>(
 }
 
 // What comes of an edit that was refused a run.
-fn refused(seen: Seen) -> Result<Outcome, ToolFault> {
+fn refused(seen: Seen) -> Result<Outcome, ToolFault>
+    ensures { IfOk result (λ outcome. outcome ≡ Refused) }
+{
     match seen.most {
         None => Err(ToolFault::Unsized),
         Some(_) => Ok(Outcome::Refused),
@@ -423,23 +471,28 @@ fn apply_subject<H: Host + Reporting, O: Write + Drop, E: Write + Drop>(
     errand: Errand<'_>,
     subject: &Subject<'_>,
     host: &mut H,
-) -> Result<Outcome, ToolFault> {
+) -> Result<Outcome, ToolFault>
+    ensures { AppliesIn task.now subject.now.sourced.library errand.entry.names
+        (H.files host.old) (H.files host.new)
+        (trace_of (H.failures host.old) (O.contents console.old.out))
+        (trace_of (H.failures host.new) (O.contents console.new.out)) result }
+{
     match subject.accepted(console.alloc, task.entry) {
         Ok(_) if errand.is_one_file => refuse_names(console),
         Ok(verified) => {
             let editions = subject.sourced.editions;
             tell_edition(&mut console.voice, editions, &verified);
-            warn_no_text(console, &subject.sourced, &verified)?;
+            warn_empty(console, &subject.sourced, &verified)?;
             let job = Job {
                 alloc: console.alloc,
                 task,
                 verified: &verified,
             };
-            let mut channels = Channels {
-                out: &mut console.out,
-                voice: &mut console.voice,
+            let work = Work {
+                job,
+                names: errand.names,
             };
-            edit_by(&mut channels, job, errand.names, host)
+            edit_by(&mut console.out, &mut console.voice, work, host)
         }
         Err(refusal) => refuse_subject(console, subject, task.entry, refusal),
     }
@@ -468,7 +521,11 @@ pub fn apply_macro<R: Files + Input, H: Host + Reporting, O: Write + Drop, E: Wr
     task: &Task<'_, '_>,
     names: Names<'_>,
     host: &mut H,
-) -> Result<Outcome, ToolFault> {
+) -> Result<Outcome, ToolFault>
+    ensures { Applies task.now names.entry (H.files host.old) (H.files host.new)
+        (trace_of (H.failures host.old) (O.contents console.old.out))
+        (trace_of (H.failures host.new) (O.contents console.new.out)) result }
+{
     let errand = Errand {
         names,
         is_one_file: are_one_file(rt, names),
@@ -482,8 +539,10 @@ pub fn apply_macro<R: Files + Input, H: Host + Reporting, O: Write + Drop, E: Wr
 // Says that one file can't be both read and written.
 fn refuse_names<O: Write + Drop, E: Write + Drop>(
     console: &mut Console<O, E>,
-) -> Result<Outcome, ToolFault> {
+) -> Result<Outcome, ToolFault>
+    ensures { AnswersNone (O.contents console.old.out) (O.contents console.new.out) result }
+{
     console.answer("?ARG\r\n")?;
-    console.complain("IN and OUT are one file; teco edit changes a file in place (?ARG)");
+    console.voice.complain("IN and OUT are one file; teco edit changes a file in place (?ARG)");
     Ok(Outcome::Coded)
 }

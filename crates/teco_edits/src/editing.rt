@@ -1,26 +1,33 @@
 //! `edit`: files are edited in place by a verified macro.
-ghost use Rattle.std.specs.Prelude.{◌≡◌, ◌<◌, [], length, IsTrue, IfOk};
+ghost use Rattle.std.specs.Prelude.{◌≡◌, ◌<◌, ◌↔◌, [], length, true, IsTrue, IfOk, OnOk};
+ghost use Rattle.std.specs.Io.KnownBytes.{Appends};
 ghost use Rattle.teco_apply.specs.declared.editing.TheConstants.{NAME};
+ghost use Rattle.teco_edits.specs.Files as edits;
+ghost use Rattle.teco_edits.specs.Files.{EditsAll, EditsFile, EditsFiles, EditsIfAny, EditsNamed, EditsNext};
+ghost use Rattle.teco_edits.specs.Files.{EditsOne, EditsSubject, EditsTask, IsFileName, MayBeLeft, ShowsChange};
+ghost use Rattle.teco_edits.specs.Files.{ShowsEnded, is_change, is_done, is_made, listed, outcome_of, shown_typed};
+ghost use Rattle.teco_edits.specs.Files.{tally_with};
 ghost use Rattle.teco_pages.specs.HostFiles.{Notes};
+ghost use Rattle.teco_verdicts.specs.declared.outcome.Outcome.TheVariants.{Refused};
 
-use crate::applying::{Channels, Job, Replaced, Task, rewrite_by};
+use crate::applying::{Job, OneWork, Replaced, Task, rewrite_by};
 use crate::backups::taken_backup;
 use crate::choosing::Chosen;
 use crate::diff::{Look, write_diff};
 use crate::folders::Folders;
 use crate::preview::{Texts, has_nul, new_text, read_whole};
 use crate::progress::{Place, Progress};
-use crate::subject::{Subject, read_subject, refuse_subject};
-use crate::typed::{Naming, without_code, write_named};
+use crate::subject::{Subject, read_subject, refuse_empty, refuse_subject, say_findings};
+use crate::typed::{Naming, named_lines, without_code};
 use std::alloc::{AllocError, Global};
 use std::io::{Input, Write};
 use teco_apply::{Drops, Ending, NAME, Pages, Replaces};
-use teco_base::bytes::ESC;
+use teco_base::bytes::{ESC, LF};
 use teco_pages::{Backup, Closed, Closing, FileHost, Handling, Host, ProcessFacts, System};
 use teco_session::SessionFault;
 use teco_source::Shown;
-use teco_tools::{Case, ToolFault};
-use teco_verdicts::{Console, Outcome, Premise, lint, tell_edition, tell_no_text, tell_promise};
+use teco_tools::ToolFault;
+use teco_verdicts::{Console, Outcome, Premise, Sourced, Voice, tell_edition, tell_promise};
 
 /// How files are kept as they were.
 #[derive(Clone, Copy)]
@@ -78,42 +85,67 @@ const NONE: Tally = Tally {
     outcome: Outcome::Done,
 };
 
+// One more, if it counts; so many at most as a number says.
+fn counted(count: usize, counts: bool) -> usize
+    ensures { result ≡ edits.counted count counts }
+{
+    if counts {
+        count.saturating_add(1)
+    } else {
+        count
+    }
+}
+
+// The outcome of the greater status.
+fn worse(one: Outcome, other: Outcome) -> Outcome
+    ensures { result ≡ edits.worse one other }
+{
+    match (one, other) {
+        (Outcome::Refused, _) | (_, Outcome::Refused) => Outcome::Refused,
+        (Outcome::Coded, _) | (_, Outcome::Coded) => Outcome::Coded,
+        (Outcome::Done, Outcome::Done) => Outcome::Done,
+    }
+}
+
 impl Tally {
     // These files, and one more.
-    fn with(self, ended: Ended) -> Tally {
+    fn with(self, ended: Ended) -> Tally
+        ensures { result ≡ tally_with ended self }
+    {
         Tally {
-            files: self.files.saturating_add(1),
-            changed: self.changed.saturating_add(usize::from(ended.is_change())),
-            failed: self.failed.saturating_add(usize::from(!ended.is_done())),
-            outcome: self.outcome.worse(ended.outcome),
+            files: counted(self.files, true),
+            changed: counted(self.changed, ended.is_change()),
+            failed: counted(self.failed, !ended.is_done()),
+            outcome: worse(self.outcome, ended.outcome),
         }
     }
 
     // What came of all files.
-    fn outcome_of(self, change: Change) -> Outcome {
-        if change == Change::Checked && self.changed > 0 {
-            self.outcome.worse(Outcome::Coded)
-        } else {
-            self.outcome
+    fn outcome_of(self, change: Change) -> Outcome
+        ensures { result ≡ outcome_of change self }
+    {
+        match change {
+            Change::Checked if self.changed > 0 => worse(self.outcome, Outcome::Coded),
+            _ => self.outcome,
         }
     }
 }
 
 // Can a file be edited by this name? It is one, has no ESC and is not too long.
 fn is_name(name: &[u8]) -> bool
-    ensures { IsTrue result → length name.now < NAME }
+    ensures { IsTrue result ↔ IsFileName name.now }
 {
     name.len() < NAME && !name.is_empty() && !name.contains(&ESC)
 }
 
 // Says that no file of this name can be edited.
-fn tell_name<O: Write + Drop, E: Write + Drop>(console: &mut Console<O, E>, name: &[u8]) {
+fn tell_name<E: Write + Drop>(voice: &mut Voice<E>, name: &[u8]) {
     if name.is_empty() {
-        console.complain("an empty word names no file");
+        voice.complain("an empty word names no file");
         return;
     }
     let shown = Shown(name);
-    console.complain(format_args!(
+    voice.complain(format_args!(
         "{shown} is not edited: a file's name holds no ESC and at most 4095 bytes"
     ));
 }
@@ -122,25 +154,30 @@ fn tell_name<O: Write + Drop, E: Write + Drop>(console: &mut Console<O, E>, name
 #[derive(Clone, Copy)]
 struct Ended {
     outcome: Outcome,
-    closed: Option<Closed>,
+    // does its host say that its new text is another?
+    differs: bool,
 }
 
 impl Ended {
     // Did all runs on the file come to their end?
-    fn is_done(self) -> bool {
+    fn is_done(self) -> bool
+        ensures { result ≡ is_done self }
+    {
         matches!(self.outcome, Outcome::Done)
     }
 
     // Would the file change?
-    fn is_change(self) -> bool {
-        self.is_done() && matches!(self.closed, Some(Closed::Changed))
+    fn is_change(self) -> bool
+        ensures { result ≡ is_change self }
+    {
+        self.is_done() && self.differs
     }
 }
 
 // A file that can't be edited.
 const FAILED: Ended = Ended {
     outcome: Outcome::Coded,
-    closed: None,
+    differs: false,
 };
 
 // How a host treats files that are edited so.
@@ -176,22 +213,19 @@ fn of_memory(fault: ToolFault) -> ToolFault {
 }
 
 // Files that are edited by a macro.
-#[derive(Drop)]
-struct Editing<'r, 'c, 'j, 'g, 'f, R: System + Copy, O: Write + Drop, E: Write + Drop> {
+#[derive(Clone, Copy)]
+struct Editing<'r, 'j, 'g, 'f, R: System + Copy> {
     rt: &'r R,
-    console: &'c mut Console<O, E>,
     job: Job<'j>,
     given: &'g InPlace<'f>,
     facts: ProcessFacts,
-    folders: Folders,
 }
 
-impl<R: System + Copy, O: Write + Drop, E: Write + Drop> Editing<'_, '_, '_, '_, '_, R, O, E> {
+impl<R: System + Copy> Editing<'_, '_, '_, '_, R> {
     // A host for one file.
-    fn host(&self) -> Result<FileHost<R>, AllocError>
+    fn host(self, alloc: Global) -> Result<FileHost<R>, AllocError>
         ensures { IfOk result (λ host. ⟦<FileHost<R> as Host>⟧.files host ≡ Notes []) }
     {
-        let alloc = self.console.alloc;
         let mut host = FileHost::new(alloc, *self.rt);
         host.set_facts(self.facts);
         host.set_handling(handling_of(self.given));
@@ -202,139 +236,207 @@ impl<R: System + Copy, O: Write + Drop, E: Write + Drop> Editing<'_, '_, '_, '_,
     }
 
     // Writes what was typed over a file.
-    fn write_typed(&mut self, name: &[u8], typed: &[u8]) -> Result<(), ToolFault> {
+    fn write_typed<O: Write>(
+        self,
+        alloc: Global,
+        out: &mut O,
+        name: &[u8],
+        typed: &[u8],
+    ) -> Result<(), ToolFault>
+        ensures { OnOk result (Appends (O.contents out.old) (O.contents out.new)
+            (shown_typed self.entry.given.now name.now typed.now)) }
+    {
         if self.given.naming.holds_for(self.given.files.len()) {
-            write_named(&mut self.console.out, name, typed)?;
+            out.write_all(&named_lines(alloc, name, typed)?)?;
         } else {
-            self.console.out.write_all(typed)?;
+            out.write_all(typed)?;
         }
         Ok(())
     }
 
     // Edits a file in place.
-    fn edit_at<K: Ending>(&mut self, name: &[u8], ending: K) -> Result<Ended, ToolFault>
+    fn edit_at<O: Write + Drop, E: Write + Drop, K: Ending>(
+        self,
+        console: &mut Console<O, E>,
+        folders: &mut Folders,
+        name: &[u8],
+        ending: K,
+    ) -> Result<Ended, ToolFault>
         requires { length name.now < NAME }
+        ensures { IfOk result (EditsNamed self.entry.given.now self.entry.job name.now K.replaces
+            (O.contents console.old.out) (O.contents console.new.out)) }
     {
-        let host = self.host()?;
-        let mut typed = Vec::new(self.console.alloc);
-        let mut channels = Channels {
-            out: &mut typed,
-            voice: &mut self.console.voice,
+        let host = self.host(console.alloc)?;
+        let mut typed = Vec::new(console.alloc);
+        let work = OneWork::new(self.job, name, ending);
+        let Replaced { outcome, host } = rewrite_by(&mut typed, &mut console.voice, work, host);
+        let outcome = match outcome {
+            Ok(outcome) => outcome,
+            Err(fault) => return Err(of_memory(fault)),
         };
-        let Replaced { outcome, host } = rewrite_by(&mut channels, self.job, name, ending, host);
-        let outcome = outcome.map_err(of_memory)?;
-        let is_coded = matches!(outcome, Outcome::Coded);
-        self.console.voice.clear();
-        self.write_typed(name, without_code(&typed, is_coded))?;
-        self.folders.note_changed(host.changed_folder())?;
+        console.voice.clear();
+        let typed = without_code(&typed, is_coded(outcome));
+        self.write_typed(console.alloc, &mut console.out, name, typed)?;
+        folders.note_changed(host.changed_folder())?;
         Ok(Ended {
             outcome,
-            closed: host.closed(),
+            differs: matches!(host.closed(), Some(Closed::Changed)),
         })
     }
 
     // Edits a file of a name that it can be edited by, or tries to.
-    fn edit_named(&mut self, name: &[u8]) -> Result<Ended, ToolFault>
+    fn edit_named<O: Write + Drop, E: Write + Drop>(
+        self,
+        console: &mut Console<O, E>,
+        folders: &mut Folders,
+        name: &[u8],
+    ) -> Result<Ended, ToolFault>
         requires { length name.now < NAME }
+        ensures { IfOk result (EditsNamed self.entry.given.now self.entry.job name.now
+            (is_made self.entry.given.now.change)
+            (O.contents console.old.out) (O.contents console.new.out)) }
     {
         match self.given.change {
-            Change::Made => self.edit_at(name, Replaces),
-            Change::Listed | Change::Checked => self.edit_at(name, Drops),
+            Change::Made => self.edit_at(console, folders, name, Replaces),
+            Change::Listed | Change::Checked => self.edit_at(console, folders, name, Drops),
         }
     }
 
     // Edits a file in place, and says what became of it.
-    fn edit_and_tell(&mut self, name: &[u8]) -> Result<Ended, ToolFault>
+    fn edit_and_tell<O: Write + Drop, E: Write + Drop>(
+        self,
+        console: &mut Console<O, E>,
+        folders: &mut Folders,
+        name: &[u8],
+    ) -> Result<Ended, ToolFault>
         requires { length name.now < NAME }
+        ensures { IfOk result (EditsFile self.entry.given.now self.entry.job name.now
+            (O.contents console.old.out) (O.contents console.new.out)) }
     {
         let texts = match self.given.diff {
             None => None,
-            Some(_) => self.texts(name)?,
+            Some(_) => self.texts(console.alloc, name)?,
         };
-        let ended = self.edit_named(name)?;
-        self.tell_ended(name, ended, texts.as_ref())?;
+        let ended = self.edit_named(console, folders, name)?;
+        self.tell_ended(console, name, ended, texts.as_ref())?;
         Ok(ended)
     }
 
     // Edits a file in place.
-    fn edit_one(&mut self, name: &[u8]) -> Result<Ended, ToolFault> {
+    fn edit_one<O: Write + Drop, E: Write + Drop>(
+        self,
+        console: &mut Console<O, E>,
+        folders: &mut Folders,
+        name: &[u8],
+    ) -> Result<Ended, ToolFault>
+        ensures { IfOk result (EditsOne self.entry.given.now self.entry.job name.now
+            (O.contents console.old.out) (O.contents console.new.out)) }
+    {
         if !is_name(name) {
-            tell_name(self.console, name);
+            tell_name(&mut console.voice, name);
             return Ok(FAILED);
         }
-        if self.given.change == Change::Made {
-            let voice = &mut self.console.voice;
-            self.folders.sweep(self.rt, voice, name, self.facts)?;
+        if let Change::Made = self.given.change {
+            folders.sweep(self.rt, &mut console.voice, name, self.facts)?;
         }
-        self.edit_and_tell(name)
+        self.edit_and_tell(console, folders, name)
     }
 
     // The text of a file and what the macro makes of it, if it does. Nothing is said or typed.
-    fn texts(&mut self, name: &[u8]) -> Result<Option<Texts>, ToolFault>
+    fn texts(self, alloc: Global, name: &[u8]) -> Result<Option<Texts>, ToolFault>
         requires { length name.now < NAME }
     {
-        let alloc = self.console.alloc;
-        let Some(old) = read_whole(alloc, &mut self.host()?, name)? else {
+        let Some(old) = read_whole(alloc, &mut self.host(alloc)?, name)? else {
             return Ok(None);
         };
-        let new = new_text(alloc, self.host()?, self.job, name)?;
+        let new = new_text(alloc, self.host(alloc)?, self.job, name)?;
         Ok(new.map(|new| Texts { old, new }))
     }
 
     // Is a file left as it is, since it is none that people read? That is said.
-    fn is_left(&mut self, name: &[u8]) -> Result<bool, ToolFault> {
-        let alloc = self.console.alloc;
-        if self.given.takes_binary || !has_nul(alloc, &mut self.host()?, name)? {
+    fn is_left<E: Write + Drop>(
+        self,
+        voice: &mut Voice<E>,
+        file: &Chosen,
+    ) -> Result<bool, ToolFault>
+        ensures { IfOk result (λ left. left ≡ true → MayBeLeft self.entry.given.now file.now) }
+    {
+        let alloc = voice.alloc();
+        if !file.is_found || self.given.takes_binary {
             return Ok(false);
         }
-        let shown = Shown(name);
-        self.console.say(format_args!(
+        if !has_nul(alloc, &mut self.host(alloc)?, &file.name)? {
+            return Ok(false);
+        }
+        let shown = Shown(&file.name);
+        voice.say(format_args!(
             "{shown} has a NUL near its beginning and is left as it is; --binary edits it too"
         ));
         Ok(true)
     }
 
-    // Prints the name of a file that would change.
-    fn list(&mut self, name: &[u8]) -> Result<(), ToolFault> {
-        let end: &[u8] = if self.given.ends_by_nul { b"\0" } else { b"\n" };
-        self.console.out.write_all(name)?;
-        self.console.out.write_all(end)?;
+    // Prints the name of a file that would change, unless it is replaced.
+    fn list<O: Write>(self, alloc: Global, out: &mut O, name: &[u8]) -> Result<(), ToolFault>
+        ensures { OnOk result (Appends (O.contents out.old) (O.contents out.new)
+            (listed self.entry.given.now name.now)) }
+    {
+        if let Change::Made = self.given.change {
+            return Ok(());
+        }
+        let mut line = name.to_vec(alloc)?;
+        line.push(if self.given.ends_by_nul { 0 } else { LF })?;
+        out.write_all(&line)?;
         Ok(())
     }
 
     // Prints what differs in a file, or its name where it would change.
-    fn tell_change(&mut self, name: &[u8], texts: Option<&Texts>) -> Result<(), ToolFault> {
-        let alloc = self.console.alloc;
+    fn tell_change<O: Write>(
+        self,
+        alloc: Global,
+        out: &mut O,
+        name: &[u8],
+        texts: Option<&Texts>,
+    ) -> Result<(), ToolFault>
+        ensures { OnOk result (ShowsChange self.entry.given.now name.now
+            (O.contents out.old) (O.contents out.new)) }
+    {
         match (self.given.diff, texts) {
             (Some(look), Some(Texts { old, new })) => {
-                write_diff(alloc, &mut self.console.out, look, name, (old, new))?;
+                let mut text = Vec::new(alloc);
+                write_diff(alloc, &mut text, look, name, (old, new))?;
+                out.write_all(&text)?;
+                Ok(())
             }
-            _ if self.given.change != Change::Made => self.list(name)?,
-            _ => {}
+            _ => self.list(alloc, out, name),
         }
-        Ok(())
     }
 
     // Says what became of a file.
-    fn tell_ended(
-        &mut self,
+    fn tell_ended<O: Write + Drop, E: Write + Drop>(
+        self,
+        console: &mut Console<O, E>,
         name: &[u8],
         ended: Ended,
         texts: Option<&Texts>,
-    ) -> Result<(), ToolFault> {
+    ) -> Result<(), ToolFault>
+        ensures { OnOk result (ShowsEnded self.entry.given.now name.now ended
+            (O.contents console.old.out) (O.contents console.new.out)) }
+    {
+        if ended.is_change() {
+            console.voice.clear();
+            return self.tell_change(console.alloc, &mut console.out, name, texts);
+        }
         if !ended.is_done() {
             let shown = Shown(name);
-            self.console
+            console
+                .voice
                 .complain(format_args!("{shown} is left as it was"));
-        } else if ended.is_change() {
-            self.console.voice.clear();
-            self.tell_change(name, texts)?;
         }
         Ok(())
     }
 
     // Says how many files were edited.
-    fn tell_tally(&mut self, tally: Tally) {
+    fn tell_tally<E: Write + Drop>(self, voice: &mut Voice<E>, tally: Tally) {
         let Tally {
             files,
             changed,
@@ -345,44 +447,88 @@ impl<R: System + Copy, O: Write + Drop, E: Write + Drop> Editing<'_, '_, '_, '_,
             Change::Made => "changed",
             Change::Listed | Change::Checked => "would change",
         };
-        self.console.say(format_args!("files: {files}, {word}: {changed}, failed: {failed}"));
+        voice.say(format_args!("files: {files}, {word}: {changed}, failed: {failed}"));
+    }
+
+    // Edits the next file, unless it is left as it is.
+    fn edit_next<O: Write + Drop, E: Write + Drop>(
+        self,
+        console: &mut Console<O, E>,
+        folders: &mut Folders,
+        file: &Chosen,
+        tally: Tally,
+    ) -> Result<Tally, ToolFault>
+        ensures { IfOk result (EditsNext self.entry.given.now self.entry.job file.now
+            (O.contents console.old.out) (O.contents console.new.out) tally) }
+    {
+        if self.is_left(&mut console.voice, file)? {
+            return Ok(tally);
+        }
+        let ended = self.edit_one(console, folders, &file.name)?;
+        Ok(tally.with(ended))
     }
 
     // Edits each file in turn; one that fails is left as it was, and the others go on.
-    fn edit_each(&mut self) -> Result<Outcome, ToolFault> {
+    fn edit_all<O: Write + Drop, E: Write + Drop>(
+        self,
+        console: &mut Console<O, E>,
+        folders: &mut Folders,
+        files: &[Chosen],
+    ) -> Result<Tally, ToolFault>
+        ensures { EditsAll self.entry.given.now self.entry.job files.now
+            (O.contents console.old.out) (O.contents console.new.out) result }
+    {
         let mut tally = NONE;
         let mut progress = Progress::begin(self.rt, self.given.shows_progress);
-        for (done, file) in self.given.files.iter().enumerate() {
-            if file.is_found && self.is_left(&file.name)? {
-                continue;
+        let of = files.len();
+        for (done, file) in files.iter().enumerate() {
+            let place = Place {
+                done,
+                of,
+                name: &file.name,
+            };
+            progress.show(self.rt, &mut console.voice, place);
+            match self.edit_next(console, folders, file, tally) {
+                Ok(after) => tally = after,
+                Err(fault) => return Err(fault),
             }
-            let of = self.given.files.len();
-            progress.show(
-                self.rt,
-                &mut self.console.voice,
-                Place {
-                    done,
-                    of,
-                    name: &file.name,
-                },
-            );
-            let ended = self.edit_one(&file.name)?;
-            tally = tally.with(ended);
         }
-        self.console.voice.clear();
-        self.folders.sync(self.rt);
-        self.tell_tally(tally);
+        Ok(tally)
+    }
+
+    // Edits each file in turn, and says how many were edited.
+    fn edit_each<O: Write + Drop, E: Write + Drop>(
+        self,
+        console: &mut Console<O, E>,
+    ) -> Result<Outcome, ToolFault>
+        ensures { EditsFiles self.entry.given.now self.entry.job
+            (O.contents console.old.out) (O.contents console.new.out) result }
+    {
+        let mut folders = Folders::new(console.alloc);
+        let tally = match self.edit_all(console, &mut folders, self.given.files) {
+            Ok(tally) => tally,
+            Err(fault) => return Err(fault),
+        };
+        console.voice.clear();
+        folders.sync(self.rt);
+        self.tell_tally(&mut console.voice, tally);
         Ok(tally.outcome_of(self.given.change))
     }
 }
 
+// Did runs end with a code?
+fn is_coded(outcome: Outcome) -> bool
+    ensures { result ≡ edits.is_coded outcome }
+{
+    matches!(outcome, Outcome::Coded)
+}
+
 // Says that a macro which turns pages itself does not edit whole files.
-fn refuse_whole<O: Write + Drop, E: Write + Drop>(
-    console: &mut Console<O, E>,
-    task: &Task<'_, '_>,
-) -> Outcome {
+fn refuse_whole<E: Write + Drop>(voice: &mut Voice<E>, task: &Task<'_, '_>) -> Outcome
+    ensures { result ≡ Refused }
+{
     let name = char::from(task.entry.name());
-    console.complain(format_args!(
+    voice.complain(format_args!(
         "macro {name} reads or writes pages itself, and a file that is edited whole is one page: \
             give --pages first, and it goes on from the first page, or --pages each"
     ));
@@ -405,20 +551,48 @@ where
     R: System + Copy,
     O: Write + Drop,
     E: Write + Drop,
+    ensures { EditsFiles given.now job.entry
+        (O.contents console.old.out) (O.contents console.new.out) result }
 {
-    if is_lost(job) {
-        return Ok(refuse_whole(console, job.task));
-    }
-    let alloc = console.alloc;
-    let mut editing = Editing {
+    let facts = ProcessFacts::read(rt, console.alloc);
+    let editing = Editing {
         rt,
-        console,
         job,
         given,
-        facts: ProcessFacts::read(rt, alloc),
-        folders: Folders::new(alloc),
+        facts,
     };
-    editing.edit_each()
+    editing.edit_each(console)
+}
+
+// Edits files by a macro that was accepted, unless its promise holds for no text, or it turns pages
+// itself and files are edited whole.
+#[tactic(auto, using(crate::proofs::Tasks::no_line, crate::proofs::Tasks::failed, crate::proofs::Tasks::nothing))]
+fn edit_by_verified<R, O, E>(
+    rt: &R,
+    console: &mut Console<O, E>,
+    job: Job<'_>,
+    given: &InPlace<'_>,
+    sourced: &Sourced,
+) -> Result<Outcome, ToolFault>
+where
+    R: System + Copy,
+    O: Write + Drop,
+    E: Write + Drop,
+    ensures { EditsIfAny given.now job.entry
+        (O.contents console.old.out) (O.contents console.new.out) result }
+{
+    if job.task.is_strict && Premise::of_macro(job.verified).is_empty() {
+        return refuse_empty(console, sourced, job.verified);
+    }
+    tell_edition(&mut console.voice, sourced.editions, job.verified);
+    if job.task.tells_promise {
+        tell_promise(&mut console.voice, job.verified)?;
+    }
+    say_findings(console, sourced, job.task);
+    if is_lost(job) {
+        return Ok(refuse_whole(&mut console.voice, job.task));
+    }
+    edit_by_job(rt, console, job, given)
 }
 
 // Edits files by the macro that a task is about, if it is accepted.
@@ -433,24 +607,17 @@ where
     R: System + Copy,
     O: Write + Drop,
     E: Write + Drop,
+    ensures { EditsSubject given.now task.now subject.now.sourced.library
+        (O.contents console.old.out) (O.contents console.new.out) result }
 {
     match subject.accepted(console.alloc, task.entry) {
         Ok(verified) => {
-            if task.is_strict && Premise::of_macro(&verified).is_empty() {
-                return Ok(tell_no_text(console, &subject.sourced, &verified)?);
-            }
-            tell_edition(&mut console.voice, subject.sourced.editions, &verified);
-            if task.tells_promise {
-                tell_promise(&mut console.voice, &verified)?;
-            }
-            let is_exact = task.start.case == Some(Case::Exact);
-            lint(console, &subject.sourced, task.entry, is_exact);
             let job = Job {
                 alloc: console.alloc,
                 task,
                 verified: &verified,
             };
-            edit_by_job(rt, console, job, given)
+            edit_by_verified(rt, console, job, given, &subject.sourced)
         }
         Err(refusal) => refuse_subject(console, subject, task.entry, refusal),
     }
@@ -489,6 +656,8 @@ where
     R: System + Input + Copy,
     O: Write + Drop,
     E: Write + Drop,
+    ensures { EditsTask given.now task.now
+        (O.contents console.old.out) (O.contents console.new.out) result }
 {
     check_keeping(rt, console.alloc, given)?;
     match read_subject(rt, console, task)? {

@@ -1,9 +1,12 @@
 //! How files are opened and read for the run of a macro.
-use crate::applying::Names;
+ghost use Rattle.std.specs.Prelude.{◌≡◌, IfOk};
+ghost use Rattle.teco_apply.specs.Sure.{call_text};
+
+use crate::names::Names;
 use std::alloc::{AllocError, Global};
 use teco_apply::Pages;
-use teco_base::Reg;
 use teco_base::bytes::ESC;
+use teco_base::{Reg, decimal};
 use teco_model::Stop;
 use teco_pages::Host;
 use teco_run::{Machine, Site, Stopped};
@@ -40,6 +43,19 @@ pub fn call(alloc: Global, entry: Reg, argument: Option<i32>) -> Result<String, 
         None => format!(in alloc; "M{name}"),
         Some(n) => format!(in alloc; "{n}M{name}"),
     }
+}
+
+/// The same, as bytes.
+pub fn call_bytes(alloc: Global, entry: Reg, argument: Option<i32>) -> Result<Vec<u8>, AllocError>
+    ensures { IfOk result (λ text. text.items ≡ call_text entry argument) }
+{
+    let mut text = Vec::new(alloc);
+    if let Some(n) = argument {
+        text.extend_from_slice(decimal(n).as_bytes())?;
+    }
+    text.push(b'M')?;
+    text.push(entry.name())?;
+    Ok(text)
 }
 
 /// Runs a command string, and tells how it stopped.

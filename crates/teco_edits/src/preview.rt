@@ -3,8 +3,9 @@ ghost use Rattle.std.specs.Prelude.{◌≡◌, ◌<◌, [], length};
 ghost use Rattle.teco_apply.specs.declared.editing.TheConstants.{NAME};
 ghost use Rattle.teco_pages.specs.HostFiles.{Notes};
 
-use crate::applying::{Channels, Job, Names, edit_by};
+use crate::applying::{Job, Work, edit_by};
 use crate::diff::is_binary;
+use crate::names::Names;
 use std::alloc::{AllocError, Global};
 use std::io;
 use teco_pages::{Failed, FileHost, Host, System};
@@ -67,11 +68,11 @@ pub fn has_nul<H: Host>(alloc: Global, host: &mut H, name: &[u8]) -> Result<bool
 
 /// What a macro makes of a file of a host; nothing where its runs do not come to their end. Nothing
 /// is said or typed, and no file is written.
-pub fn new_text<R: System>(
+pub fn new_text<'x, R: System>(
     alloc: Global,
     host: FileHost<R>,
-    job: Job<'_>,
-    name: &[u8],
+    job: Job<'x>,
+    name: &'x [u8],
 ) -> Result<Option<Vec<u8>>, ToolFault>
     requires name { length name.now < NAME }
     requires fresh { ⟦<FileHost<R> as Host>⟧.files host ≡ Notes [] }
@@ -79,15 +80,12 @@ pub fn new_text<R: System>(
     let mut streams = Streams::new(alloc, host, io::empty(), Vec::new(alloc));
     let mut typed = io::sink();
     let mut voice = Voice::new(alloc, io::sink());
-    let mut channels = Channels {
-        out: &mut typed,
-        voice: &mut voice,
-    };
     let names = Names {
         source: name,
         target: OUTPUT,
     };
-    let outcome = edit_by(&mut channels, job, names, &mut streams)?;
+    let work = Work { job, names };
+    let outcome = edit_by(&mut typed, &mut voice, work, &mut streams)?;
     let (_, text) = streams.into_parts();
     Ok(matches!(outcome, Outcome::Done).then_some(text))
 }

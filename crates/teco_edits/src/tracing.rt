@@ -1,75 +1,30 @@
 //! `trace`: the steps of a macro on a file.
-use crate::applying::{Names, Task};
-use crate::opening::{PAGES, call, open_pages, turn};
-use std::alloc::{AllocError, Global};
+ghost use Rattle.std.specs.Prelude.{◌≡◌};
+ghost use Rattle.teco_edits.specs.Traces as traces;
+ghost use Rattle.teco_edits.specs.Traces.{FollowsMacro, FollowsOnce, Traces, TracesLibrary, TracesLoaded, outcome_of};
+
+use crate::applying::Task;
+use crate::following::{Followed, Walk, follow};
+use crate::names::Names;
+use crate::opening::{PAGES, call_bytes, open_pages, turn};
+use crate::subject::refuse_empty;
 use std::io::{Input, Write};
 use std::rt::Files;
-use std::{fmt, io};
 use teco_apply::Pages;
-use teco_base::bytes::ESC;
-use teco_base::{Code, LIMIT, Reg};
+use teco_base::{Code, LIMIT};
 use teco_explain::note_of_code;
 use teco_library::Library;
 use teco_model::Stop;
 use teco_pages::Host;
-use teco_run::{Execution, Machine, Progress, Site, Stopped};
-use teco_source::{Position, Shown};
-use teco_text::{GapText, TextStore};
-use teco_tools::{
-    Reporting, ToolFault, code_of, machine_with, prepare, size_of, tell_macro, tell_trouble,
-    within_limit,
-};
+use teco_run::{Machine, Stopped};
+use teco_text::GapText;
+use teco_tools::{Reporting, ToolFault, code_of, machine_with, prepare, tell_macro, tell_trouble};
 use teco_verdicts::{
-    AnswerFault, Console, Outcome, Premise, Sourced, element_at, letters, read_library_for,
-    tell_edition, tell_no_text,
+    AnswerFault, Console, Outcome, Premise, Sourced, letters, read_library_for, tell_edition,
 };
 
 /// What stands over the steps.
 const HEAD: &str = "step\tplace\telement\tpointer\tlength\tanswer\ttyped\n";
-
-// Where a run stands, and the element there, as they are listed.
-fn shown_site<T: TextStore>(
-    alloc: Global,
-    machine: &Machine<T>,
-    command: &[u8],
-    site: Site,
-) -> Result<String, AllocError> {
-    let name = site
-        .register
-        .map_or('-', |register| char::from(register.name()));
-    let text = match site.register {
-        None => command,
-        Some(register) => machine.regs().text(register),
-    };
-    let Position { line, column } = Position::of(text, site.place);
-    let found = Shown(element_at(text, site.place));
-    format!(in alloc; "{name}:{line}:{column}\t{found}")
-}
-
-// What a run has come to behind a step that was not done.
-fn stop_of(progress: Progress, steps: u64) -> Option<Stop> {
-    match progress {
-        Progress::On => None,
-        Progress::Ended => Some(Stop::Ended { steps }),
-        Progress::Exit => Some(Stop::Exit { steps }),
-        Progress::Error(code) => Some(Stop::Error(code)),
-        Progress::Memory => Some(Stop::Memory),
-        Progress::HostFault(fault) => Some(Stop::HostFault(fault)),
-    }
-}
-
-// The value that is pending behind a step, if there is one.
-#[derive(Clone, Copy)]
-struct Answer(Option<i32>);
-
-impl fmt::Display for Answer {
-    fn fmt<W: fmt::Write>(&self, f: &mut fmt::Formatter<W>) -> fmt::Result {
-        match self.0 {
-            None => write!(f, "-"),
-            Some(answer) => write!(f, "{answer}"),
-        }
-    }
-}
 
 // Says a code that is met in no macro.
 fn tell_code<O: Write + Drop, E: Write + Drop>(console: &mut Console<O, E>, code: Code) {
@@ -78,181 +33,145 @@ fn tell_code<O: Write + Drop, E: Write + Drop>(console: &mut Console<O, E>, code
     console.say(format_args!("?{name}: {summary}"));
 }
 
-// A machine whose steps are listed, with its files.
-#[derive(Drop)]
-struct Tracer<'c, 'h, O: Write + Drop, E: Write + Drop, H: Host + Reporting> {
-    console: &'c mut Console<O, E>,
-    machine: Machine<GapText>,
-    host: &'h mut H,
+// Says what a run came to that stopped with a code.
+fn tell_stop<H: Host + Reporting, O: Write + Drop, E: Write + Drop>(
+    console: &mut Console<O, E>,
+    machine: &Machine<GapText>,
+    host: &H,
+    stopped: &Stopped,
+    code: Code,
+) {
+    if stopped.site.register.is_some() {
+        tell_macro(&mut console.voice, None, stopped, machine, code);
+    } else {
+        tell_code(console, code);
+    }
+    if let Stop::HostFault(_) = stopped.stop {
+        tell_trouble(&mut console.voice, host);
+    }
 }
 
-impl<O: Write + Drop, E: Write + Drop, H: Host + Reporting> Tracer<'_, '_, O, E, H> {
-    // Says what a run came to that stopped with a code.
-    fn tell_stop(&mut self, stopped: &Stopped, code: Code) {
-        if stopped.site.register.is_some() {
-            let voice = &mut self.console.voice;
-            tell_macro(voice, None, stopped, &self.machine, code);
-        } else {
-            tell_code(self.console, code);
-        }
-        if let Stop::HostFault(_) = stopped.stop {
-            tell_trouble(&mut self.console.voice, self.host);
-        }
+// What comes of a run that stopped.
+fn outcome_at(stop: Stop) -> Outcome
+    ensures { result ≡ traces.outcome_at stop }
+{
+    match stop {
+        Stop::Ended { .. } | Stop::Exit { .. } => Outcome::Done,
+        Stop::Error(_) | Stop::Limit | Stop::Memory | Stop::HostFault(_) => Outcome::Coded,
     }
+}
 
-    // Says what a run came to.
-    fn conclude(&mut self, stopped: &Stopped) -> Outcome {
-        if let Some(code) = code_of(stopped.stop) {
-            self.tell_stop(stopped, code);
-            return Outcome::Coded;
-        }
-        let steps = stopped.steps;
-        self.console
-            .say(format_args!("it came to its end in {steps} steps"));
-        Outcome::Done
-    }
-
-    // Lists a step that was done.
-    fn list(&mut self, number: u64, site: &str, answer: Answer) -> io::Result<()> {
-        let (pointer, length) = size_of(&self.machine);
-        let typed = self.machine.take_typed();
-        let typed = Shown(&typed);
-        self.console.answer(format_args!(
-            "{number}\t{site}\t{pointer}\t{length}\t{answer}\t{typed}\n"
-        ))
-    }
-
-    // Does the step of a number, which begins at a site, and lists it; what the run came to if it
-    // was not done.
-    fn step(
-        &mut self,
-        execution: &mut Execution<'_>,
-        number: u64,
-        site: &str,
-    ) -> Result<Option<Stop>, ToolFault> {
-        let progress = self.machine.step(execution, self.host);
-        let stop = stop_of(progress, number.saturating_sub(1));
-        if stop.is_none() {
-            self.list(number, site, Answer(execution.value()))?;
-        }
-        Ok(stop)
-    }
-
-    // Does the next step behind so many, and lists it.
-    fn advance(
-        &mut self,
-        execution: &mut Execution<'_>,
-        command: &[u8],
-        steps: u64,
-    ) -> Result<Option<Stop>, ToolFault> {
-        let site = execution.site();
-        let shown = shown_site(self.console.alloc, &self.machine, command, site)?;
-        self.step(execution, steps.saturating_add(1), shown.as_str())
-    }
-
-    // Does the steps of a run one by one, and lists them; how many there were, and what came of it,
-    // or nothing where it goes on.
-    fn follow(
-        &mut self,
-        execution: &mut Execution<'_>,
-        command: &[u8],
-        most: u64,
-    ) -> Result<Followed, ToolFault> {
-        for steps in 0..most {
-            let site = execution.site();
-            if let Some(stop) = self.advance(execution, command, steps)? {
-                let outcome = self.conclude(&Stopped { stop, steps, site });
-                return Ok(Followed {
-                    steps,
-                    outcome: Some(outcome),
-                });
-            }
-        }
-        Ok(Followed {
-            steps: most,
-            outcome: None,
-        })
-    }
-
-    // Does the steps of the macro one by one, and lists them.
-    fn follow_macro(&mut self, task: &Task<'_, '_>, most: u64) -> Result<Followed, ToolFault> {
-        let text = call(self.console.alloc, task.entry, task.argument)?;
-        let command = within_limit(text.as_bytes())?;
-        let mut execution = self.machine.begin(command)?;
-        self.follow(&mut execution, command, most)
-    }
-
-    // Says that the most steps are listed.
-    fn tell_cut(&mut self, most: u64) -> Outcome {
-        self.console.say(format_args!(
-            "{most} steps are listed, and it goes on; --limit lists more"
-        ));
-        Outcome::Done
-    }
-
-    // Lists the steps of the macro on each page in turn.
-    fn follow_pages(&mut self, task: &Task<'_, '_>, most: u64) -> Result<Outcome, ToolFault> {
-        let mut left = most;
-        for _ in 0..PAGES {
-            let followed = self.follow_macro(task, left)?;
-            left = left.saturating_sub(followed.steps);
-            match followed.outcome {
-                None => return Ok(self.tell_cut(most)),
-                Some(Outcome::Done) => {}
-                Some(outcome) => return Ok(outcome),
-            }
-            match turn(&mut self.machine, self.host, b"P")? {
-                None => break,
-                Some(stopped) if code_of(stopped.stop).is_some() => {
-                    return Ok(self.conclude(&stopped));
-                }
-                Some(_) => self.console.say("the next page"),
-            }
-        }
-        Ok(Outcome::Done)
-    }
-
-    // Lists the steps of the macro on what is read.
-    fn follow_once(&mut self, task: &Task<'_, '_>, most: u64) -> Result<Outcome, ToolFault> {
-        match self.follow_macro(task, most)?.outcome {
-            Some(outcome) => Ok(outcome),
-            None => Ok(self.tell_cut(most)),
+// Says what a run came to.
+fn conclude<H: Host + Reporting, O: Write + Drop, E: Write + Drop>(
+    console: &mut Console<O, E>,
+    machine: &Machine<GapText>,
+    host: &H,
+    stopped: &Stopped,
+) -> Outcome
+    ensures { result ≡ traces.outcome_at stopped.now.stop }
+{
+    match code_of(stopped.stop) {
+        Some(code) => tell_stop(console, machine, host, stopped, code),
+        None => {
+            let steps = stopped.steps;
+            console.say(format_args!("it came to its end in {steps} steps"));
         }
     }
+    outcome_at(stopped.stop)
+}
 
-    // Opens the files, and lists the steps of a macro of a library on them.
-    fn trace(
-        &mut self,
-        task: &Task<'_, '_>,
-        library: &Library,
-        listing: Listing<'_>,
-    ) -> Result<Outcome, ToolFault> {
-        prepare(&mut self.machine, task.start, self.host)?;
-        let stopped = open_pages(
-            self.console.alloc,
-            &mut self.machine,
-            self.host,
-            listing.names,
-            task.pages,
-        )?;
-        if code_of(stopped.stop).is_some() {
-            return Ok(self.conclude(&stopped));
-        }
-        self.machine.load(library.texts())?;
-        self.console.answer(HEAD)?;
-        match task.pages {
-            Pages::Each => self.follow_pages(task, listing.most),
-            Pages::First | Pages::Whole => self.follow_once(task, listing.most),
+// Says that the most steps are listed.
+fn tell_cut<O: Write + Drop, E: Write + Drop>(console: &mut Console<O, E>, most: u64) {
+    console.say(format_args!("{most} steps are listed, and it goes on; --limit lists more"));
+}
+
+// What comes of a macro whose steps were listed, which is said.
+fn conclude_followed<H: Host + Reporting, O: Write + Drop, E: Write + Drop>(
+    console: &mut Console<O, E>,
+    machine: &Machine<GapText>,
+    host: &H,
+    followed: Followed,
+) -> Outcome
+    ensures { result ≡ outcome_of followed.stopped }
+{
+    match followed.stopped {
+        Some(stopped) => conclude(console, machine, host, &stopped),
+        None => {
+            tell_cut(console, followed.steps);
+            Outcome::Done
         }
     }
 }
 
-// What the steps of a run came to: how many were listed, and what came of it, or nothing where it
-// goes on.
-#[derive(Clone, Copy)]
-struct Followed {
-    steps: u64,
-    outcome: Option<Outcome>,
+// Does the steps of the macro one by one, and lists them.
+fn follow_macro<H: Host + Reporting, O: Write + Drop, E: Write + Drop>(
+    console: &mut Console<O, E>,
+    machine: &mut Machine<GapText>,
+    host: &mut H,
+    task: &Task<'_, '_>,
+    most: u64,
+) -> Result<Followed, ToolFault>
+    ensures { FollowsMacro task.now most
+        machine.old machine.new (H.files host.old) (H.files host.new) result }
+{
+    let text = call_bytes(console.alloc, task.entry, task.argument)?;
+    let command = text.as_slice();
+    if command.len() > LIMIT {
+        return Err(ToolFault::Answer(AnswerFault::Memory));
+    }
+    let mut execution = machine.begin(command)?;
+    let walk = Walk { command, most };
+    follow(console, machine, host, &mut execution, walk)
+}
+
+// Lists the steps of the macro on what is read.
+fn follow_once<H: Host + Reporting, O: Write + Drop, E: Write + Drop>(
+    console: &mut Console<O, E>,
+    machine: &mut Machine<GapText>,
+    host: &mut H,
+    task: &Task<'_, '_>,
+    most: u64,
+) -> Result<Outcome, ToolFault>
+    ensures { FollowsOnce task.now most
+        machine.old machine.new (H.files host.old) (H.files host.new) result }
+{
+    match follow_macro(console, machine, host, task, most) {
+        Ok(followed) => Ok(conclude_followed(console, machine, host, followed)),
+        Err(fault) => Err(fault),
+    }
+}
+
+// Lists the steps of the macro on each page in turn.
+fn follow_pages<H: Host + Reporting, O: Write + Drop, E: Write + Drop>(
+    console: &mut Console<O, E>,
+    machine: &mut Machine<GapText>,
+    host: &mut H,
+    task: &Task<'_, '_>,
+    most: u64,
+) -> Result<Outcome, ToolFault> {
+    let mut left = most;
+    for _ in 0..PAGES {
+        let followed = follow_macro(console, machine, host, task, left)?;
+        left = left.saturating_sub(followed.steps);
+        match followed.stopped {
+            None => {
+                tell_cut(console, most);
+                return Ok(Outcome::Done);
+            }
+            Some(stopped) => match conclude(console, machine, host, &stopped) {
+                Outcome::Done => {}
+                outcome => return Ok(outcome),
+            },
+        }
+        match turn(machine, host, b"P")? {
+            None => break,
+            Some(stopped) if code_of(stopped.stop).is_some() => {
+                return Ok(conclude(console, machine, host, &stopped));
+            }
+            Some(_) => console.say("the next page"),
+        }
+    }
+    Ok(Outcome::Done)
 }
 
 /// The file whose steps are listed, and how many are at most.
@@ -262,21 +181,83 @@ pub struct Listing<'a> {
     pub most: u64,
 }
 
+// A macro of a library.
+#[derive(Clone, Copy)]
+struct Subject<'t, 'a, 's> {
+    task: &'t Task<'a, 's>,
+    library: &'t Library,
+}
+
+// Loads a library, and lists the steps of its macro on what is read.
+#[tactic(auto, using(crate::proofs::Steps::unloaded, crate::proofs::Steps::on_each, crate::proofs::Steps::on_one))]
+fn trace_loaded<H: Host + Reporting, O: Write + Drop, E: Write + Drop>(
+    console: &mut Console<O, E>,
+    machine: &mut Machine<GapText>,
+    host: &mut H,
+    subject: Subject<'_, '_, '_>,
+    most: u64,
+) -> Result<Outcome, ToolFault>
+    ensures { TracesLoaded subject.entry.task.now subject.entry.library.now most
+        machine.old machine.new (H.files host.old) (H.files host.new) result }
+{
+    let Subject { task, library } = subject;
+    machine.load(library.texts())?;
+    console.answer(HEAD)?;
+    match task.pages {
+        Pages::Each => follow_pages(console, machine, host, task, most),
+        Pages::First => follow_once(console, machine, host, task, most),
+        Pages::Whole => follow_once(console, machine, host, task, most),
+    }
+}
+
+// Opens the files, and lists the steps of a macro of a library on them.
+#[tactic(auto, using(crate::proofs::Steps::library_failed, crate::proofs::Steps::library_opened))]
+fn trace<H: Host + Reporting, O: Write + Drop, E: Write + Drop>(
+    console: &mut Console<O, E>,
+    machine: &mut Machine<GapText>,
+    host: &mut H,
+    subject: Subject<'_, '_, '_>,
+    listing: Listing<'_>,
+) -> Result<Outcome, ToolFault>
+    ensures { TracesLibrary subject.entry.task.now subject.entry.library.now listing.entry.most
+        (H.files host.new) result }
+{
+    let task = subject.task;
+    prepare(machine, task.start, host)?;
+    let stopped = open_pages(console.alloc, machine, host, listing.names, task.pages)?;
+    match outcome_at(stopped.stop) {
+        Outcome::Done => trace_loaded(console, machine, host, subject, listing.most),
+        Outcome::Coded | Outcome::Refused => {
+            tell_opening(console, machine, host, &stopped);
+            Ok(Outcome::Coded)
+        }
+    }
+}
+
+// Says why the files could not be opened.
+fn tell_opening<H: Host + Reporting, O: Write + Drop, E: Write + Drop>(
+    console: &mut Console<O, E>,
+    machine: &Machine<GapText>,
+    host: &H,
+    stopped: &Stopped,
+) {
+    if let Some(code) = code_of(stopped.stop) {
+        tell_stop(console, machine, host, stopped, code);
+    }
+}
+
 // Lists the steps of a macro of a library.
 fn trace_library<H: Host + Reporting, O: Write + Drop, E: Write + Drop>(
     console: &mut Console<O, E>,
-    task: &Task<'_, '_>,
-    library: &Library,
+    subject: Subject<'_, '_, '_>,
     listing: Listing<'_>,
     host: &mut H,
-) -> Result<Outcome, ToolFault> {
-    let machine = machine_with(console.alloc, task.cap);
-    let mut tracer = Tracer {
-        console,
-        machine,
-        host,
-    };
-    tracer.trace(task, library, listing)
+) -> Result<Outcome, ToolFault>
+    ensures { TracesLibrary subject.entry.task.now subject.entry.library.now listing.entry.most
+        (H.files host.new) result }
+{
+    let mut machine = machine_with(console.alloc, subject.task.cap);
+    trace(console, &mut machine, host, subject, listing)
 }
 
 // Is a macro refused that is accepted, but with a promise that holds for no text? That is said, and
@@ -293,7 +274,7 @@ fn is_refused<O: Write + Drop, E: Write + Drop>(
         return Ok(false);
     };
     if task.is_strict && Premise::of_macro(&verified).is_empty() {
-        tell_no_text(console, sourced, &verified)?;
+        refuse_empty(console, sourced, &verified)?;
         return Ok(true);
     }
     tell_edition(&mut console.voice, sourced.editions, &verified);
@@ -304,16 +285,25 @@ fn is_refused<O: Write + Drop, E: Write + Drop>(
 /// register and the line and column of its element, the element, and the pointer, the length of the
 /// buffer, the value that is pending and what was typed behind it. The macro need not be one that
 /// is accepted.
+#[tactic(auto, using(crate::proofs::Steps::traces_failed, crate::proofs::Steps::traces_library))]
 pub fn trace_macro<R: Files + Input, H: Host + Reporting, O: Write + Drop, E: Write + Drop>(
     rt: &R,
     console: &mut Console<O, E>,
     task: &Task<'_, '_>,
     listing: Listing<'_>,
     host: &mut H,
-) -> Result<Outcome, ToolFault> {
-    match read_library_for(rt, console, task.library, task.setup())? {
-        Some(sourced) if is_refused(console, task, &sourced)? => Ok(Outcome::Refused),
-        Some(sourced) => trace_library(console, task, &sourced.library, listing, host),
-        None => Ok(Outcome::Refused),
+) -> Result<Outcome, ToolFault>
+    ensures { Traces task.now listing.entry.most (H.files host.new) result }
+{
+    let Some(sourced) = read_library_for(rt, console, task.library, task.setup())? else {
+        return Ok(Outcome::Refused);
+    };
+    if is_refused(console, task, &sourced)? {
+        return Ok(Outcome::Refused);
     }
+    let subject = Subject {
+        task,
+        library: &sourced.library,
+    };
+    trace_library(console, subject, listing, host)
 }

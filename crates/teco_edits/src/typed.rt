@@ -1,6 +1,10 @@
 //! What a macro types over files, for standard output.
-use std::io;
-use std::io::Write;
+ghost use Rattle.std.specs.Prelude.{◌≡◌, ◌==◌, ◌++◌, ◌∷◌, [], false, not, length, IfOk, OnOk};
+ghost use Rattle.teco_base.specs.declared.bytes.TheConstants.{LF};
+ghost use Rattle.teco_edits.specs.Typed as lines;
+
+use std::alloc::{AllocError, Global};
+use teco_base::bytes::LF;
 
 /// How long the line of a code is: `?`, three letters, CR and LF.
 const CODE_LINE: usize = 6;
@@ -17,7 +21,9 @@ pub enum Naming {
 
 impl Naming {
     /// Does it stand there where so many files are edited?
-    pub fn holds_for(self, files: usize) -> bool {
+    pub fn holds_for(self, files: usize) -> bool
+        ensures { result ≡ lines.are_named self files }
+    {
         match self {
             Naming::Several => files > 1,
             Naming::Always => true,
@@ -27,24 +33,42 @@ impl Naming {
 }
 
 /// What was typed, without the line of a code at its end if runs ended with one.
-pub fn without_code(typed: &[u8], is_coded: bool) -> &[u8] {
+pub fn without_code(typed: &[u8], is_coded: bool) -> &[u8]
+    ensures { result.now ≡ lines.without_code typed.now is_coded }
+{
     if is_coded {
         let end = typed.len().saturating_sub(CODE_LINE);
-        typed.get(..end).unwrap_or(typed)
+        &typed[..end]
     } else {
         typed
     }
 }
 
-/// Writes lines with a name and a colon before each; the last one is ended.
-pub fn write_named<O: Write>(out: &mut O, name: &[u8], typed: &[u8]) -> io::Result<()> {
-    for line in typed.split_inclusive(|byte| *byte == b'\n') {
-        out.write_all(name)?;
-        out.write_all(b":")?;
-        out.write_all(line)?;
-        if !line.ends_with(b"\n") {
-            out.write_all(b"\n")?;
-        }
+// One byte more of a line, behind the name and a colon where it begins one; whether a line is begun then.
+fn push_byte(text: &mut Vec<u8>, name: &[u8], is_begun: bool, byte: u8) -> Result<bool, AllocError>
+    ensures begun { IfOk result (λ begun. begun ≡ not (byte == LF)) }
+    ensures pushed { OnOk result (text.new.items
+        ≡ text.old.items ++ (lines.before_byte is_begun name.now ++ byte ∷ [])) }
+{
+    if !is_begun {
+        text.extend_from_slice(name)?;
+        text.push(b':')?;
     }
-    Ok(())
+    text.push(byte)?;
+    Ok(byte != LF)
+}
+
+/// Lines with a name and a colon before each; the last one is ended.
+pub fn named_lines(alloc: Global, name: &[u8], typed: &[u8]) -> Result<Vec<u8>, AllocError>
+    ensures { IfOk result (λ text. text.items ≡ lines.named_lines false name.now typed.now) }
+{
+    let mut text = Vec::new(alloc);
+    let mut is_begun = false;
+    for byte in typed {
+        is_begun = push_byte(&mut text, name, is_begun, *byte)?;
+    }
+    if is_begun {
+        text.push(LF)?;
+    }
+    Ok(text)
 }
