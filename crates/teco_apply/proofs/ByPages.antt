@@ -147,7 +147,7 @@ Joined-runs order a b c f g k m sink sunk stop line result by counted writes tol
 -- what is lacking where the macro is not run
 lacks : (call : Call) (held : Held) (files : HostFiles) (why : NotReady) → TakesArgument call
     → Answers {X = Unit {0}} call held (Err why) → IsSameOutput held files
-    → Lacks call.found.fields.needs (files_of held files) why
+    → Lacks call.promise.needs (files_of held files) why
 lacks call held files not_ready.NoInput taken is same =
     (is.0, ap (option_map (λ name. record { name = name; unread = unread_bytes held files })) is.1)
 lacks call held files not_ready.NoOutput taken is same = ((is.1).0, none-open held.output files.output same (is.1).1)
@@ -179,17 +179,17 @@ Joined-refused order a b f g k m sink same =
 
 -- it is asked where the library is loaded
 Joined-loaded : (order : Order) (R S : World → World → Type 0) (a loaded b : Holdings) (f g : Telling)
-    → loaded ≡ record a { kept = kept_loaded order.call.found.library a.kept }
-    → ((old new : World) → R (with_library order.call.found.library old) new → S old new) → Joined R loaded b f g
+    → loaded ≡ record a { kept = kept_loaded order.call.promise.library a.kept }
+    → ((old new : World) → R (with_library order.call.promise.library old) new → S old new) → Joined R loaded b f g
     → Joined S a b f g
 Joined-loaded order R S a loaded b f g e on t =
     told-map (λ files left. IsSameOutput a.held files
-    → R (world (kept_loaded order.call.found.library a.kept) a.held files) (world b.kept b.held left)
+    → R (world (kept_loaded order.call.promise.library a.kept) a.held files) (world b.kept b.held left)
     × IsSameOutput b.held left) _ (λ files left t same. (on _ _ (t same).0, (t same).1)) f g
     (subst (λ l. Joined R l b f g) e t)
 
 pub Joined-asked : (order : Order) (a loaded : Holdings) (f g : Telling) (answer : Bool)
-    → loaded ≡ record a { kept = kept_loaded order.call.found.library a.kept } → answer ≡ false
+    → loaded ≡ record a { kept = kept_loaded order.call.promise.library a.kept } → answer ≡ false
     → Joined (λ old new. (new ≡ old) × IsAskedAt order.answers old answer) loaded loaded f g
     → Joined (IsRefused order) a loaded f g
 Joined-asked order a loaded f g answer e refused =
@@ -197,13 +197,13 @@ Joined-asked order a loaded f g answer e refused =
     (IsRefused order) a loaded loaded f g e
     (λ old new is.
     record {
-      answered = subst (λ b. IsAskedAt order.answers (with_library order.call.found.library old) b) refused
+      answered = subst (λ b. IsAskedAt order.answers (with_library order.call.promise.library old) b) refused
           is.1;
       stays = is.0;
     })
 
 pub Joined-admitted : (order : Order) (a loaded b : Holdings) (f g h : Telling) (answer : Bool) (stop : Stop)
-    → loaded ≡ record a { kept = kept_loaded order.call.found.library a.kept } → answer ≡ true
+    → loaded ≡ record a { kept = kept_loaded order.call.promise.library a.kept } → answer ≡ true
     → Joined (λ old new. (new ≡ old) × IsAskedAt order.answers old answer) loaded loaded f g
     → Joined (Calls order.call stop) loaded b g h
     → Joined (λ old new. AdmittedStops order old stop new) a b f h

@@ -11,10 +11,10 @@ use Rattle.teco_model.specs.declared.stop.Stop.{Stop}
 
 -- where both are open, only memory is lacked
 lacks_memory : (call : Call) (old : World) (stop : Stop) (new : World) → BothOpen old.files
-    → IsNotRun call.found.fields.needs old stop new → WantsMemory old stop new
+    → IsNotRun call.promise.needs old stop new → WantsMemory old stop new
 lacks_memory call old stop new both is = among is.why is.lacks is.stopped
   where
-    among : (why : NotReady) → Lacks call.found.fields.needs old.files why → stop ≡ stop_of why
+    among : (why : NotReady) → Lacks call.promise.needs old.files why → stop ≡ stop_of why
         → WantsMemory old stop new
     among NoInput missing stopped = absurd (cc (both.input))
     among NoOutput missing stopped = absurd (cc (both.output))

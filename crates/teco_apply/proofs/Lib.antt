@@ -5,5 +5,5 @@ mod FirstPage
 mod InPlace
 pub mod Opening
 mod Parts
-mod Sure
+pub mod Sure
 mod Touched

@@ -34,22 +34,22 @@ parts-taken call a b x taken = parts-same call a b x (ap (λ (h : Holdings). h.h
 
 -- ---- runs of the macro, whose library is loaded
 asked-on : (call : Call) (a : Holdings) (x y : Telling)
-    → Measures (record a { kept = kept_loaded call.found.library a.kept }) x y
-    → TouchesByParts call a (record a { kept = kept_loaded call.found.library a.kept }) x y
+    → Measures (record a { kept = kept_loaded call.promise.library a.kept }) x y
+    → TouchesByParts call a (record a { kept = kept_loaded call.promise.library a.kept }) x y
 asked-on call a x y measured =
-    let ready = record a { kept = kept_loaded call.found.library a.kept } in
+    let ready = record a { kept = kept_loaded call.promise.library a.kept } in
     in_turn a ready ready x x y (parts-same call a ready x refl) (by_measure ready x y measured)
 
 pub asked-touches : (call : Call) (a ready : Holdings) (x y : Telling)
-    → ready ≡ record a { kept = kept_loaded call.found.library a.kept } → Measures ready x y
+    → ready ≡ record a { kept = kept_loaded call.promise.library a.kept } → Measures ready x y
     → TouchesByParts call a ready x y
 asked-touches call a ready x y loaded measured = rw loaded (asked-on call a x y (rw loaded at measured))
 
 pub called-touches : (call : Call) (a ready b : Holdings) (x y z : Telling)
-    → ready ≡ record a { kept = kept_loaded call.found.library a.kept } → Measures ready x y
-    → TouchesNone (IsReady call.found.fields) ready b y z → TouchesByParts call a b x z
+    → ready ≡ record a { kept = kept_loaded call.promise.library a.kept } → Measures ready x y
+    → TouchesNone (IsReady call.promise) ready b y z → TouchesByParts call a b x z
 called-touches call a ready b x y z loaded measured none =
-    let with_library = record a { kept = kept_loaded call.found.library a.kept } in
+    let with_library = record a { kept = kept_loaded call.promise.library a.kept } in
     let asked = asked-touches call a ready x y loaded measured in
     let back : a.held ≡ ready.held = ap (λ (h : Holdings). h.held) (sym loaded) in
     in_turn a ready b x y z asked

@@ -6,12 +6,11 @@ use Rattle.std.specs.List.{sum_by}
 use Rattle.std.proofs.lemmas.List.Sums.{sum_by-cons}
 use Rattle.teco_apply.specs.Sure.{Call, Calls, HasFiles, IsReady, IsTaken, IsThere, MOST, Runs}
 use Rattle.teco_apply.specs.Sure.{TakesArgument}
-use Rattle.teco_apply.specs.Sure.{call_text, kept_loaded, n_of}
+use Rattle.teco_apply.specs.Sure.{call_text, kept_loaded}
 use Rattle.teco_base.specs.Register.{register_name}
 use Rattle.teco_base.specs.declared.TheConstants.{REGISTERS}
 use Rattle.teco_law_expansion.specs.Given.{call_given}
 use Rattle.teco_model.specs.Macros.{IsLoaded, IsAsked, Needs}
-use Rattle.teco_law_expansion.specs.Linked.{AreLinked, ExpansionsAreLinked}
 use Rattle.teco_poly.specs.Polynomial.{value}
 use Rattle.teco_model.specs.Registers.{Pair, empty_pair, held_length_of_pair}
 use Rattle.teco_model.specs.Run.{Stops, IsSure}
@@ -32,10 +31,9 @@ use Rattle.teco_run.specs.Holdings.{Holdings, Joined}
 use Rattle.teco_law_tables.specs.Ending.{EndsWithin}
 use Rattle.teco_law_tables.specs.Keeping.{LeavesOpen, RunsLeaveOpen}
 use Rattle.teco_law_tables.specs.Sure.{RunsAreSure}
-use Rattle.teco_law_tables.specs.Verified as verified
-use Rattle.teco_law_tables.specs.Verified.{RunsAreVerified}
-use Rattle.teco_verifier.specs.table.Printed.{needs_in}
-use Rattle.teco_verify.specs.Certified.{IsCertified}
+use Rattle.teco_law_tables.specs.Verified as tables
+use Rattle.teco_law_tables.specs.Verified.{n_of}
+use Rattle.teco_promise.specs.Promise.{EachRunEnds}
 
 -- ---- N
 -- one of some pairs holds no more than all
@@ -73,19 +71,17 @@ are_open needs kept held files same input output = record {
 
 -- ---- the run
 pub record Laws : Type 0 where
-  pub linked : ExpansionsAreLinked
-  pub verified : RunsAreVerified
   pub sure : RunsAreSure
   pub leave : RunsLeaveOpen
 
--- where a verified macro is called
+-- where a macro is called, of which this is promised
 pub record IsCalled (call : Call) (kept : Kept) (held : Held) : Type 0 where
-  pub certified : IsCertified call.found.library call.found.fields
-  pub loaded : IsLoaded call.found.library kept
+  pub sound : EachRunEnds call.promise
+  pub loaded : IsLoaded call.promise.library kept
   pub whole : IsWhole kept
   pub bytes : HoldsBytes held
-  pub named : call.found.fields.entry < REGISTERS
-  pub files : HasFiles call.found.fields.needs held
+  pub named : call.promise.entry < REGISTERS
+  pub files : HasFiles call.promise.needs held
   pub taken : TakesArgument call
 
 -- a register's name is a byte
@@ -94,63 +90,55 @@ name_small r small = grind (arith, nat_tests)
 
 module _ (laws : Laws) (call : Call) (kept : Kept) (held : Held) (is : IsCalled call kept held) (files : HostFiles)
     (bytes : AreOfBytes files) (same : IsSameOutput held files)
-    (ready : IsReady call.found.fields (world kept held files)) where
+    (ready : IsReady call.promise (world kept held files)) where
   abbrev now : World
   now = world kept held files
 
   -- where it begins
-  entered : verified.IsReady call.found.library call.found.fields.entry call.found.fields.size (n_of now) now
+  entered : tables.IsReady call.promise.library call.promise.entry call.promise.size (n_of now) now
   entered = record {
     named = is.named;
     loaded = is.loaded;
     whole = record { kept = is.whole; files = files_whole held files is.bytes bytes };
-    call = (omega arith, (name_small call.found.fields.entry is.named, tt));
+    call = (omega arith, (name_small call.promise.entry is.named, tt));
     begins = enters now;
     small = ready.fits;
   }
 
-  opened_there : AreOpen (needs_in is.certified.nodes is.certified.table) now.files
-  opened_there = subst (λ needs. AreOpen needs now.files) is.certified.needs_are
-      (are_open call.found.fields.needs kept held files same is.files.input is.files.output)
-
-  linked_there : AreLinked call.found.library call.found.fields.entry is.certified.nodes
-  linked_there = laws.linked call.found.library call.found.fields.entry is.certified.nodes is.certified.expanded
+  opened_there : AreOpen call.promise.needs now.files
+  opened_there = are_open call.promise.needs kept held files same is.files.input is.files.output
 
   -- with an argument that is asked for
-  ends : (given : Option ℕ) → IsAsked call.found.fields.argument given
-      → EndsWithin (start (call_given call.found.fields.entry given) now) (value call.found.fields.commands (n_of now))
-  ends given asked =
-      let certified = is.certified in
-      let fields = call.found.fields in
-      laws.verified call.found.library fields.entry fields.rules fields.argument given certified.nodes certified.table
-      fields.commands fields.size (n_of now) now linked_there certified.printed asked entered opened_there
+  ends : (given : Option ℕ) → IsAsked call.promise.argument given
+      → EndsWithin (start (call_given call.promise.entry given) now) (value call.promise.commands (n_of now))
+  ends given asked = is.sound given now asked entered opened_there
 
-  pub ends_with : (given : Option ℤ) → IsTaken call.found.fields.argument given
-      → EndsWithin (start (call_text call.found.fields.entry given) (world kept held files))
-      (value call.found.fields.commands (n_of (world kept held files)))
+  pub ends_with : (given : Option ℤ) → IsTaken call.promise.argument given
+      → EndsWithin (start (call_text call.promise.entry given) (world kept held files))
+      (value call.promise.commands (n_of (world kept held files)))
   ends_with None taken = ends None taken
   ends_with (Some (pos n)) taken = ends (Some n) taken
   ends_with (Some (negsuc n)) taken = absurd taken
 
   pub is_sure : (answer : Stop) (new : World)
-      → Stops (start (call_text call.found.fields.entry call.given) (world kept held files)) MOST answer new
-      → IsSure (value call.found.fields.commands (n_of (world kept held files))) answer
+      → Stops (start (call_text call.promise.entry call.given) (world kept held files)) MOST answer new
+      → IsSure (value call.promise.commands (n_of (world kept held files))) answer
   is_sure answer new stops =
-      laws.sure (start (call_text call.found.fields.entry call.given) (world kept held files))
-      (value call.found.fields.commands (n_of (world kept held files))) MOST answer new
+      laws.sure (start (call_text call.promise.entry call.given) (world kept held files))
+      (value call.promise.commands (n_of (world kept held files))) MOST answer new
       (ends_with call.given is.taken) ready.counts stops
 
   pub is_left_open : (answer : Stop) (new : World)
-      → Stops (start (call_text call.found.fields.entry call.given) (world kept held files)) MOST answer new
+      → Stops (start (call_text call.promise.entry call.given) (world kept held files)) MOST answer new
       → LeavesOpen answer (world kept held files).files new.files
   is_left_open answer new stops =
-      laws.leave (start (call_text call.found.fields.entry call.given) (world kept held files))
-      (value call.found.fields.commands (n_of (world kept held files))) MOST answer new
+      laws.leave (start (call_text call.promise.entry call.given) (world kept held files))
+      (value call.promise.commands (n_of (world kept held files))) MOST answer new
       (ends_with call.given is.taken) ready.counts stops
 
 surely : Laws → (call : Call) (kept : Kept) (held : Held) → IsCalled call kept held → (files : HostFiles)
     → AreOfBytes files → (answer : Stop) (new : World) → IsSameOutput held files
-    → Stops (start (call_text call.found.fields.entry call.given) (world kept held files)) MOST answer new
+    → Stops (start (call_text call.promise.entry call.given) (world kept held files)) MOST answer new
     → Calls call answer (world kept held files) new
 surely laws call kept held is files bytes answer new same stops = record {
   taken = is.taken;
@@ -160,11 +148,11 @@ surely laws call kept held is files bytes answer new same stops = record {
 }
 
 pub calls : Laws → (call : Call) (answer : Stop) (a b : Holdings) (f g : Telling) → IsCalled call a.kept a.held
-    → Joined (λ old new. Stops (start (call_text call.found.fields.entry call.given) old) MOST answer new) a b f g
+    → Joined (λ old new. Stops (start (call_text call.promise.entry call.given) old) MOST answer new) a b f g
     → Joined (Calls call answer) a b f g
 calls laws call answer a b f g is = told-whole
     (λ files left. IsSameOutput a.held files
-    → Stops (start (call_text call.found.fields.entry call.given) (world a.kept a.held files)) MOST answer
+    → Stops (start (call_text call.promise.entry call.given) (world a.kept a.held files)) MOST answer
     (world b.kept b.held left) × IsSameOutput b.held left)
     (λ files left. IsSameOutput a.held files → Calls call answer (world a.kept a.held files)
     (world b.kept b.held left) × IsSameOutput b.held left)
@@ -175,7 +163,7 @@ calls laws call answer a b f g is = told-whole
 
 -- what is so of a call where the library is loaded is so of a run
 pub runs : (call : Call) (answer : Stop) (a loaded b : Holdings) (f g : Telling)
-    → loaded ≡ record a { kept = kept_loaded call.found.library a.kept }
+    → loaded ≡ record a { kept = kept_loaded call.promise.library a.kept }
     → Joined (Calls call answer) loaded b f g → Joined (Runs call answer) a b f g
 runs call answer a loaded b f g e t =
     told-map (λ files left. IsSameOutput a.held files

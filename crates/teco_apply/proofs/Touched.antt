@@ -132,10 +132,10 @@ some-fit fit output end end' (Notes a) (Notes b) t = record {
 -- ---- the call of a verified macro
 module _ (fit : NotesFit) (laws : Laws) (call : Call) (a : Holdings) (is : IsCalled call a.kept a.held) where
   abbrev from : World → State
-  from old = start (call_text call.found.fields.entry call.given) old
+  from old = start (call_text call.promise.entry call.given) old
 
   abbrev ready : World → Type 0
-  ready = IsReady call.found.fields
+  ready = IsReady call.promise
 
   -- where it is ready it comes to no command of files
   comes-to-none : (files : HostFiles) → AreOfBytes files → IsSameOutput a.held files → ready (world a.kept a.held files)
@@ -179,11 +179,11 @@ module _ (fit : NotesFit) (laws : Laws) (call : Call) (a : Holdings) (is : IsCal
 
 -- where its library is loaded first
 pub touches-none-loaded : (call : Call) (a loaded b : Holdings) (f g : Telling)
-    → loaded ≡ record a { kept = kept_loaded call.found.library a.kept }
-    → TouchesNone (IsReady call.found.fields) loaded b f g → TouchesNone (IsReadyLoaded call) a b f g
+    → loaded ≡ record a { kept = kept_loaded call.promise.library a.kept }
+    → TouchesNone (IsReady call.promise) loaded b f g → TouchesNone (IsReadyLoaded call) a b f g
 touches-none-loaded call a loaded b f g e t =
-    by (subst (λ l. TouchesNone (IsReady call.found.fields) l b f g) e t) where
-      by : TouchesNone (IsReady call.found.fields) (record a { kept = kept_loaded call.found.library a.kept }) b f g
+    by (subst (λ l. TouchesNone (IsReady call.promise) l b f g) e t) where
+      by : TouchesNone (IsReady call.promise) (record a { kept = kept_loaded call.promise.library a.kept }) b f g
           → TouchesNone (IsReadyLoaded call) a b f g
       by (inl none) = inl none
       by (inr was) = inr (record {

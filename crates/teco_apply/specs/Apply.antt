@@ -79,7 +79,7 @@ TextStops text old stop new = Stops (start text old) MOST stop new
 -- The macro is run, or it is not; where both files are known to be open, only want of memory keeps it from that.
 abbrev pub MacroStops : Bool → Call → World → Stop → World → Type 0
 MacroStops true call old stop new = Runs call stop old new ⊎ WantsMemory old stop new
-MacroStops false call old stop new = Runs call stop old new ⊎ IsNotRun call.found.fields.needs old stop new
+MacroStops false call old stop new = Runs call stop old new ⊎ IsNotRun call.promise.needs old stop new
 
 -- What a run types is written, and its code line; or with a fault a part of that. Says whether there is a code
 -- line. The host's count of failures goes from f to g: it rises where the host stops the run, and nowhere else.

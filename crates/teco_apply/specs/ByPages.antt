@@ -87,17 +87,17 @@ pub record IsAskedAt (answers : Answering) (world : World) (answer : Bool) : Typ
 
 -- it was asked where the library is loaded
 abbrev pub IsAnswered : Order → World → Bool → Type 0
-IsAnswered order old answer = IsAskedAt order.answers (loaded order.call.found.library old) answer
+IsAnswered order old answer = IsAskedAt order.answers (loaded order.call.promise.library old) answer
 
 -- it has said no, and the library stays loaded
 pub record IsRefused (order : Order) (old new : World) : Type 0 where
   pub answered : IsAnswered order old false
-  pub stays : new ≡ loaded order.call.found.library old
+  pub stays : new ≡ loaded order.call.promise.library old
 
 -- the macro is run, and the guard has said yes; or it is not run
 abbrev pub AdmittedStops : Order → World → Stop → World → Type 0
 AdmittedStops order old stop new =
-    (IsAnswered order old true × Runs order.call stop old new) ⊎ IsNotRun order.call.found.fields.needs old stop new
+    (IsAnswered order old true × Runs order.call stop old new) ⊎ IsNotRun order.call.promise.needs old stop new
 
 abbrev pub AnswersAdmitted : Order → Course
 AnswersAdmitted order old new f g sink sunk result =

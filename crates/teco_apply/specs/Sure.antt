@@ -3,17 +3,17 @@ use Rattle.std.specs.Prelude.{◌≡◌, ℕ, ◌+◌, ◌-◌, ◌^◌, ◌≤�
 use Rattle.std.specs.Prelude.{Result, Ok, Err, IsSome, ⊤}
 use Rattle.teco_base.specs.NumberText.{decimal}
 use Rattle.teco_base.specs.declared.TheConstants.{LIMIT}
-use Rattle.teco_verifier.specs.certificate.Fields.{Fields, Finding}
 use Rattle.teco_model.specs.Macros.{Library, call_of, ArgumentRange, IsAsked, Needs}
 use Rattle.teco_model.specs.Registers.{with_texts}
 use Rattle.teco_model.specs.Run.{Stops, IsSure}
-use Rattle.teco_model.specs.State.{Kept, World, start, held_length}
+use Rattle.teco_model.specs.State.{Kept, World, start}
 use Rattle.teco_model.specs.declared.stop.Stop.TheVariants as stop
 use Rattle.teco_model.specs.declared.stop.Stop.{Stop}
 use Rattle.teco_law_tables.specs.Keeping.{LeavesOpen}
+use Rattle.teco_law_tables.specs.Verified.{n_of}
 use Rattle.teco_pages.specs.Held.{Held}
 use Rattle.teco_poly.specs.Polynomial.{value}
-use Rattle.teco_model.specs.Paging.{unread_of}
+use Rattle.teco_promise.specs.Promise.{Promise}
 use Rattle.teco_apply.specs.declared.ready.NotReady.{NotReady}
 use Rattle.teco_apply.specs.declared.ready.NotReady.TheVariants.{NoInput, NoOutput, Argument, Memory}
 
@@ -28,9 +28,9 @@ kept_loaded library kept = record kept { registers = with_texts library kept.reg
 abbrev pub loaded : Library → World → World
 loaded library world = record world { kept = kept_loaded library world.kept }
 
--- a verified macro, and the argument that it is given
+-- what is promised of a macro, and the argument that it is given
 pub record Call : Type 0 where
-  pub found : Finding
+  pub promise : Promise
   pub given : Option ℤ
 
 -- A macro is given an argument where it takes one, and then in the range; no range has a negative number.
@@ -40,33 +40,29 @@ IsTaken argument (Some (pos n)) = IsAsked argument (Some n)
 IsTaken argument (Some (negsuc n)) = ⊥
 
 abbrev pub TakesArgument : Call → Type 0
-TakesArgument call = IsTaken call.found.fields.argument call.given
+TakesArgument call = IsTaken call.promise.argument call.given
 
 -- the argument in decimal, and the call
 abbrev pub call_text : ℕ → Option ℤ → List ℕ
 call_text entry None = call_of entry
 call_text entry (Some n) = decimal n ++ call_of entry
 
--- N: what is held, and what is unread
-abbrev pub n_of : World → ℕ
-n_of world = held_length world.kept + unread_of world
-
--- The printed size may be held, and the printed number of commands is one of 64 bits.
-pub record IsReady (fields : Fields) (world : World) : Type 0 where
-  pub fits : value fields.size (n_of world) ≤ LIMIT
-  pub counts : value fields.commands (n_of world) ≤ MOST
+-- The size may be held, and the number of commands is one of 64 bits.
+pub record IsReady (promise : Promise) (world : World) : Type 0 where
+  pub fits : value promise.size (n_of world) ≤ LIMIT
+  pub counts : value promise.commands (n_of world) ≤ MOST
 
 -- The macro is called as the command machine does it, with an argument that it takes. Where it is ready, it is sure to
 -- end within the printed number of commands, and at its end the files are as open as they were, and no more is unread.
 pub record Calls (call : Call) (answer : Stop) (old new : World) : Type 0 where
   pub taken : TakesArgument call
-  pub stops : Stops (start (call_text call.found.fields.entry call.given) old) MOST answer new
-  pub sure : IsReady call.found.fields old → IsSure (value call.found.fields.commands (n_of old)) answer
-  pub keeps : IsReady call.found.fields old → LeavesOpen answer old.files new.files
+  pub stops : Stops (start (call_text call.promise.entry call.given) old) MOST answer new
+  pub sure : IsReady call.promise old → IsSure (value call.promise.commands (n_of old)) answer
+  pub keeps : IsReady call.promise old → LeavesOpen answer old.files new.files
 
 -- the macro is called where the library is loaded first
 abbrev pub Runs : Call → Stop → World → World → Type 0
-Runs call answer old new = Calls call answer (loaded call.found.library old) new
+Runs call answer old new = Calls call answer (loaded call.promise.library old) new
 
 -- a file is needed and not open
 abbrev pub IsMissing : {X : Type 0} → Bool → Option X → Type 0
@@ -83,9 +79,9 @@ pub record HasFiles (needs : Needs) (held : Held) : Type 0 where
 -- Whether the macro is run: not where a file is missing that it needs, the input first, nor with an argument that
 -- it does not take.
 abbrev pub Answers : {X : Type 0} → Call → Held → Result X NotReady → Type 0
-Answers call held (Ok x) = HasFiles call.found.fields.needs held × TakesArgument call
-Answers call held (Err NoInput) = IsMissing call.found.fields.needs.input held.input
+Answers call held (Ok x) = HasFiles call.promise.needs held × TakesArgument call
+Answers call held (Err NoInput) = IsMissing call.promise.needs.input held.input
 Answers call held (Err NoOutput) =
-    IsThere call.found.fields.needs.input held.input × IsMissing call.found.fields.needs.output held.output
-Answers call held (Err Argument) = HasFiles call.found.fields.needs held × ¬ TakesArgument call
-Answers call held (Err Memory) = HasFiles call.found.fields.needs held × TakesArgument call
+    IsThere call.promise.needs.input held.input × IsMissing call.promise.needs.output held.output
+Answers call held (Err Argument) = HasFiles call.promise.needs held × ¬ TakesArgument call
+Answers call held (Err Memory) = HasFiles call.promise.needs held × TakesArgument call

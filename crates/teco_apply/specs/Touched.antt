@@ -33,7 +33,7 @@ TouchesNone ready old new before after =
 
 -- a macro is ready where its library is loaded first
 abbrev pub IsReadyLoaded : Call → World → Type 0
-IsReadyLoaded call world = IsReady call.found.fields (loaded call.found.library world)
+IsReadyLoaded call world = IsReady call.promise (loaded call.promise.library world)
 
 -- ---- edits
 -- the input was measured, or its host could not tell that: nothing else was noted

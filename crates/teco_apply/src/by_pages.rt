@@ -19,10 +19,10 @@ use teco_base::bytes::ESC;
 use teco_model::Stop;
 use teco_pages::Host;
 use teco_pages::laws::notes_fit;
+use teco_promise::Promise;
 use teco_run::Machine;
 use teco_session::{Listener, SessionFault};
 use teco_text::TextStore;
-use teco_verify::Verified;
 
 /// How many pages an edit takes; more are answered with `LIM`.
 pub const PAGES: u64 = 4_294_967_296;
@@ -43,8 +43,8 @@ pub enum Pages {
 pub struct Edit<'a, G: Guard> {
     /// What the memory of its first command string comes from.
     pub alloc: Global,
-    /// The macro that edits it.
-    pub verified: &'a Verified<'a>,
+    /// What is promised of the macro that edits it.
+    pub promise: Promise<'a>,
     /// The name of the file.
     pub source: &'a [u8],
     /// The name of the file that is made.
@@ -309,25 +309,25 @@ pub fn edit_file<T: TextStore, H: Host, W: Write, G: Guard, O: Observer<H>>(
     requires target { length edit.now.target.now ≤ NAME }
     ensures edits { Joined (λ old new. FileEdited edit.now.pages
         (order_by (G.answers edit.now.guard.now)
-        (record { found = edit.now.verified.now; given = edit.now.given }))
+        (record { promise = edit.now.promise; given = edit.now.given }))
         edit.now.source.now edit.now.target.now old new
         (H.failures host.old) (H.failures host.new)
         (W.contents writer.old) (W.contents writer.new) result)
         machine.old machine.new (H.files host.old) (H.files host.new) }
-    ensures touches { EditTouches (record { found = edit.now.verified.now; given = edit.now.given })
+    ensures touches { EditTouches (record { promise = edit.now.promise; given = edit.now.given })
         edit.now.source.now edit.now.target.now result
         machine.old machine.new (H.files host.old) (H.files host.new) }
     ensures argument { (result ≡ Err fault.Argument)
-        ↔ (¬ IsTaken edit.now.verified.now.fields.argument edit.now.given) }
+        ↔ (¬ IsTaken edit.now.promise.argument edit.now.given) }
     ensures counted { FileCounts result (H.failures host.old) (H.failures host.new) }
 {
     notes_fit();
-    if !takes(edit.verified, edit.given) {
+    if !takes(&edit.promise, edit.given) {
         return Err(SessionFault::Argument);
     }
     let opening = opening(edit.alloc, edit.source, edit.target)?;
     let call = Call {
-        verified: edit.verified,
+        promise: edit.promise,
         given: edit.given,
     };
     let order = Order {

@@ -6,6 +6,7 @@ ghost use Rattle.teco_apply.specs.Touched.{EditTouches};
 ghost use Rattle.teco_run.specs.Holdings.{Joined};
 ghost use Rattle.teco_session.specs.Answers.{Said};
 ghost use Rattle.teco_session.specs.declared.fault.SessionFault.TheVariants as fault;
+ghost use Rattle.teco_verify.specs.Promised.{promise_of};
 
 use crate::by_pages::{Edit, Pages, dropped, edit_file};
 use crate::editing::NAME;
@@ -50,12 +51,12 @@ pub fn apply<T: TextStore, H: Host, W: Write>(
 ) -> Result<Done, SessionFault>
     requires source { length source.now ≤ NAME }
     requires target { length target.now ≤ NAME }
-    ensures edits { Joined (λ old new. Applied (record { found = verified.now; given = given })
+    ensures edits { Joined (λ old new. Applied (record { promise = promise_of verified.now; given = given })
         source.now target.now old new
         (H.failures host.old) (H.failures host.new)
         (W.contents writer.old) (W.contents writer.new) result)
         machine.old machine.new (H.files host.old) (H.files host.new) }
-    ensures touches { EditTouches (record { found = verified.now; given = given })
+    ensures touches { EditTouches (record { promise = promise_of verified.now; given = given })
         source.now target.now result
         machine.old machine.new (H.files host.old) (H.files host.new) }
     ensures argument { (result ≡ Err fault.Argument)
@@ -64,7 +65,7 @@ pub fn apply<T: TextStore, H: Host, W: Write>(
 {
     let edit = Edit {
         alloc,
-        verified,
+        promise: verified.promise(),
         source,
         target,
         given,

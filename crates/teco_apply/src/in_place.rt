@@ -17,18 +17,18 @@ use teco_in_place::laws::files_are_replaced;
 use teco_in_place::{Ending, InPlace, new_text_of};
 use teco_pages::Host;
 use teco_pages::laws::notes_fit;
+use teco_promise::Promise;
 use teco_run::{Machine, Stopped};
 use teco_session::{Listener, SessionFault};
 use teco_text::TextStore;
-use teco_verify::Verified;
 
 /// A file that is edited in place.
 #[derive(Drop)]
 pub struct Rewrite<'a, G: Guard, E: Ending> {
     /// What the memory of its first command string comes from.
     pub alloc: Global,
-    /// The macro that edits it.
-    pub verified: &'a Verified<'a>,
+    /// What is promised of the macro that edits it.
+    pub promise: Promise<'a>,
     /// The name of the file.
     pub name: &'a [u8],
     /// The macro's argument.
@@ -89,15 +89,15 @@ pub fn edit_in_place<T: TextStore, H: Host + Drop, W: Write, G: Guard, E: Ending
     requires name { length rewrite.now.name.now < NAME }
     requires fresh { H.files host ≡ Notes [] }
     ensures edits { IsRewritten rewrite.now.pages (order_by (G.answers rewrite.now.guard.now)
-        (record { found = rewrite.now.verified.now; given = rewrite.now.given }))
+        (record { promise = rewrite.now.promise; given = rewrite.now.given }))
         rewrite.now.name.now E.replaces machine.old machine.new (H.files result.host)
         (H.failures host) (W.contents writer.old) (W.contents writer.new) result.edited }
     ensures argument { (result.edited ≡ Err fault.Argument)
-        ↔ (¬ IsTaken rewrite.now.verified.now.fields.argument rewrite.now.given) }
+        ↔ (¬ IsTaken rewrite.now.promise.argument rewrite.now.given) }
 {
     files_are_replaced();
     notes_fit();
-    if !takes(rewrite.verified, rewrite.given) {
+    if !takes(&rewrite.promise, rewrite.given) {
         return Rewritten {
             edited: Err(SessionFault::Argument),
             host,
@@ -111,7 +111,7 @@ pub fn edit_in_place<T: TextStore, H: Host + Drop, W: Write, G: Guard, E: Ending
     };
     let edit = Edit {
         alloc: rewrite.alloc,
-        verified: rewrite.verified,
+        promise: rewrite.promise,
         source: rewrite.name,
         target: target.as_slice(),
         given: rewrite.given,

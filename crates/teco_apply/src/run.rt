@@ -6,24 +6,26 @@ ghost use Rattle.teco_apply.specs.Touched.{IsReadyLoaded, TouchesNone};
 ghost use Rattle.teco_model.specs.Macros.{IsLoaded};
 ghost use Rattle.teco_model.specs.Run.{StopCounts};
 ghost use Rattle.teco_run.specs.Holdings.{Joined};
+ghost use Rattle.teco_verify.specs.Promised.{promise_of};
 
 use crate::ready::NotReady;
 use arrayvec::ArrayVec;
 use std::marker::Model;
 use teco_base::{Reg, decimal};
-use teco_law_expansion::laws::{expansions_are_linked, loading_loads};
-use teco_law_tables::laws::{runs_are_sure, runs_are_verified, runs_leave_open};
+use teco_law_expansion::laws::loading_loads;
+use teco_law_tables::laws::{runs_are_sure, runs_leave_open};
 use teco_model::Stop;
 use teco_pages::Host;
 use teco_pages::laws::notes_fit;
+use teco_promise::Promise;
 use teco_run::{Machine, Stopped};
 use teco_text::TextStore;
 use teco_verify::Verified;
 
-/// A verified macro, and the argument that it is given.
-#[derive(Drop)]
+/// What is promised of a macro, and the argument that it is given.
+#[derive(Clone, Copy)]
 pub struct Call<'a> {
-    pub verified: &'a Verified<'a>,
+    pub promise: Promise<'a>,
     pub given: Option<i32>,
 }
 
@@ -32,19 +34,19 @@ impl<'a> Model for Call<'a> {
 
     ghost Value = { model.Call };
 
-    ghost view = { λ c. record { found = c.verified.now; given = c.given } };
+    ghost view = { λ c. record { promise = c.promise; given = c.given } };
 }
 
 // How long the text of a call may be: a number's text, and two characters.
 const CALL: usize = 13;
 
 /// Is a macro called with this argument, or with none?
-pub fn takes(verified: &Verified<'_>, given: Option<i32>) -> bool
-    ensures { IsTrue result ↔ IsTaken verified.now.fields.argument given }
+pub fn takes(promise: &Promise<'_>, given: Option<i32>) -> bool
+    ensures { IsTrue result ↔ IsTaken promise.now.argument given }
 {
-    match (verified.argument(), given) {
+    match (promise.argument(), given) {
         (None, None) => true,
-        (Some((low, high)), Some(n)) => low <= n && n <= high,
+        (Some(range), Some(n)) => range.low() as i32 <= n && n <= range.high() as i32,
         _ => false,
     }
 }
@@ -64,62 +66,60 @@ pub fn call_text(entry: Reg, given: Option<i32>) -> ArrayVec<u8, CALL>
     text
 }
 
-/// Calls a verified macro where its library is loaded, and the files that it needs are open.
-pub fn call_verified<T: TextStore, H: Host>(
+/// Calls a macro where its library is loaded, and the files that it needs are open.
+pub fn call_promised<T: TextStore, H: Host>(
     machine: &mut Machine<T>,
     call: &Call<'_>,
     host: &mut H,
 ) -> Stopped
-    requires loaded { IsLoaded call.now.found.library machine.old.kept }
-    requires files { HasFiles call.now.found.fields.needs machine.old.held }
+    requires loaded { IsLoaded call.now.promise.library machine.old.kept }
+    requires files { HasFiles call.now.promise.needs machine.old.held }
     requires taken { TakesArgument call.now }
     ensures calls { Joined (Calls call.now result.stop)
         machine.old machine.new (H.files host.old) (H.files host.new) }
-    ensures touches { TouchesNone (IsReady call.now.found.fields)
+    ensures touches { TouchesNone (IsReady call.now.promise)
         machine.old machine.new (H.files host.old) (H.files host.new) }
     ensures counted { StopCounts result.stop (H.failures host.old) (H.failures host.new) }
 {
     machine.is_whole();
-    call.verified.is_certified();
-    expansions_are_linked();
-    runs_are_verified();
+    call.promise.is_sound();
     runs_are_sure();
     runs_leave_open();
     notes_fit();
-    let entry = call.verified.entry();
+    let entry = call.promise.entry();
     entry.index();
     let text = call_text(entry, call.given);
     machine.run_to_stop(text.as_slice(), u64::MAX, host)
 }
 
-/// Loads the library of a verified macro, if it may be run with an argument, or with none. A
-/// refusal leaves all as it is.
+/// Loads the library of a macro, if it may be run with an argument, or with none. A refusal leaves
+/// all as it is.
 pub fn make_ready<T: TextStore>(machine: &mut Machine<T>, call: &Call<'_>) -> Result<(), NotReady>
     ensures answer { Answers call.now
         machine.old.held result }
     ensures loaded { OnOk result (machine.new ≡
-        record machine.old { kept = kept_loaded call.now.found.library machine.old.kept }) }
-    ensures ready { OnOk result (IsLoaded call.now.found.library machine.new.kept) }
+        record machine.old { kept = kept_loaded call.now.promise.library machine.old.kept }) }
+    ensures ready { OnOk result (IsLoaded call.now.promise.library machine.new.kept) }
     ensures err { OnErr result (machine.new ≡ machine.old) }
 {
-    let needs = call.verified.needs();
+    let needs = call.promise.needs();
     if needs.input && !machine.has_input() {
         return Err(NotReady::NoInput);
     }
     if needs.output && !machine.has_output() {
         return Err(NotReady::NoOutput);
     }
-    if !takes(call.verified, call.given) {
+    if !takes(&call.promise, call.given) {
         return Err(NotReady::Argument);
     }
     machine.is_whole();
-    machine.load(call.verified.library().texts())?;
+    machine.load(call.promise.library().texts())?;
     loading_loads();
     Ok(())
 }
 
-/// Runs a verified macro with an argument, or with none.
-pub fn run_given<T: TextStore, H: Host>(
+/// Runs a macro of which a promise is given, with an argument, or with none, as `run_verified` does.
+pub fn run_promised<T: TextStore, H: Host>(
     machine: &mut Machine<T>,
     call: &Call<'_>,
     host: &mut H,
@@ -138,7 +138,7 @@ pub fn run_given<T: TextStore, H: Host>(
         machine.old machine.new (H.files host.old) (H.files host.new)) }
 {
     make_ready(machine, call)?;
-    Ok(call_verified(machine, call, host).stop)
+    Ok(call_promised(machine, call, host).stop)
 }
 
 /// Runs a verified macro that takes no argument, over the files of a host: the texts of its library
@@ -153,24 +153,24 @@ pub fn run_verified<T: TextStore, H: Host>(
     verified: &Verified<'_>,
     host: &mut H,
 ) -> Result<Stop, NotReady>
-    ensures answer { Answers (record { found = verified.now; given = None })
+    ensures answer { Answers (record { promise = promise_of verified.now; given = None })
         machine.old.held result }
     ensures runs { IfOk result (λ stop. Joined
-        (Runs (record { found = verified.now; given = None }) stop)
+        (Runs (record { promise = promise_of verified.now; given = None }) stop)
         machine.old machine.new (H.files host.old) (H.files host.new)) }
     ensures counted { IfOk result (λ stop. StopCounts stop
         (H.failures host.old) (H.failures host.new)) }
     ensures machine { OnErr result (machine.new ≡ machine.old) }
     ensures host { OnErr result (host.new ≡ host.old) }
     ensures touches { IfOk result (λ _. TouchesNone
-        (IsReadyLoaded (record { found = verified.now; given = None }))
+        (IsReadyLoaded (record { promise = promise_of verified.now; given = None }))
         machine.old machine.new (H.files host.old) (H.files host.new)) }
 {
     let call = Call {
-        verified,
+        promise: verified.promise(),
         given: None,
     };
-    run_given(machine, &call, host)
+    run_promised(machine, &call, host)
 }
 
 /// Runs a verified macro that takes an argument, which stands before the call. Any argument will do
@@ -181,22 +181,22 @@ pub fn run_verified_with<T: TextStore, H: Host>(
     n: i32,
     host: &mut H,
 ) -> Result<Stop, NotReady>
-    ensures answer { Answers (record { found = verified.now; given = Some n })
+    ensures answer { Answers (record { promise = promise_of verified.now; given = Some n })
         machine.old.held result }
     ensures runs { IfOk result (λ stop. Joined
-        (Runs (record { found = verified.now; given = Some n }) stop)
+        (Runs (record { promise = promise_of verified.now; given = Some n }) stop)
         machine.old machine.new (H.files host.old) (H.files host.new)) }
     ensures counted { IfOk result (λ stop. StopCounts stop
         (H.failures host.old) (H.failures host.new)) }
     ensures machine { OnErr result (machine.new ≡ machine.old) }
     ensures host { OnErr result (host.new ≡ host.old) }
     ensures touches { IfOk result (λ _. TouchesNone
-        (IsReadyLoaded (record { found = verified.now; given = Some n }))
+        (IsReadyLoaded (record { promise = promise_of verified.now; given = Some n }))
         machine.old machine.new (H.files host.old) (H.files host.new)) }
 {
     let call = Call {
-        verified,
+        promise: verified.promise(),
         given: Some(n),
     };
-    run_given(machine, &call, host)
+    run_promised(machine, &call, host)
 }

@@ -16,7 +16,7 @@ ghost use Rattle.teco_run.specs.Holdings.{Joined};
 use crate::by_pages::Edited;
 use crate::editing::{Heard, answer_text, stop_of, tell};
 use crate::guard::{Asked, Guard, Observer, Order};
-use crate::run::{call_text, call_verified, make_ready};
+use crate::run::{call_text, call_promised, make_ready};
 use std::io::Write;
 use teco_model::Stop;
 use teco_pages::Host;
@@ -187,7 +187,7 @@ fn run_guarded<T: TextStore, H: Host, G: Guard, O: Observer<H>>(
     if !asked.admitted {
         return None;
     }
-    Some(call_verified(machine, order.call, host))
+    Some(call_promised(machine, order.call, host))
 }
 
 /// Runs the macro, if the guard admits that, and writes what it types and its code line.
@@ -212,7 +212,7 @@ pub fn run_admitted<T: TextStore, H: Host, W: Write, G: Guard, O: Observer<H>>(
         return Ok(Ran::Refused);
     };
     let call = order.call;
-    let text = call_text(call.verified.entry(), call.given);
+    let text = call_text(call.promise.entry(), call.given);
     let stop = stopped.stop;
     let heard = Heard {
         text: text.as_slice(),

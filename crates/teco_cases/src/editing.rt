@@ -121,7 +121,7 @@ impl<'a> Trial<'a> {
     ) -> Result<(u64, u64), SessionFault> {
         let edit = Edit {
             alloc: self.alloc,
-            verified: self.task.verified,
+            promise: self.task.verified.promise(),
             source: SOURCE,
             target: TARGET,
             given: self.task.argument,

@@ -2,9 +2,10 @@
 use Rattle.std.specs.Prelude.{◌≡◌, ◌⊎◌, Bool, true}
 use Rattle.teco_apply.specs.Apply.{IsNotRun}
 use Rattle.teco_apply.specs.ByPages.{AdmittedStops, Order, order_by}
-use Rattle.teco_apply.specs.Sure.{Call, loaded, n_of}
+use Rattle.teco_apply.specs.Sure.{Call, loaded}
 use Rattle.teco_edits.specs.Terms.{Answers}
 use Rattle.teco_edits.specs.declared.watching.Terms.{Terms}
+use Rattle.teco_law_tables.specs.Verified.{n_of}
 use Rattle.teco_model.specs.Run.{IsSure}
 use Rattle.teco_model.specs.State.{World}
 use Rattle.teco_model.specs.declared.stop.Stop.{Stop}
@@ -18,7 +19,7 @@ on_terms terms call = order_by (Answers terms) call
 -- Terms that are strict, or not, and whose promise is that of the macro.
 pub record AreTerms (is_strict : Bool) (call : Call) (terms : Terms) : Type 0 where
   pub strict : terms.is_strict ≡ is_strict
-  pub premise : IsPremise call.found.fields.size call.found.fields.commands terms.promise.premise.last
+  pub premise : IsPremise call.promise.size call.promise.commands terms.bound.premise.last
 
 -- something is done on such terms
 abbrev pub OnTerms : Bool → Call → (Order → Type 0) → Type 0
@@ -34,5 +35,5 @@ abbrev pub StrictRunsAreSure : Type 0
 StrictRunsAreSure =
     (terms : Terms) (call : Call) (old new : World) (stop : Stop) → AreStrict terms call
     → AdmittedStops (on_terms terms call) old stop new
-    → IsSure (value call.found.fields.commands (n_of (loaded call.found.library old))) stop
-    ⊎ IsNotRun call.found.fields.needs old stop new
+    → IsSure (value call.promise.commands (n_of (loaded call.promise.library old))) stop
+    ⊎ IsNotRun call.promise.needs old stop new

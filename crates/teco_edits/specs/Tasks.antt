@@ -1,4 +1,5 @@
 -- What a task is about, and what is printed where it is refused.
+use Rattle.teco_verify.specs.Promised.{promise_of}
 use Rattle.std.specs.Prelude.{ℕ, ◌≡◌, ◌⊎◌, ⊤, List, codes, Option, Some, None, Result, Ok, Err}
 use Rattle.std.specs.Io.KnownBytes.{Appends}
 use Rattle.teco_apply.specs.Sure.{Call}
@@ -56,7 +57,7 @@ pub record EditsNone (files after : Telling) (begun left : Trace) (result : Resu
 
 -- the macro of a task, which is accepted, and the argument that it is given
 abbrev pub task_call : Task → Finding → Call
-task_call task found = record { found = found; given = task.argument }
+task_call task found = record { promise = promise_of found; given = task.argument }
 
 -- a file is edited by the macro of a library that is accepted
 pub record EditsAccepted (task : Task) (library : LibraryFile) (names : Names) (files after : Telling)

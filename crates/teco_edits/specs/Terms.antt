@@ -6,7 +6,7 @@ use Rattle.teco_verdicts.specs.Premise.{IsWithin}
 -- at an N that is told the promise holds
 abbrev pub IsPromised : Terms → Option ℕ → Type 0
 IsPromised terms None = ⊥
-IsPromised terms (Some n) = IsWithin terms.promise.premise.last n
+IsPromised terms (Some n) = IsWithin terms.bound.premise.last n
 
 -- what is held, and what is unread at most, if that is told
 abbrev pub n_at_most : ℕ → Option ℕ → Option ℕ

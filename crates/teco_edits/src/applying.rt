@@ -12,9 +12,10 @@ ghost use Rattle.teco_pages.specs.HostFiles.{Notes};
 ghost use Rattle.teco_run.specs.Holdings.{Joined};
 ghost use Rattle.teco_verdicts.specs.Premise.{IsPremise};
 ghost use Rattle.teco_verdicts.specs.declared.outcome.Outcome.TheVariants.{Refused};
+ghost use Rattle.teco_verify.specs.Promised.{promise_of};
 
 use crate::names::Names;
-use crate::promise::Promise;
+use crate::bound::Bound;
 use crate::subject::{Subject, read_subject, refuse_subject, warn_empty};
 use crate::watching::{Seen, Terms, Warden, Watch};
 use std::alloc::Global;
@@ -116,11 +117,11 @@ impl<'a> Job<'a> {
     fn terms(self) -> Terms
         ensures strict { result.is_strict ≡ self.entry.task.now.is_strict }
         ensures premise { IsPremise self.entry.verified.now.fields.size self.entry.verified.now.fields.commands
-            result.promise.premise.last }
+            result.bound.premise.last }
     {
         let is_first = matches!(self.task.pages, Pages::First);
         Terms {
-            promise: Promise::of(self.verified),
+            bound: Bound::of(self.verified),
             is_strict: self.task.is_strict,
             wants_all: self.task.wants_all && is_first && !self.turns_pages(),
         }
@@ -174,13 +175,13 @@ fn edit_observed<H: Host, O: Write, V: Observer<H>>(
     observer: &mut V,
 ) -> Result<Edited, SessionFault>
     ensures edits { OnTerms work.entry.job.task.now.is_strict
-        (record { found = work.entry.job.verified.now; given = work.entry.job.task.now.argument })
+        (record { promise = promise_of work.entry.job.verified.now; given = work.entry.job.task.now.argument })
         (λ order. Joined (λ old new. FileEdited work.entry.job.task.now.pages order
         work.entry.names.source.now work.entry.names.target.now old new (H.failures host.old) (H.failures host.new)
         (O.contents out.old) (O.contents out.new) result)
         machine.old machine.new (H.files host.old) (H.files host.new)) }
     ensures touches { EditTouches
-        (record { found = work.entry.job.verified.now; given = work.entry.job.task.now.argument })
+        (record { promise = promise_of work.entry.job.verified.now; given = work.entry.job.task.now.argument })
         work.entry.names.source.now work.entry.names.target.now result
         machine.old machine.new (H.files host.old) (H.files host.new) }
 {
@@ -188,7 +189,7 @@ fn edit_observed<H: Host, O: Write, V: Observer<H>>(
     let terms = job.terms();
     let edit = Edit {
         alloc: job.alloc,
-        verified: job.verified,
+        promise: job.verified.promise(),
         source: names.source,
         target: names.target,
         given: job.task.argument,
@@ -291,7 +292,7 @@ fn rewrite_observed<H: Host + Drop, O: Write, E: Ending, V: Observer<H>>(
     requires fresh { H.files host ≡ Notes [] }
     requires name { length work.name.now < NAME }
     ensures edits { OnTerms work.entry.job.task.now.is_strict
-        (record { found = work.entry.job.verified.now; given = work.entry.job.task.now.argument })
+        (record { promise = promise_of work.entry.job.verified.now; given = work.entry.job.task.now.argument })
         (λ order. IsRewritten work.entry.job.task.now.pages order work.entry.name.now E.replaces
         machine.old machine.new (H.files result.host) (H.failures host)
         (O.contents out.old) (O.contents out.new) result.edited) }
@@ -300,7 +301,7 @@ fn rewrite_observed<H: Host + Drop, O: Write, E: Ending, V: Observer<H>>(
     let terms = job.terms();
     let rewrite = Rewrite {
         alloc: job.alloc,
-        verified: job.verified,
+        promise: job.verified.promise(),
         name,
         given: job.task.argument,
         pages: job.task.pages,

@@ -3,6 +3,7 @@
 
 mod applying;
 mod backups;
+mod bound;
 mod choosing;
 mod diff;
 mod editing;
@@ -15,7 +16,6 @@ mod opening;
 mod pattern;
 mod preview;
 mod progress;
-mod promise;
 mod subject;
 mod tracing;
 mod typed;

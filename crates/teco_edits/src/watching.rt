@@ -2,7 +2,7 @@
 ghost use Rattle.std.specs.Prelude.{◌≡◌, Some, IfSome, IsTrue};
 ghost use Rattle.teco_edits.specs.Terms.{Answers, IsPromised, n_at_most};
 
-use crate::promise::Promise;
+use crate::bound::Bound;
 use std::fmt;
 use std::io::Write;
 use teco_apply::{Asked, Guard, Observer};
@@ -37,8 +37,8 @@ pub const NOTHING_SEEN: Seen = Seen {
 /// On which terms the runs of a macro on a file begin.
 #[derive(Clone, Copy)]
 pub struct Terms {
-    /// What the macro promises.
-    pub promise: Promise,
+    /// The most commands that the macro promises to take.
+    pub bound: Bound,
     /// Is a run outside the promise refused?
     pub is_strict: bool,
     /// Is a run refused behind which bytes stay unread?
@@ -51,7 +51,7 @@ impl Terms {
         ensures { IsTrue result → IsPromised self n }
     {
         match n {
-            Some(n) => self.promise.premise.holds_at(u128::from(n)),
+            Some(n) => self.bound.premise.holds_at(u128::from(n)),
             None => false,
         }
     }
@@ -125,8 +125,8 @@ impl<'a, E: Write + Drop> Warden<'a, E> {
 
     // Counts a run at an N.
     fn count(&mut self, n: Option<u64>) {
-        let promise = self.watch.terms.promise;
-        let bound = n.and_then(|n| promise.bound_at(n));
+        let most = self.watch.terms.bound;
+        let bound = n.and_then(|n| most.at(n));
         self.seen.most = match (self.seen.most, n) {
             (Some(most), Some(n)) => Some(most.max(n)),
             _ => None,
@@ -139,7 +139,7 @@ impl<'a, E: Write + Drop> Warden<'a, E> {
 
     // Says where a run at this N is outside the promise, with the length of the file.
     fn tell_promise(&mut self, n: Option<u64>, length: Option<u64>) {
-        let premise = self.watch.terms.promise.premise;
+        let premise = self.watch.terms.bound.premise;
         match n {
             Some(n) if !premise.holds_at(u128::from(n)) => {
                 let name = Shown(self.watch.name);

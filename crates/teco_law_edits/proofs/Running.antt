@@ -99,10 +99,10 @@ none_missing needed None open_file missing = absurd (cc)
 none_missing needed (Some x) open_file missing = absurd (grind arith)
 
 not_run_beyond : (most : ℕ) (call : Call) (old new : World) (answer : Stop) → IsOpen most old.files
-    → IsNotRun call.found.fields.needs old answer new → IsBeyond answer
+    → IsNotRun call.promise.needs old answer new → IsBeyond answer
 not_run_beyond most call old new answer open_files n = by n.why n.stopped n.lacks
   where
-    by : (why : NotReady) → answer ≡ stop_of why → Lacks call.found.fields.needs old.files why → IsBeyond answer
+    by : (why : NotReady) → answer ≡ stop_of why → Lacks call.promise.needs old.files why → IsBeyond answer
     by not_ready.NoInput is lacks = absurd (none_missing _ old.files.input open_files.input lacks)
     by not_ready.NoOutput is lacks = absurd (none_missing _ old.files.output open_files.output lacks)
     by not_ready.Argument is lacks = absurd lacks

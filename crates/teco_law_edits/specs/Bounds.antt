@@ -4,20 +4,21 @@ use Rattle.teco_apply.specs.Apply.{AnswersText, Course, opening}
 use Rattle.teco_apply.specs.ByPages.{Behind, BehindMacro, BehindPage, Closing, EachPage, EditCourse}
 use Rattle.teco_apply.specs.ByPages.{EditsFile, EditsPages, EditsText, FromStart, Gathers, Once, Order, PagesTurned}
 use Rattle.teco_apply.specs.ByPages.{nothing_done, to_start}
-use Rattle.teco_apply.specs.Sure.{Call, loaded, n_of}
+use Rattle.teco_apply.specs.Sure.{Call, loaded}
 use Rattle.teco_apply.specs.declared.by_pages.Edited.{Edited}
 use Rattle.teco_apply.specs.declared.by_pages.Pages.{Pages}
 use Rattle.teco_apply.specs.declared.by_pages.Pages.TheVariants as pages
 use Rattle.teco_apply.specs.declared.stages.Tally.{Tally}
 use Rattle.teco_edits.specs.Strict.{AreStrict, on_terms}
 use Rattle.teco_edits.specs.declared.watching.Terms.{Terms}
+use Rattle.teco_law_tables.specs.Verified.{n_of}
 use Rattle.teco_model.specs.State.{World}
 use Rattle.teco_poly.specs.Polynomial.{value}
 use Rattle.teco_session.specs.declared.fault.SessionFault.{SessionFault}
 
 -- the printed number of commands of a run that begins here
 abbrev pub bound_at : Order → World → ℕ
-bound_at order old = value order.call.found.fields.commands (n_of (loaded order.call.found.library old))
+bound_at order old = value order.call.promise.commands (n_of (loaded order.call.promise.library old))
 
 -- of the runs on the pages that were turned
 abbrev pub turned_bound : (order : Order) (old : World) (f : ℕ) (sink : Option (List ℕ)) (done : Tally) (mid : World)

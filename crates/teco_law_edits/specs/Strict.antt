@@ -18,7 +18,7 @@ use Rattle.teco_model.specs.declared.stop.Stop.TheVariants as stop
 -- a run is admitted only where the macro is ready
 abbrev pub IsStrict : Order → Type 0
 IsStrict order =
-    (old : World) → IsAnswered order old true → IsReady order.call.found.fields (loaded order.call.found.library old)
+    (old : World) → IsAnswered order old true → IsReady order.call.promise (loaded order.call.promise.library old)
 
 -- names that a command string can give, and not one name
 pub record AreNames (source target : List ℕ) : Type 0 where

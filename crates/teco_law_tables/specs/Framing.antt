@@ -1,5 +1,5 @@
--- What a run of a macro with a closed table leaves: registers that no element of the macro names, the search mode, where
--- none may set it, and the push-down list of its entry.
+-- What a run of a macro with a closed table leaves: registers that no element of the macro names, the search
+-- mode, where none may set it, and the push-down list of its entry.
 use Rattle.std.specs.Prelude.{◌≡◌, ◌≢◌, ℕ, List, ◌++◌, Bool, false, Option, Some, None}
 use Rattle.teco_law_expansion.specs.Given.{call_given}
 use Rattle.teco_law_expansion.specs.Linked.{AreLinked}

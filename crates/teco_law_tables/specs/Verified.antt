@@ -1,9 +1,9 @@
 -- A macro whose table is closed runs to its end without a code, within the printed number of commands, from each
 -- state with the needed files open in which the printed size may be held, and with each argument in the range that
 -- is declared.
-use Rattle.std.specs.Prelude.{ℕ, ◌<◌, ◌≤◌, List, Option}
+use Rattle.std.specs.Prelude.{ℕ, ◌+◌, ◌<◌, ◌≤◌, List, Option}
 use Rattle.teco_base.specs.declared.TheConstants.{LIMIT, REGISTERS}
-use Rattle.teco_model.specs.State.{World, start}
+use Rattle.teco_model.specs.State.{World, held_length, start}
 use Rattle.teco_law_expansion.specs.Given.{call_given}
 use Rattle.teco_model.specs.Macros.{Library, IsLoaded, call_of, ArgumentRange, IsAsked}
 use Rattle.teco_law_expansion.specs.Linked.{AreLinked}
@@ -19,6 +19,10 @@ use Rattle.teco_verifier.specs.table.Printed.{needs_in, IsPrinted}
 use Rattle.teco_verifier.specs.table.Table.{Table}
 use Rattle.teco_verifier.specs.declared.rules.Rules.{Rules}
 use Rattle.teco_verifier.specs.facts.Facts.{entry_of}
+
+-- N: what is held, and what is unread
+abbrev pub n_of : World → ℕ
+n_of world = held_length world.kept + unread_of world
 
 -- where a run begins
 pub record IsReady (library : Library) (entry : ℕ) (most : Polynomial) (n : ℕ) (world : World) : Type 0 where

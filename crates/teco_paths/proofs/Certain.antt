@@ -14,7 +14,7 @@ use Rattle.teco_law_facts.specs.SoundSteps.{AreOpen}
 use Rattle.teco_law_facts.specs.Wholeness.{AreWholeArguments}
 use Rattle.teco_law_tables.specs.Ending.{start_given}
 use Rattle.teco_law_tables.specs.Staying.{is_of_files, changes_files, NoFileCommands}
-use Rattle.teco_law_tables.specs.Verified.{IsReady}
+use Rattle.teco_law_tables.specs.Verified.{IsReady, n_of}
 use Rattle.teco_model.specs.Element.{Element}
 use Rattle.teco_model.specs.Files.{Input}
 use Rattle.teco_model.specs.Macros.{Library, ArgumentRange, IsAsked, IsLoaded, Needs, macro}
@@ -28,7 +28,7 @@ use Rattle.teco_paths.specs.Entry.{HaveLengths, IsEntered, IsEntryCut}
 use Rattle.teco_paths.specs.Paths as paths
 use Rattle.teco_paths.specs.Paths.{Course, IsFollowed, Leads}
 use Rattle.teco_paths.specs.Runs.{Ground, IsAt, EndsBy, held_in}
-use Rattle.teco_paths.specs.Sure.{n_of, AreLengths, CertainEnd, IsCertain}
+use Rattle.teco_paths.specs.Sure.{AreLengths, CertainEnd, IsCertain}
 use Rattle.teco_paths.specs.Symbols.{numbers_of}
 use Rattle.teco_paths.proofs.Ending.{run_ends}
 use Rattle.teco_paths.proofs.Walking.{none_more, none_on, none_yet, one_step, reached_none, reaches_here, reaches_on}

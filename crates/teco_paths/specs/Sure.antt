@@ -1,20 +1,15 @@
 -- A macro whose claims hang together runs to its end, without a code, within the printed number of commands.
-use Rattle.std.specs.Prelude.{◌≡◌, ℕ, ◌+◌, List, map, length, Option, option_map}
+use Rattle.std.specs.Prelude.{◌≡◌, ℕ, List, map, length, Option, option_map}
 use Rattle.teco_law_expansion.specs.Given.{call_given}
 use Rattle.teco_law_expansion.specs.Linked.{AreLinked}
 use Rattle.teco_law_facts.specs.SoundSteps.{AreOpen}
 use Rattle.teco_law_tables.specs.Ending.{EndsWithin}
-use Rattle.teco_law_tables.specs.Verified.{IsReady}
+use Rattle.teco_law_tables.specs.Verified.{IsReady, n_of}
 use Rattle.teco_model.specs.Macros.{Library, ArgumentRange, IsAsked, Needs}
-use Rattle.teco_model.specs.Paging.{unread_of}
-use Rattle.teco_model.specs.State.{World, held_length, start}
+use Rattle.teco_model.specs.State.{World, start}
 use Rattle.teco_paths.specs.Runs.{EndsBy}
 use Rattle.teco_poly.specs.Polynomial.{Polynomial, value}
 use Rattle.teco_verifier.specs.expansion.Node.{Node}
-
--- N: what is held, and what is unread
-abbrev pub n_of : World → ℕ
-n_of world = held_length world.kept + unread_of world
 
 -- the texts of a library are so long
 abbrev pub AreLengths : List (Option ℕ) → Library → Type 0

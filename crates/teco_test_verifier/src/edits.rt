@@ -133,7 +133,7 @@ fn edited_over(
     let mut seen = Watch::default();
     let edit = Edit {
         alloc,
-        verified,
+        promise: verified.promise(),
         source: b"in",
         target: b"out",
         given: None,

@@ -7,3 +7,4 @@ mod Nodes
 mod Judged
 mod Lengths
 mod Again
+mod Promised

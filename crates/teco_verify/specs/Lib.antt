@@ -1,6 +1,7 @@
 -- What is found of a macro.
 pub mod Given
 pub mod Certified
+pub mod Promised
 pub mod Straight
 pub mod Accepting
 pub mod Certifying

@@ -4,14 +4,18 @@ ghost use Rattle.std.specs.Option.{option_copied};
 ghost use Rattle.teco_certificate.specs.Text.{certificate_text};
 ghost use Rattle.teco_certificate.specs.WellFormed.{HasText};
 ghost use Rattle.teco_verify.specs.Certified.{IsCertified, bounds_of};
+ghost use Rattle.teco_verify.specs.Promised.{promise_of};
 
 use std::alloc::{AllocError, Global};
 use std::marker::Model;
 use teco_base::{REGISTERS, Reg};
 use teco_certificate::Certificate;
+use teco_law_expansion::laws::expansions_are_linked;
+use teco_law_tables::laws::runs_are_verified;
 use teco_library::Library;
 use teco_model::Needs;
 use teco_poly::Poly;
+use teco_promise::{Promise, Statement};
 use teco_verifier::Rules;
 
 /// A macro of a library that was verified: what its certificate says is so. It is seen as the
@@ -40,6 +44,23 @@ impl<'l> Verified<'l> {
         ensures { IsCertified self.now.library self.now.fields }
     {
         let _ = &self.certificate;
+    }
+
+    /// What it promises: each run ends in time, and without a code.
+    pub fn promise(&self) -> Promise<'l>
+        ensures { result ≡ promise_of self.now }
+    {
+        expansions_are_linked();
+        runs_are_verified();
+        let certificate = &self.certificate;
+        Promise::of(Statement {
+            library: self.library,
+            entry: certificate.entry,
+            argument: certificate.argument,
+            needs: certificate.needs,
+            commands: certificate.commands,
+            size: certificate.size,
+        })
     }
 
     /// The register that is called.

@@ -1,11 +1,12 @@
 use Rattle.teco_apply.proofs.FirstPage.{first-counts, first-page, said-fault}
 use Rattle.teco_apply.proofs.Parts.{first-touches}
+use Rattle.teco_verify.specs.Promised.{promise_of}
 use Rattle.teco_session.specs.declared.fault.SessionFault.TheVariants as fault
 use Rattle.teco_apply.proofs.first_page.apply.Goals as goal
 
 pub returns-clause-edits : goal.returns-clause-edits
 returns-clause-edits g c =
-    first-page (record { found = c.args.verified.now; given = c.args.given }) c.args.source.now c.args.target.now
+    first-page (record { promise = promise_of c.args.verified.now; given = c.args.given }) c.args.source.now c.args.target.now
     c.args.machine.now c.edit_file.new.machine (g.H.Host.files c.args.host.now) (g.H.Host.files c.edit_file.new.host)
     (g.H.Host.failures c.args.host.now) (g.H.Host.failures c.edit_file.new.host)
     (g.W.Write.contents c.args.writer.now) (g.W.Write.contents c.edit_file.new.writer)
@@ -25,6 +26,6 @@ returns-clause-argument g c =
 
 pub returns-clause-touches : goal.returns-clause-touches
 returns-clause-touches g c =
-    first-touches (record { found = c.args.verified.now; given = c.args.given }) c.args.source.now c.args.target.now
+    first-touches (record { promise = promise_of c.args.verified.now; given = c.args.given }) c.args.source.now c.args.target.now
     c.args.machine.now c.edit_file.new.machine (g.H.Host.files c.args.host.now) (g.H.Host.files c.edit_file.new.host)
     c.edit_file.result c.said.result (rw c.dropped.ensures at c.said.ensures) c.edit_file.ensures.touches

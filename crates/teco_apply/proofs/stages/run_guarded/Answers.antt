@@ -22,10 +22,10 @@ returns-then-not-asked-clause-stops g c =
 pub returns-clause-stops : goal.returns-clause-stops
 returns-clause-stops g c =
     let order : Order = order_by (g.G.Guard.answers c.args.order.now.guard.now) c.args.order.now.call.now in
-    Joined-admitted order c.args.machine.now c.make_ready.new.machine c.call_verified.new.machine
-    (g.H.Host.files c.args.host.now) (g.H.Host.files c.ask-asked.new.host) (g.H.Host.files c.call_verified.new.host)
-    c.ask-asked.result.admitted c.call_verified.result.stop c.in_default.ensures.loaded (search rules)
-    c.ask-asked.ensures.asked c.call_verified.ensures.calls
+    Joined-admitted order c.args.machine.now c.make_ready.new.machine c.call_promised.new.machine
+    (g.H.Host.files c.args.host.now) (g.H.Host.files c.ask-asked.new.host) (g.H.Host.files c.call_promised.new.host)
+    c.ask-asked.result.admitted c.call_promised.result.stop c.in_default.ensures.loaded (search rules)
+    c.ask-asked.ensures.asked c.call_promised.ensures.calls
 
 pub returns-then-not-asked-clause-touches : goal.returns-then-not-asked-clause-touches
 returns-then-not-asked-clause-touches g c =
@@ -35,9 +35,9 @@ returns-then-not-asked-clause-touches g c =
 
 pub returns-clause-touches : goal.returns-clause-touches
 returns-clause-touches g c =
-    called-touches c.args.order.now.call.now c.args.machine.now c.make_ready.new.machine c.call_verified.new.machine
-    (g.H.Host.files c.args.host.now) (g.H.Host.files c.ask-asked.new.host) (g.H.Host.files c.call_verified.new.host)
-    c.in_default.ensures.loaded c.ask-asked.ensures.touches c.call_verified.ensures.touches
+    called-touches c.args.order.now.call.now c.args.machine.now c.make_ready.new.machine c.call_promised.new.machine
+    (g.H.Host.files c.args.host.now) (g.H.Host.files c.ask-asked.new.host) (g.H.Host.files c.call_promised.new.host)
+    c.in_default.ensures.loaded c.ask-asked.ensures.touches c.call_promised.ensures.touches
 
 pub returns-in-Err-clause-touches : goal.returns-in-Err-clause-touches
 returns-in-Err-clause-touches g c =

@@ -1,4 +1,4 @@
-//! What a verified macro promises.
+//! How many commands a run takes at most.
 ghost use Rattle.std.specs.Prelude.{◌≡◌, IfSome};
 ghost use Rattle.teco_poly.specs.Polynomial.{value};
 ghost use Rattle.teco_verdicts.specs.Premise.{IsPremise, IsWithin};
@@ -7,29 +7,29 @@ use teco_poly::Poly;
 use teco_verdicts::Premise;
 use teco_verify::Verified;
 
-/// What a verified macro promises: to end within so many commands, for texts up to a length.
+/// The most commands of a run of a verified macro, and up to which N it takes no more.
 #[derive(Clone, Copy)]
-pub struct Promise {
+pub struct Bound {
     pub commands: Poly,
     pub premise: Premise,
 }
 
-impl Promise {
-    /// The promise of a verified macro.
-    pub fn of(verified: &Verified<'_>) -> Promise
+impl Bound {
+    /// The bound of a verified macro.
+    pub fn of(verified: &Verified<'_>) -> Bound
         ensures commands { result.commands ≡ verified.now.fields.commands }
         ensures premise { IsPremise verified.now.fields.size verified.now.fields.commands
             result.premise.last }
     {
         let commands = verified.commands();
-        Promise {
+        Bound {
             commands,
             premise: Premise::of_macro(verified),
         }
     }
 
-    /// Within how many commands it ends at this N, if it promises that.
-    pub fn bound_at(&self, n: u64) -> Option<u64>
+    /// Within how many commands a run at this N ends, if that is promised.
+    pub fn at(&self, n: u64) -> Option<u64>
         ensures { IfSome result (λ most. IsWithin self.now.premise.last n
             × (value self.now.commands n ≡ most)) }
     {

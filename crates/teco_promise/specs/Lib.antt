@@ -1,0 +1,2 @@
+-- What is promised of a macro.
+pub mod Promise

@@ -1,0 +1,18 @@
+-- What is certified is promised.
+use Rattle.std.proofs.Common.{◌≡◌, ℕ, Option, subst}
+use Rattle.teco_law_expansion.specs.Linked.{ExpansionsAreLinked}
+use Rattle.teco_law_facts.specs.SoundSteps.{AreOpen}
+use Rattle.teco_law_tables.specs.Verified.{RunsAreVerified, n_of}
+use Rattle.teco_promise.specs.Promise.{EachRunEnds}
+use Rattle.teco_verifier.specs.certificate.Fields.{Finding}
+use Rattle.teco_verify.specs.Certified.{IsCertified}
+use Rattle.teco_verify.specs.Promised.{promise_of}
+
+pub certified_ends : ExpansionsAreLinked → RunsAreVerified → (found : Finding) → IsCertified found.library found.fields
+    → EachRunEnds (promise_of found)
+certified_ends linked verified found certified given world asked ready opened =
+    let fields = found.fields in
+    verified found.library fields.entry fields.rules fields.argument given certified.nodes certified.table
+    fields.commands fields.size (n_of world) world
+    (linked found.library fields.entry certified.nodes certified.expanded) certified.printed asked ready
+    (subst (λ needs. AreOpen needs world.files) certified.needs_are opened)

@@ -1,0 +1,14 @@
+-- What is promised of a macro that is certified.
+use Rattle.teco_promise.specs.Promise.{Promise}
+use Rattle.teco_verifier.specs.certificate.Fields.{Finding}
+
+-- what the certificate says, but not by which rules it was found
+abbrev pub promise_of : Finding → Promise
+promise_of found = record {
+  library = found.library;
+  entry = found.fields.entry;
+  argument = found.fields.argument;
+  needs = found.fields.needs;
+  commands = found.fields.commands;
+  size = found.fields.size;
+}
