@@ -44,7 +44,7 @@ pub struct Edit<'a, G: Guard> {
     /// What the memory of its first command string comes from.
     pub alloc: Global,
     /// What is promised of the macro that edits it.
-    pub promise: Promise<'a>,
+    pub promise: &'a Promise<'a>,
     /// The name of the file.
     pub source: &'a [u8],
     /// The name of the file that is made.
@@ -309,20 +309,20 @@ pub fn edit_file<T: TextStore, H: Host, W: Write, G: Guard, O: Observer<H>>(
     requires target { length edit.now.target.now ≤ NAME }
     ensures edits { Joined (λ old new. FileEdited edit.now.pages
         (order_by (G.answers edit.now.guard.now)
-        (record { promise = edit.now.promise; given = edit.now.given }))
+        (record { promise = edit.now.promise.now; given = edit.now.given }))
         edit.now.source.now edit.now.target.now old new
         (H.failures host.old) (H.failures host.new)
         (W.contents writer.old) (W.contents writer.new) result)
         machine.old machine.new (H.files host.old) (H.files host.new) }
-    ensures touches { EditTouches (record { promise = edit.now.promise; given = edit.now.given })
+    ensures touches { EditTouches (record { promise = edit.now.promise.now; given = edit.now.given })
         edit.now.source.now edit.now.target.now result
         machine.old machine.new (H.files host.old) (H.files host.new) }
     ensures argument { (result ≡ Err fault.Argument)
-        ↔ (¬ IsTaken edit.now.promise.argument edit.now.given) }
+        ↔ (¬ IsTaken edit.now.promise.now.argument edit.now.given) }
     ensures counted { FileCounts result (H.failures host.old) (H.failures host.new) }
 {
     notes_fit();
-    if !takes(&edit.promise, edit.given) {
+    if !takes(edit.promise, edit.given) {
         return Err(SessionFault::Argument);
     }
     let opening = opening(edit.alloc, edit.source, edit.target)?;

@@ -63,9 +63,10 @@ pub fn apply<T: TextStore, H: Host, W: Write>(
         ↔ (¬ IsTaken verified.now.fields.argument given) }
     ensures counted { EditCounts result (H.failures host.old) (H.failures host.new) }
 {
+    let promise = verified.promise();
     let edit = Edit {
         alloc,
-        promise: verified.promise(),
+        promise: &promise,
         source,
         target,
         given,

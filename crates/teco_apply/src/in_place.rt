@@ -28,7 +28,7 @@ pub struct Rewrite<'a, G: Guard, E: Ending> {
     /// What the memory of its first command string comes from.
     pub alloc: Global,
     /// What is promised of the macro that edits it.
-    pub promise: Promise<'a>,
+    pub promise: &'a Promise<'a>,
     /// The name of the file.
     pub name: &'a [u8],
     /// The macro's argument.
@@ -89,15 +89,15 @@ pub fn edit_in_place<T: TextStore, H: Host + Drop, W: Write, G: Guard, E: Ending
     requires name { length rewrite.now.name.now < NAME }
     requires fresh { H.files host ≡ Notes [] }
     ensures edits { IsRewritten rewrite.now.pages (order_by (G.answers rewrite.now.guard.now)
-        (record { promise = rewrite.now.promise; given = rewrite.now.given }))
+        (record { promise = rewrite.now.promise.now; given = rewrite.now.given }))
         rewrite.now.name.now E.replaces machine.old machine.new (H.files result.host)
         (H.failures host) (W.contents writer.old) (W.contents writer.new) result.edited }
     ensures argument { (result.edited ≡ Err fault.Argument)
-        ↔ (¬ IsTaken rewrite.now.promise.argument rewrite.now.given) }
+        ↔ (¬ IsTaken rewrite.now.promise.now.argument rewrite.now.given) }
 {
     files_are_replaced();
     notes_fit();
-    if !takes(&rewrite.promise, rewrite.given) {
+    if !takes(rewrite.promise, rewrite.given) {
         return Rewritten {
             edited: Err(SessionFault::Argument),
             host,

@@ -23,9 +23,9 @@ use teco_text::TextStore;
 use teco_verify::Verified;
 
 /// What is promised of a macro, and the argument that it is given.
-#[derive(Clone, Copy)]
+#[derive(Drop)]
 pub struct Call<'a> {
-    pub promise: Promise<'a>,
+    pub promise: &'a Promise<'a>,
     pub given: Option<i32>,
 }
 
@@ -34,7 +34,7 @@ impl<'a> Model for Call<'a> {
 
     ghost Value = { model.Call };
 
-    ghost view = { λ c. record { promise = c.promise; given = c.given } };
+    ghost view = { λ c. record { promise = c.promise.now; given = c.given } };
 }
 
 // How long the text of a call may be: a number's text, and two characters.
@@ -109,7 +109,7 @@ pub fn make_ready<T: TextStore>(machine: &mut Machine<T>, call: &Call<'_>) -> Re
     if needs.output && !machine.has_output() {
         return Err(NotReady::NoOutput);
     }
-    if !takes(&call.promise, call.given) {
+    if !takes(call.promise, call.given) {
         return Err(NotReady::Argument);
     }
     machine.is_whole();
@@ -166,8 +166,9 @@ pub fn run_verified<T: TextStore, H: Host>(
         (IsReadyLoaded (record { promise = promise_of verified.now; given = None }))
         machine.old machine.new (H.files host.old) (H.files host.new)) }
 {
+    let promise = verified.promise();
     let call = Call {
-        promise: verified.promise(),
+        promise: &promise,
         given: None,
     };
     run_promised(machine, &call, host)
@@ -194,8 +195,9 @@ pub fn run_verified_with<T: TextStore, H: Host>(
         (IsReadyLoaded (record { promise = promise_of verified.now; given = Some n }))
         machine.old machine.new (H.files host.old) (H.files host.new)) }
 {
+    let promise = verified.promise();
     let call = Call {
-        promise: verified.promise(),
+        promise: &promise,
         given: Some(n),
     };
     run_promised(machine, &call, host)

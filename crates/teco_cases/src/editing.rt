@@ -119,9 +119,10 @@ impl<'a> Trial<'a> {
         host: &mut H,
         typed: &mut Vec<u8>,
     ) -> Result<(u64, u64), SessionFault> {
+        let promise = self.task.verified.promise();
         let edit = Edit {
             alloc: self.alloc,
-            promise: self.task.verified.promise(),
+            promise: &promise,
             source: SOURCE,
             target: TARGET,
             given: self.task.argument,

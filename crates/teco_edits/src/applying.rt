@@ -187,9 +187,10 @@ fn edit_observed<H: Host, O: Write, V: Observer<H>>(
 {
     let Work { job, names } = work;
     let terms = job.terms();
+    let promise = job.verified.promise();
     let edit = Edit {
         alloc: job.alloc,
-        promise: job.verified.promise(),
+        promise: &promise,
         source: names.source,
         target: names.target,
         given: job.task.argument,
@@ -299,9 +300,10 @@ fn rewrite_observed<H: Host + Drop, O: Write, E: Ending, V: Observer<H>>(
 {
     let OneWork { job, name, ending } = work;
     let terms = job.terms();
+    let promise = job.verified.promise();
     let rewrite = Rewrite {
         alloc: job.alloc,
-        promise: job.verified.promise(),
+        promise: &promise,
         name,
         given: job.task.argument,
         pages: job.task.pages,

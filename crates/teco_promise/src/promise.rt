@@ -9,7 +9,7 @@ use teco_model::{ArgumentRange, Needs};
 use teco_poly::Poly;
 
 /// What is said of a macro of a library.
-#[derive(Clone, Copy)]
+#[derive(Drop)]
 pub struct Statement<'l> {
     /// The library, whose texts are loaded before a run.
     pub library: &'l Library,
@@ -40,8 +40,8 @@ impl<'l> Model for Statement<'l> {
     } };
 }
 
-/// Statement of which it was proved that each run ends in time, and without a code.
-#[derive(Clone, Copy)]
+/// A statement of which it was proved that each run ends in time, and without a code.
+#[derive(Drop)]
 pub struct Promise<'l> {
     statement: Statement<'l>,
 }

@@ -131,9 +131,10 @@ fn edited_over(
     let mut machine = Machine::new(alloc, VecText::new(alloc));
     let mut written = Vec::new(alloc);
     let mut seen = Watch::default();
+    let promise = verified.promise();
     let edit = Edit {
         alloc,
-        promise: verified.promise(),
+        promise: &promise,
         source: b"in",
         target: b"out",
         given: None,

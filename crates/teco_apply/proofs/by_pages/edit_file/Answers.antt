@@ -12,7 +12,7 @@ returns-clause-edits g c =
     let text = rw (c.as_slice.ensures.value, c.in_ok-opening.ensures) at c.edit_opened-edited.ensures.edits in
     Joined-file c.args.edit.now.pages
     (order_by (g.G.Guard.answers c.args.edit.now.guard.now)
-    (record { promise = c.args.edit.now.promise; given = c.args.edit.now.given })) c.args.edit.now.source.now
+    (record { promise = c.args.edit.now.promise.now; given = c.args.edit.now.given })) c.args.edit.now.source.now
     c.args.edit.now.target.now
     c.args.machine.now c.edit_opened-edited.new.machine c.drop_if_coded.new.machine
     (g.H.Host.files c.args.host.now) (g.H.Host.files c.edit_opened-edited.new.host)
@@ -28,7 +28,7 @@ returns-then-not-takes-clause-edits g c =
     let sink = g.W.Write.contents c.args.writer.now in
     (Joined-stays (λ (old : World) (new : World). FileEdited c.args.edit.now.pages
     (order_by (g.G.Guard.answers c.args.edit.now.guard.now)
-    (record { promise = c.args.edit.now.promise; given = c.args.edit.now.given })) c.args.edit.now.source.now
+    (record { promise = c.args.edit.now.promise.now; given = c.args.edit.now.given })) c.args.edit.now.source.now
     c.args.edit.now.target.now old new failures failures sink sink (Err fault.Argument)) c.args.machine.now
     (g.H.Host.files c.args.host.now) (λ world. (refl, search rules)))
 
@@ -39,13 +39,13 @@ returns-in_err-opening-clause-edits g c =
     let sink = g.W.Write.contents c.args.writer.now in
     rw is (Joined-stays (λ (old : World) (new : World). FileEdited c.args.edit.now.pages
     (order_by (g.G.Guard.answers c.args.edit.now.guard.now)
-    (record { promise = c.args.edit.now.promise; given = c.args.edit.now.given })) c.args.edit.now.source.now
+    (record { promise = c.args.edit.now.promise.now; given = c.args.edit.now.given })) c.args.edit.now.source.now
     c.args.edit.now.target.now old new failures failures sink sink (Err fault.Memory)) c.args.machine.now
     (g.H.Host.files c.args.host.now) (λ world. (refl, search rules)))
 
 pub returns-clause-touches : goal.returns-clause-touches
 returns-clause-touches g c =
-    edit-touches c.notes_fit.ensures (record { promise = c.args.edit.now.promise; given = c.args.edit.now.given })
+    edit-touches c.notes_fit.ensures (record { promise = c.args.edit.now.promise.now; given = c.args.edit.now.given })
     c.args.edit.now.source.now c.args.edit.now.target.now c.edit_opened-edited.result
     c.args.machine.now c.edit_opened-edited.new.machine c.drop_if_coded.new.machine
     (g.H.Host.files c.args.host.now) (g.H.Host.files c.edit_opened-edited.new.host)
@@ -57,4 +57,4 @@ returns-clause-touches g c =
     (λ same. subst (λ r. PagesCount r (g.H.Host.failures c.args.host.now)
     (g.H.Host.failures c.edit_opened-edited.new.host)) same c.edit_opened-edited.ensures.counted)
     (rw (c.as_slice.ensures.value, c.in_ok-opening.ensures) at c.edit_opened-edited.ensures.touches)
-    (c.drop_if_coded.ensures.touches (record { promise = c.args.edit.now.promise; given = c.args.edit.now.given }))
+    (c.drop_if_coded.ensures.touches (record { promise = c.args.edit.now.promise.now; given = c.args.edit.now.given }))

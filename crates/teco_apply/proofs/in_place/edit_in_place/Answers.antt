@@ -10,7 +10,7 @@ pub returns-then-not-takes-clause-edits : goal.returns-then-not-takes-clause-edi
 returns-then-not-takes-clause-edits g c =
     unedited c.notes_fit.ensures c.files_are_replaced.ensures c.args.rewrite.now.pages
     (order_by (g.G.Guard.answers c.args.rewrite.now.guard.now)
-    (record { promise = c.args.rewrite.now.promise; given = c.args.rewrite.now.given }))
+    (record { promise = c.args.rewrite.now.promise.now; given = c.args.rewrite.now.given }))
     c.args.rewrite.now.name.now g.E.Ending.replaces c.args.machine.now (g.H.Host.files c.args.host)
     (g.H.Host.failures c.args.host) (g.W.Write.contents c.args.writer.now) fault.Argument c.requires.fresh
     (λ old. (refl, search rules))
@@ -19,14 +19,14 @@ pub returns-in_default-clause-edits : goal.returns-in_default-clause-edits
 returns-in_default-clause-edits g c =
     unedited c.notes_fit.ensures c.files_are_replaced.ensures c.args.rewrite.now.pages
     (order_by (g.G.Guard.answers c.args.rewrite.now.guard.now)
-    (record { promise = c.args.rewrite.now.promise; given = c.args.rewrite.now.given }))
+    (record { promise = c.args.rewrite.now.promise.now; given = c.args.rewrite.now.given }))
     c.args.rewrite.now.name.now g.E.Ending.replaces c.args.machine.now (g.H.Host.files c.args.host)
     (g.H.Host.failures c.args.host) (g.W.Write.contents c.args.writer.now) fault.Memory c.requires.fresh
     (λ old. (refl, search rules))
 
 pub returns-clause-edits : goal.returns-clause-edits
 returns-clause-edits g c =
-    let call : Call = record { promise = c.args.rewrite.now.promise; given = c.args.rewrite.now.given } in
+    let call : Call = record { promise = c.args.rewrite.now.promise.now; given = c.args.rewrite.now.given } in
     let files = c.edit_file-edited.new.host in
     rewritten-from c.notes_fit.ensures c.files_are_replaced.ensures c.args.rewrite.now.pages
     (order_by (g.G.Guard.answers c.args.rewrite.now.guard.now) call) c.args.rewrite.now.name.now g.E.Ending.replaces

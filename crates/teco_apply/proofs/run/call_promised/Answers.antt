@@ -13,7 +13,7 @@ use Rattle.teco_apply.proofs.run.call_promised.Goals as goal
 
 pub returns-clause-calls : goal.returns-clause-calls
 returns-clause-calls g c =
-    let call : Call = record { promise = c.call.inside.promise; given = c.call.inside.given } in
+    let call : Call = record { promise = c.call.inside.promise.now; given = c.call.inside.given } in
     let same : call ≡ c.args.call.now = c.call.view_is in
     let old = c.args.machine.now in
     let new = c.run_to_stop.new.self in
@@ -38,7 +38,7 @@ returns-clause-calls g c =
 
 pub returns-clause-touches : goal.returns-clause-touches
 returns-clause-touches g c =
-    let call : Call = record { promise = c.call.inside.promise; given = c.call.inside.given } in
+    let call : Call = record { promise = c.call.inside.promise.now; given = c.call.inside.given } in
     let same : call ≡ c.args.call.now = c.call.view_is in
     let old = c.args.machine.now in
     let new = c.run_to_stop.new.self in
