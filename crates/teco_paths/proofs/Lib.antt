@@ -16,6 +16,7 @@ pub mod Sifting
 pub mod Polynomials
 pub mod Onward
 pub mod Sharpening
+pub mod Halving
 pub mod Always
 pub mod Beginning
 pub mod Certain

@@ -1,8 +1,10 @@
 -- One step of a path.
 use Rattle.std.specs.Prelude.{◌≡◌, ◌≢◌, ℕ, ◌+◌, ◌≤◌, ◌<◌, List, length, Bool, true, false, Option, Some, None, ◌⊎◌, ⊤}
+use Rattle.std.specs.Prelude.{pos, ◌-ℤ◌}
 use Rattle.std.specs.List.{All, Any}
 use Rattle.teco_law_expansion.specs.Linked.{AreLinked}
 use Rattle.teco_linear.specs.declared.term.Term.{Term}
+use Rattle.teco_linear.specs.Form as linear
 use Rattle.teco_linear.specs.Form.{Valuation}
 use Rattle.teco_linear.specs.Implied.{Holds, Implies}
 use Rattle.teco_law_facts.specs.SoundSteps.{AreOpen}
@@ -159,6 +161,10 @@ pub record IsAskedAt (nodes : List Node) (needs : Needs) (number : ℕ) (e : Ele
 abbrev pub IsWith : Case → List Term → Case → Type 0
 IsWith case form more =
     (n : ℕ) (v : Valuation) (s : Point) → IsTrueOf n v case s → Holds n v form → IsTrueOf n v more s
+
+-- of two forms one is at least 0
+abbrev pub AreHalves : List Term → List Term → Type 0
+AreHalves ahead end = (n : ℕ) (v : Valuation) → linear.value ahead n v ≡ pos 0 -ℤ linear.value end n v -ℤ pos 1
 
 -- the other case describes each whole state that this one does
 abbrev pub IsSharper : Case → Case → Type 0

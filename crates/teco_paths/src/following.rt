@@ -7,6 +7,7 @@ ghost use Rattle.teco_paths.specs.Paths.{Arrives, IsFollowed, Leads, LeadsOn};
 use crate::course::Course;
 use crate::cut::{Cut, case_of, comes_to};
 use crate::fault::PathFault;
+use crate::halves::halves;
 use crate::sharp::sharpened;
 use crate::spot::Spot;
 use crate::steps::{behind, is_in_time, is_small};
@@ -75,7 +76,7 @@ fn spots_ahead(course: &Course<'_>, spot: &Spot, alloc: Global) -> Result<Vec<Sp
         return Err(PathFault::Commands(spot.number));
     }
     if has_cut(course, spot.number) {
-        return Err(PathFault::Claims(spot.number));
+        return halves(spot, alloc);
     }
     behind(course, spot.number, &spot.case, alloc)
 }

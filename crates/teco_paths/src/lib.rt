@@ -11,6 +11,7 @@ pub mod entry;
 mod facts;
 pub mod fault;
 pub mod following;
+mod halves;
 pub mod implied;
 mod kinds;
 pub mod laws;

@@ -1,0 +1,27 @@
+-- A path goes on where it does so with either of two constraints of which one holds.
+use Rattle.std.proofs.Common.{◌≡◌, ℕ, List, subst, sym, refl, arith}
+use Rattle.std.specs.Prelude.{ℤ, pos, negsuc}
+use Rattle.std.proofs.lemmas.Int.{ints}
+use Rattle.teco_flow_outcomes.specs.Law.{point_of}
+use Rattle.teco_linear.specs.declared.term.Term.{Term}
+use Rattle.teco_linear.specs.Form.{value}
+use Rattle.teco_paths.specs.Paths.{Course, Ends, LeadsOn}
+use Rattle.teco_paths.specs.Runs.{IsAt}
+use Rattle.teco_paths.specs.Steps.{AreHalves, IsWith}
+use Rattle.teco_paths.specs.declared.spot.Spot.{Spot}
+
+pub halves_lead : (spot one other : Spot) (ahead end : List Term) → AreHalves ahead end
+    → one.number ≡ spot.number → IsWith spot.case ahead one.case
+    → other.number ≡ spot.number → IsWith spot.case end other.case
+    → (course : Course) → LeadsOn course one → LeadsOn course other → LeadsOn course spot
+halves_lead spot one other ahead end are one_there one_with other_there other_with course leads otherwise
+    ground steps s of at d cuts =
+    by (value end ground.n d.0) refl
+  where
+    by : (k : ℤ) → value end ground.n d.0 ≡ k → Ends course ground steps s
+    by (pos k) is =
+        otherwise ground steps s of (subst (λ number. IsAt course.nodes ground number s) (sym other_there) at)
+        (d.0, other_with ground.n d.0 (point_of steps ground.below s) d.1 (omega (arith, ints, is))) cuts
+    by (negsuc k) is =
+        leads ground steps s of (subst (λ number. IsAt course.nodes ground number s) (sym one_there) at)
+        (d.0, one_with ground.n d.0 (point_of steps ground.below s) d.1 (omega (arith, ints, is, are ground.n d.0))) cuts
