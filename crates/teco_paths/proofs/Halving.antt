@@ -1,5 +1,6 @@
 -- A path goes on where it does so with either of two constraints of which one holds.
-use Rattle.std.proofs.Common.{◌≡◌, ℕ, List, subst, sym, refl, arith}
+use Rattle.std.proofs.Common.{◌≡◌, ℕ, zero, suc, ◌<◌, List, [], ◌∷◌, length, subst, sym, refl, arith}
+use Rattle.std.specs.List.{All}
 use Rattle.std.specs.Prelude.{ℤ, pos, negsuc}
 use Rattle.std.proofs.lemmas.Int.{ints}
 use Rattle.teco_flow_outcomes.specs.Law.{point_of}
@@ -25,3 +26,9 @@ halves_lead spot one other ahead end are one_there one_with other_there other_wi
     by (negsuc k) is =
         leads ground steps s of (subst (λ number. IsAt course.nodes ground number s) (sym one_there) at)
         (d.0, one_with ground.n d.0 (point_of steps ground.below s) d.1 (omega (arith, ints, is, are ground.n d.0))) cuts
+
+pub both_lead : (course : Course) (one other : Spot) (spots : List Spot) → spots ≡ one ∷ other ∷ []
+    → All (LeadsOn course) spots → LeadsOn course one × LeadsOn course other
+both_lead course one other spots are all = by (subst (All (LeadsOn course)) are all) where
+  by : All (LeadsOn course) (one ∷ other ∷ []) → LeadsOn course one × LeadsOn course other
+  by all = (all 0 one (omega arith), all 1 one (omega arith))

@@ -17,20 +17,20 @@ use teco_rows::measure::Single;
 
 // Two forms of which one is at least 0.
 #[derive(Drop)]
-struct Halves {
+struct Apart {
     ahead: Form,
     end: Form,
 }
 
 // How far the end of the buffer is ahead of the pointer, less 1; and how far the pointer is ahead of it.
-fn halves_of(case: &Case, alloc: Global) -> Result<Halves, PathFault>
-    ensures { IfOk result (λ halves. AreHalves halves.ahead halves.end) }
+fn halves_of(case: &Case, alloc: Global) -> Result<Apart, PathFault>
+    ensures { IfOk result (λ apart. AreHalves apart.ahead apart.end) }
 {
     let one = Form::constant(1, alloc)?;
     let pointer = single(case, Single::Pointer, alloc)?;
     let size = single(case, Single::Size, alloc)?;
     let behind = pointer.add(&one, alloc)?;
-    Ok(Halves {
+    Ok(Apart {
         ahead: size.sub(&behind, alloc)?,
         end: pointer.sub(&size, alloc)?,
     })
@@ -70,7 +70,7 @@ pub fn halves(spot: &Spot, alloc: Global) -> Result<Vec<Spot>, PathFault>
     ensures { IfOk result (λ spots. (course : Course) → All (LeadsOn course) spots.items
         → LeadsOn course spot.now) }
 {
-    let Halves { ahead, end } = halves_of(&spot.case, alloc)?;
+    let Apart { ahead, end } = halves_of(&spot.case, alloc)?;
     let is_ahead = is_so_nearby(&spot.case, &ahead, alloc)?;
     let is_end = is_so_nearby(&spot.case, &end, alloc)?;
     if is_ahead || is_end {

@@ -60,7 +60,7 @@ impl<'l> Promise<'l> {
     /// The promise that each run ends as stated.
     pub fn of(statement: Statement<'l>) -> Promise<'l>
         requires { EachRunEnds statement }
-        ensures { result ≡ statement }
+        ensures { result ≡ statement.entry }
     {
         Promise { statement }
     }

@@ -1,0 +1,11 @@
+use Rattle.std.proofs.Common.{subst, sym}
+use Rattle.teco_verifier.specs.certificate.Fields.{Fields}
+use Rattle.teco_verify.proofs.Promised.{certified_ends}
+use Rattle.teco_verify.specs.Certified.{IsCertified}
+use Rattle.teco_verify.proofs.verified.Verified.promise.Goals as goal
+
+pub of-requires : goal.of-requires
+of-requires c =
+    let library = c.self.inside.library.now.texts in
+    certified_ends c.expansions_are_linked.ensures c.runs_are_verified.ensures (record { library = library; fields = _ })
+    (subst (λ (fields : Fields). IsCertified library fields) (sym c.certificate.view_is) c.self.invariant)
