@@ -15,7 +15,7 @@ use Rattle.teco_verifier.specs.declared.rules.Rules.{Rules}
 use Rattle.teco_verifier.specs.declared.rules.Rules.TheVariants.{First, Second}
 use Rattle.teco_verifier.specs.declared.values.Distances.{Distances}
 use Rattle.teco_verifier.specs.certificate.Fields.{Fields}
-use Rattle.teco_certificate.specs.Front.{EndsPolynomial, LooksFor}
+use Rattle.teco_certificate.specs.Front.{EndsPolynomial, LooksFor, LacksWord}
 use Rattle.teco_certificate.specs.Text.{line, version_text, rules_line, letters_of, kept_text, distances_text}
 use Rattle.teco_certificate.specs.Text.{longer_text, longer_texts, behind_comma, chosen_text}
 use Rattle.teco_certificate.specs.WellFormed.{IsLongerText}
@@ -149,13 +149,14 @@ rules_read text behind found Second rest looks e =
     let one = looks.there (codes "needs " ++ rest) e in
     (rw one.0 refl, one.1)
 
-pub no_argument : (rules : Rules) (text rest words : List ℕ) → text ≡ rules_line rules ++ (codes "needs " ++ rest)
-    → text ≢ codes "argument " ++ words
-no_argument First text rest words e =
-    other_byte text (codes "rgument ") (codes "eeds " ++ rest) 110 97 e (λ (same : 110 ≡ 97). omega arith) words
-no_argument Second text rest words e =
-    other_byte text (codes "rgument ") (codes "ules 2" ++ LF ∷ (codes "needs " ++ rest)) 114 97 e
-    (λ (same : 114 ≡ 97). omega arith) words
+pub no_argument : (rules : Rules) (rest : List ℕ)
+    → LacksWord (rules_line rules ++ (codes "needs " ++ rest)) (codes "argument ")
+no_argument First rest =
+    other_byte (codes "needs " ++ rest) (codes "rgument ") (codes "eeds " ++ rest) 110 97 refl
+    (λ (same : 110 ≡ 97). omega arith)
+no_argument Second rest =
+    other_byte (line (codes "rules 2") ++ (codes "needs " ++ rest)) (codes "rgument ")
+    (codes "ules 2" ++ LF ∷ (codes "needs " ++ rest)) 114 97 refl (λ (same : 114 ≡ 97). omega arith)
 
 -- fields that are those of another are it
 pub same_chosen : (chosen : Chosen) {begin : ℕ} {held : Polynomial} {kept : Bool} {distances : Distances}

@@ -1,12 +1,13 @@
 //! Certificates.
 ghost use Rattle.std.specs.Prelude.{◌≡◌, IfOk, OnOk};
 ghost use Rattle.teco_certificate.specs.Reads.{Reads};
-ghost use Rattle.teco_certificate.specs.Text.{needs_text, certificate_text};
+ghost use Rattle.teco_certificate.specs.Text.{certificate_text};
 ghost use Rattle.teco_certificate.specs.WellFormed.{HasText};
 
 use crate::fault::CertificateFault;
+use crate::lines::{letters, name_of, push_argument, push_line, version};
 use crate::order::numbers_rise;
-use crate::printing::{name_of, push_argument, push_line, push_loops, push_rules, version};
+use crate::printing::{push_loops, push_rules};
 use crate::reading::certificate_in;
 use std::alloc::{AllocError, Global};
 use std::marker::Model;
@@ -14,18 +15,6 @@ use teco_base::Reg;
 use teco_model::{ArgumentRange, Needs};
 use teco_poly::Poly;
 use teco_verifier::{LoopLine, Rules};
-
-// The files that must be open, as a certificate has them.
-fn letters(needs: Needs) -> &'static str
-    ensures { result.now ≡ needs_text needs }
-{
-    match (needs.input, needs.output) {
-        (false, false) => "-",
-        (true, false) => "I",
-        (false, true) => "O",
-        (true, true) => "IO",
-    }
-}
 
 /// What the verifier has found of a macro.
 #[derive(Drop)]

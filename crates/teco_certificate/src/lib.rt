@@ -4,6 +4,7 @@
 mod certificate;
 mod fault;
 pub mod laws;
+pub mod lines;
 mod order;
 mod printing;
 mod reading;

@@ -1,55 +1,15 @@
 // The parts of a certificate's text.
-ghost use Rattle.std.specs.Prelude.{◌≡◌, ◌++◌, ◌<◌, ◌^◌, OnOk, IfSome, flat_map};
+ghost use Rattle.std.specs.Prelude.{◌≡◌, ◌++◌, ◌<◌, ◌^◌, OnOk, flat_map};
 ghost use Rattle.std.specs.List.{AllByRecursion};
-ghost use Rattle.teco_base.specs.Register.{register_name};
-ghost use Rattle.teco_base.specs.declared.TheConstants.{REGISTERS};
-ghost use Rattle.teco_certificate.specs.Text.{line as line_of, version_text, argument_line, rules_line, longer_text};
-ghost use Rattle.teco_certificate.specs.Text.{longer_texts, behind_comma, kept_text, distances_text, loop_line};
-ghost use Rattle.teco_model.specs.Macros.{IsArgumentRange};
+ghost use Rattle.teco_certificate.specs.Text.{rules_line, longer_text, longer_texts, behind_comma, kept_text};
+ghost use Rattle.teco_certificate.specs.Text.{distances_text, loop_line};
 ghost use Rattle.teco_certificate.specs.Words.{chosen_words};
 ghost use Rattle.teco_certificate.specs.WellFormed.{IsLongerText, IsChosen};
 ghost use Rattle.teco_poly.specs.Reading.{IsPoly};
 
+use crate::lines::{name_of, push_line};
 use std::alloc::{AllocError, Global};
-use teco_base::{REGISTERS, Reg};
-use teco_model::ArgumentRange;
 use teco_verifier::{Distances, LongerText, LoopLine, Rules};
-
-/// Adds a line: a word that says what it has, and this.
-pub fn push_line(text: &mut Vec<u8>, word: &[u8], words: &[u8]) -> Result<(), AllocError>
-    ensures { OnOk result (text.new.items ≡ text.old.items ++ line_of (word.now ++ words.now)) }
-{
-    text.extend_from_slice(word)?;
-    text.extend_from_slice(words)?;
-    text.extend_from_slice(b"\n")
-}
-
-/// The version of a certificate: 2 where the entry takes an argument.
-pub fn version(argument: Option<ArgumentRange>) -> &'static str
-    ensures { result.now ≡ version_text argument }
-{
-    match argument {
-        None => "1",
-        Some(_) => "2",
-    }
-}
-
-/// Adds the line of the argument, if there is one.
-pub fn push_argument(
-    text: &mut Vec<u8>,
-    alloc: Global,
-    argument: Option<ArgumentRange>,
-) -> Result<(), AllocError>
-    ensures text { OnOk result (text.new.items ≡ text.old.items ++ argument_line argument) }
-    ensures parts { OnOk result (IfSome argument IsArgumentRange) }
-{
-    let Some(range) = argument else {
-        return Ok(());
-    };
-    let (low, high) = (range.low(), range.high());
-    let line = format!(in alloc; "argument {low} {high}\n")?;
-    text.extend_from_slice(line.as_bytes())
-}
 
 /// Adds the line of the edition of the rules, if it has one.
 pub fn push_rules(text: &mut Vec<u8>, rules: Rules) -> Result<(), AllocError>
@@ -59,15 +19,6 @@ pub fn push_rules(text: &mut Vec<u8>, rules: Rules) -> Result<(), AllocError>
         Rules::First => Ok(()),
         Rules::Second => push_line(text, b"rules ", b"2"),
     }
-}
-
-/// The name of a register, which is one of those there are.
-pub fn name_of(register: Reg) -> u8
-    ensures name { result ≡ register_name register }
-    ensures within { register < REGISTERS }
-{
-    prove!(register.index() < REGISTERS);
-    register.name()
 }
 
 // Adds a register and the polynomial of its text.

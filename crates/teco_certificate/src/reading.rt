@@ -2,17 +2,15 @@
 // registers of a line rise: of another text they read anything at all, and who calls them has to
 // see whether what was read has this text.
 ghost use Rattle.std.specs.Prelude.{◌≡◌, ◌++◌, ◌∷◌, [], ◌≤◌, ◌<◌, ◌^◌, ◌↔◌, ℕ, Bool, true, IsTrue, List, length};
-ghost use Rattle.std.specs.Prelude.{flat_map, codes, Option, Some, IfOk, OnOk, IfSome, if◌then◌else◌};
+ghost use Rattle.std.specs.Prelude.{flat_map, codes, IfOk, OnOk, if◌then◌else◌};
 ghost use Rattle.std.specs.List.{AllByRecursion, list_all, prefix_len};
-ghost use Rattle.std.specs.Char.{is_ascii_digit};
 ghost use Rattle.std.specs.Fmt.{decimal};
-ghost use Rattle.teco_base.specs.Register.{register_name};
 ghost use Rattle.teco_base.specs.declared.TheConstants.{REGISTERS};
 ghost use Rattle.teco_base.specs.declared.bytes.TheConstants.{LF};
 ghost use Rattle.teco_verifier.specs.certificate.Fields.{Fields};
 ghost use Rattle.teco_certificate.specs.Front as front;
-ghost use Rattle.teco_certificate.specs.Front.{EndsPolynomial, LooksFor};
-ghost use Rattle.teco_certificate.specs.Text.{version_text, argument_line, needs_text, longer_text, longer_texts};
+ghost use Rattle.teco_certificate.specs.Front.{EndsPolynomial};
+ghost use Rattle.teco_certificate.specs.Text.{longer_text, longer_texts};
 ghost use Rattle.teco_certificate.specs.Text.{behind_comma, kept_text, rules_line, distances_text, chosen_text};
 ghost use Rattle.teco_certificate.specs.Text.{loop_line, certificate_text, line as line_of};
 ghost use Rattle.teco_certificate.specs.WellFormed.{IsLongerText, IsChosen, TextsRise, AreOfRegisters, RegistersRise};
@@ -20,68 +18,19 @@ ghost use Rattle.teco_certificate.specs.WellFormed.{AreDistancesOf, HasDistances
 ghost use Rattle.teco_poly.specs.Polynomial.{Polynomial};
 ghost use Rattle.teco_poly.specs.Reading.{IsPoly, EndsNumber};
 ghost use Rattle.teco_poly.specs.Text.{text as poly_text};
-ghost use Rattle.teco_verifier.specs.certificate.ArgumentText.{range_text};
-ghost use Rattle.teco_model.specs.Macros.{IsArgumentRange, ArgumentRange as RangeOf, Needs as NeedsOf};
 ghost use Rattle.teco_verifier.specs.declared.rules.Rules.{Rules as RulesOf};
 ghost use Rattle.teco_verifier.specs.declared.rules.Rules.TheVariants.{First, Second};
 ghost use Rattle.teco_verifier.specs.declared.values.Distances.{Distances as DistancesOf};
 ghost use Rattle.teco_verifier.specs.table.Choices.{LongerText as LongerTextOf, Chosen};
 
 use crate::certificate::Certificate;
+use crate::lines::{
+    argument_at, behind, behind_version, needs_at, number_at, register_at, word_at,
+};
 use std::alloc::{AllocError, Global};
-use std::str;
-use teco_base::{REGISTERS, Reg};
-use teco_model::{ArgumentRange, Needs};
+use teco_base::REGISTERS;
 use teco_poly::Poly;
 use teco_verifier::{Distances, LongerText, LoopLine, Rules};
-
-// Whether a word stands at the front of a text, and what comes behind it.
-fn word_at<'a>(text: &'a [u8], word: &[u8]) -> (bool, &'a [u8])
-    ensures word { LooksFor text.now word.now result.0 result.1.now }
-    ensures within { length result.1.now ≤ length text.now }
-{
-    match text.strip_prefix(word) {
-        Some(rest) => (true, rest),
-        None => (false, text),
-    }
-}
-
-// What comes behind a word.
-fn behind<'a>(text: &'a [u8], word: &[u8]) -> &'a [u8]
-    ensures word { (found : Bool) × LooksFor text.now word.now found result.now }
-    ensures within { length result.now ≤ length text.now }
-{
-    word_at(text, word).1
-}
-
-// The number of which these are the digits.
-fn number(digits: &[u8]) -> usize
-    ensures { (n : ℕ) → n < 2 ^ 64 → digits.now ≡ decimal n → result ≡ n }
-{
-    let Ok(digits) = str::from_utf8(digits) else {
-        return 0;
-    };
-    digits.parse().unwrap_or(0)
-}
-
-// How many digits a text begins with.
-fn digit_count(text: &[u8]) -> usize
-    ensures count { result ≡ prefix_len is_ascii_digit text.now }
-    ensures within { result ≤ length text.now }
-{
-    text.iter().take_while(|byte| byte.is_ascii_digit()).count()
-}
-
-// The number at the front of a text, and what comes behind it.
-fn number_at(text: &[u8]) -> (usize, &[u8])
-    ensures text { (n : ℕ) (rest : List ℕ) → n < 2 ^ 64 → EndsNumber rest
-        → text.now ≡ decimal n ++ rest
-        → (result.0 ≡ n) × (result.1.now ≡ rest) }
-    ensures within { length result.1.now ≤ length text.now }
-{
-    let (digits, rest) = text.split_at(digit_count(text));
-    (number(digits), rest)
-}
 
 // Is it a byte that polynomials are written with?
 fn is_of_polynomial(byte: u8) -> bool
@@ -117,62 +66,6 @@ fn cut(text: &[u8]) -> (&[u8], &[u8])
     text.split_at(polynomial_count(text))
 }
 
-// The register at the front of a text, and what comes behind it.
-fn register_at(text: &[u8]) -> (Reg, &[u8])
-    ensures text { (r : ℕ) (rest : List ℕ) → r < REGISTERS → text.now ≡ register_name r ∷ rest
-        → (result.0 ≡ r) × (result.1.now ≡ rest) }
-    ensures within { length result.1.now ≤ length text.now }
-{
-    match text.split_first() {
-        Some((name, rest)) => (Reg::of(*name).unwrap_or_default(), rest),
-        None => (Reg::default(), text),
-    }
-}
-
-// What comes behind the first words and the version.
-fn behind_version(text: &[u8]) -> &[u8]
-    ensures { (argument : Option RangeOf) (rest : List ℕ)
-        → text.now ≡ codes "TECO-CERT " ++ (version_text argument ++ LF ∷ rest)
-        → result.now ≡ LF ∷ rest }
-{
-    let version = behind(text, b"TECO-CERT ");
-    let rest = behind(version, b"1");
-    behind(rest, b"2")
-}
-
-// The range between two numbers, or any.
-fn range_of(low: usize, high: usize) -> Option<ArgumentRange>
-    ensures { (range : RangeOf) → IsArgumentRange range → low ≡ range.low → high ≡ range.high
-        → result ≡ Some range }
-{
-    let (Ok(low), Ok(high)) = (u32::try_from(low), u32::try_from(high)) else {
-        return None;
-    };
-    ArgumentRange::between(low, high)
-}
-
-// The range with whose numbers a line ends, and the lines behind it.
-fn range_at(text: &[u8]) -> (Option<ArgumentRange>, &[u8])
-    ensures { (range : RangeOf) (rest : List ℕ) → IsArgumentRange range
-        → text.now ≡ range_text range ++ LF ∷ rest
-        → (result.0 ≡ Some range) × (result.1.now ≡ rest) }
-{
-    let (low, rest) = number_at(text);
-    let (high, rest) = number_at(behind(rest, b" "));
-    (range_of(low, high), behind(rest, b"\n"))
-}
-
-// The argument whose line a text begins with, if it does, and what comes behind that.
-fn argument_at(text: &[u8]) -> (Option<ArgumentRange>, &[u8])
-    ensures { (argument : Option RangeOf) (rules : RulesOf) (rest : List ℕ)
-        → IfSome argument IsArgumentRange
-        → text.now ≡ argument_line argument ++ (rules_line rules ++ (codes "needs " ++ rest))
-        → (result.0 ≡ argument) × (result.1.now ≡ rules_line rules ++ (codes "needs " ++ rest)) }
-{
-    let (found, rest) = word_at(text, b"argument ");
-    if found { range_at(rest) } else { (None, rest) }
-}
-
 // The edition whose line a text begins with, if it does, and what comes behind that.
 fn rules_at(text: &[u8]) -> (Rules, &[u8])
     ensures { (rules : RulesOf) (rest : List ℕ)
@@ -188,16 +81,6 @@ fn edition(found: bool) -> Rules
     ensures { result ≡ (if found then Second else First) }
 {
     if found { Rules::Second } else { Rules::First }
-}
-
-// The files at the front of a text, and what comes behind them.
-fn needs_at(text: &[u8]) -> (Needs, &[u8])
-    ensures { (needs : NeedsOf) (rest : List ℕ) → text.now ≡ needs_text needs ++ LF ∷ rest
-        → (result.0 ≡ needs) × (result.1.now ≡ LF ∷ rest) }
-{
-    let (input, rest) = word_at(text, b"I");
-    let (output, rest) = word_at(rest, b"O");
-    (Needs { input, output }, behind(rest, b"-"))
 }
 
 // Whether an iteration is kept, as the front of a text has it, and what comes behind that.

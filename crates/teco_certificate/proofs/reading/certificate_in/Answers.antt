@@ -6,7 +6,7 @@ use Rattle.teco_base.specs.declared.bytes.TheConstants.{LF}
 use Rattle.teco_certificate.specs.Text.{line, version_text, argument_line, rules_line, needs_text, loop_line}
 use Rattle.teco_certificate.specs.WellFormed.{HasDistancesOf}
 use Rattle.teco_verifier.specs.declared.rules.Rules.{Rules}
-use Rattle.teco_certificate.proofs.Spelling.{same_fields}
+use Rattle.teco_certificate.proofs.Spelling.{no_argument, same_fields}
 use Rattle.teco_poly.specs.Text.{text}
 use Rattle.teco_certificate.proofs.reading.certificate_in.Goals as goal
 
@@ -26,7 +26,8 @@ returns-clause-text c = λ f is e.
     let start = c.behind.ensures.word.1.there (register_name f.entry ∷ LF ∷ arguments) version in
     let entry = c.register_at-entry.ensures.text f.entry (LF ∷ arguments) has.entry start.1 in
     let of_argument = c.behind-2.ensures.word.1.there arguments entry.1 in
-    let argument = c.argument_at-argument.ensures f.argument f.rules behind_needs has.argument of_argument.1 in
+    let argument = c.argument_at-argument.ensures f.argument edition has.argument (no_argument f.rules behind_needs)
+    of_argument.1 in
     let rules = c.rules_at-rules.ensures f.rules behind_needs argument.1 in
     let of_needs = c.behind-3.ensures.word.1.there behind_needs rules.1 in
     let need = c.needs_at-needs.ensures f.needs commands

@@ -3,7 +3,7 @@ use Rattle.std.proofs.lemmas.Fmt.{IsAscii-decimal, parse-decimal}
 use Rattle.std.proofs.lemmas.Str.{IsUtf8-from_ascii}
 use Rattle.std.specs.Result.{result_unwrap_or}
 use Rattle.std.specs.Str.{IsUtf8}
-use Rattle.teco_certificate.proofs.reading.number.Goals as goal
+use Rattle.teco_certificate.proofs.lines.number.Goals as goal
 
 pub returns-in_default : goal.returns-in_default
 returns-in_default c = λ n small e.

@@ -1,5 +1,5 @@
 use Rattle.teco_certificate.proofs.Spelling.{needs_read}
-use Rattle.teco_certificate.proofs.reading.needs_at.Goals as goal
+use Rattle.teco_certificate.proofs.lines.needs_at.Goals as goal
 
 pub returns : goal.returns
 returns c = λ needs rest e.

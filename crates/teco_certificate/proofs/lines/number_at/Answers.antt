@@ -1,7 +1,7 @@
 use Rattle.std.specs.Char.{is_ascii_digit}
 use Rattle.std.specs.Fmt.{decimal}
 use Rattle.teco_certificate.proofs.Fronts.{decimal_digits, ends_number, split_front}
-use Rattle.teco_certificate.proofs.reading.number_at.Goals as goal
+use Rattle.teco_certificate.proofs.lines.number_at.Goals as goal
 
 pub returns-clause-text : goal.returns-clause-text
 returns-clause-text c = λ n rest small ends e.

@@ -2,7 +2,7 @@ use Rattle.std.proofs.Common.{◌++◌, ◌∷◌, ◌∙◌, refl, arith, appen
 use Rattle.std.specs.Fmt.{decimal}
 use Rattle.std.specs.Prelude.{codes}
 use Rattle.teco_base.specs.declared.bytes.TheConstants.{LF}
-use Rattle.teco_certificate.proofs.reading.range_at.Goals as goal
+use Rattle.teco_certificate.proofs.lines.range_at.Goals as goal
 
 pub returns : goal.returns
 returns c = λ range rest is e.

@@ -2,7 +2,7 @@ use Rattle.std.proofs.Common.{◌++◌, ◌∷◌}
 use Rattle.teco_base.specs.declared.bytes.TheConstants.{LF}
 use Rattle.teco_certificate.specs.Text.{version_text}
 use Rattle.teco_certificate.proofs.Spelling.{version_read}
-use Rattle.teco_certificate.proofs.reading.behind_version.Goals as goal
+use Rattle.teco_certificate.proofs.lines.behind_version.Goals as goal
 
 pub returns : goal.returns
 returns c = λ argument rest e.

@@ -1,0 +1,12 @@
+-- What stands before the claims of a certificate.
+use Rattle.std.proofs.Common.{◌≡◌, ℕ, List, ◌∷◌, ◌++◌, refl, arith}
+use Rattle.std.specs.Prelude.{codes}
+use Rattle.teco_base.specs.declared.bytes.TheConstants.{LF}
+use Rattle.teco_certificate.specs.Front.{LacksWord}
+use Rattle.teco_certificate.proofs.Spelling.{other_byte}
+
+-- the line of the rules is not that of an argument
+pub no_argument : (rest : List ℕ) → LacksWord (codes "rules 3" ++ LF ∷ rest) (codes "argument ")
+no_argument rest =
+    other_byte (codes "rules 3" ++ LF ∷ rest) (codes "rgument ") (codes "ules 3" ++ LF ∷ rest) 114 97 refl
+    (λ (same : 114 ≡ 97). omega arith)
