@@ -16,7 +16,7 @@ ghost use Rattle.teco_run.specs.Holdings.{Joined};
 use crate::by_pages::Edited;
 use crate::editing::{Heard, answer_text, stop_of, tell};
 use crate::guard::{Asked, Guard, Observer, Order};
-use crate::run::{call_text, call_promised, make_ready};
+use crate::run::{call_promised, call_text, make_ready};
 use std::io::Write;
 use teco_model::Stop;
 use teco_pages::Host;

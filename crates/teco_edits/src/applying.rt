@@ -14,8 +14,8 @@ ghost use Rattle.teco_verdicts.specs.Premise.{IsPremise};
 ghost use Rattle.teco_verdicts.specs.declared.outcome.Outcome.TheVariants.{Refused};
 ghost use Rattle.teco_verify.specs.Promised.{promise_of};
 
-use crate::names::Names;
 use crate::bound::Bound;
+use crate::names::Names;
 use crate::subject::{Subject, read_subject, refuse_subject, warn_empty};
 use crate::watching::{Seen, Terms, Warden, Watch};
 use std::alloc::Global;
