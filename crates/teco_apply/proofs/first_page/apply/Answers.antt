@@ -6,11 +6,12 @@ use Rattle.teco_apply.proofs.first_page.apply.Goals as goal
 
 pub returns-clause-edits : goal.returns-clause-edits
 returns-clause-edits g c =
-    first-page (record { promise = promise_of c.args.verified.now; given = c.args.given }) c.args.source.now c.args.target.now
+    rw (← c.promise-promise.ensures) (first-page (record { promise = c.promise-promise.result; given = c.args.given })
+    c.args.source.now c.args.target.now
     c.args.machine.now c.edit_file.new.machine (g.H.Host.files c.args.host.now) (g.H.Host.files c.edit_file.new.host)
     (g.H.Host.failures c.args.host.now) (g.H.Host.failures c.edit_file.new.host)
     (g.W.Write.contents c.args.writer.now) (g.W.Write.contents c.edit_file.new.writer)
-    c.edit_file.result c.said.result (rw c.dropped.ensures at c.said.ensures) c.edit_file.ensures.edits
+    c.edit_file.result c.said.result (rw c.dropped.ensures at c.said.ensures) c.edit_file.ensures.edits)
 
 pub returns-clause-counted : goal.returns-clause-counted
 returns-clause-counted g c =
@@ -21,11 +22,12 @@ returns-clause-counted g c =
 pub returns-clause-argument : goal.returns-clause-argument
 returns-clause-argument g c =
     let both = said-fault c.edit_file.result c.said.result fault.Argument (rw c.dropped.ensures at c.said.ensures) in
-    let is = c.edit_file.ensures.argument in
+    let is = rw c.promise-promise.ensures at c.edit_file.ensures.argument in
     ((λ same. is.0 (both.0 same)), (λ not_taken. both.1 (is.1 not_taken)))
 
 pub returns-clause-touches : goal.returns-clause-touches
 returns-clause-touches g c =
-    first-touches (record { promise = promise_of c.args.verified.now; given = c.args.given }) c.args.source.now c.args.target.now
+    rw (← c.promise-promise.ensures) (first-touches
+    (record { promise = c.promise-promise.result; given = c.args.given }) c.args.source.now c.args.target.now
     c.args.machine.now c.edit_file.new.machine (g.H.Host.files c.args.host.now) (g.H.Host.files c.edit_file.new.host)
-    c.edit_file.result c.said.result (rw c.dropped.ensures at c.said.ensures) c.edit_file.ensures.touches
+    c.edit_file.result c.said.result (rw c.dropped.ensures at c.said.ensures) c.edit_file.ensures.touches)
