@@ -1,21 +1,14 @@
-//! Sessions over files in memory, by hosts that move few bytes in a call and fail where they are
-//! told to.
-ghost use Rattle.std.specs.Prelude.{◌<◌};
-
-use super::trial::{Given, Ran, STORES, Store, expect, run_over};
+//! Sessions over files in memory, by hosts that move few bytes in a call and fail where they are told to.
+use super::trial::{Ran, STORES, Store, expect, run_over};
 use std::alloc::{AllocError, Global};
 use std::process::Abort;
+use teco_base::LIMIT;
 use teco_pages::{HostCall, MemHost, TestHost};
 
-/// What the file `in` has, the input of the session, what is written, what it comes to, and what
-/// the file `out` has then.
-type FileRow = (
-    &'static [u8],
-    &'static str,
-    &'static [u8],
-    &'static str,
-    Option<&'static [u8]>,
-);
+/// What the file `in` has, the input, what is written, what it comes to, and what the file `out` has then.
+type FileRow = (Bytes, &'static str, Bytes, &'static str, Option<Bytes>);
+
+type Bytes = &'static [u8];
 
 const TWO: &[u8] = b"ab\x0ccd";
 
@@ -28,20 +21,8 @@ const COPIED: &[(&[u8], &str)] = &[
     (TWO, "ERin\x1bEWout\x1b2PEC\x1b\x1b => "),
 ];
 
-// How a host moves bytes, and which call fails: the nth of a kind, or none.
-#[derive(Clone, Copy)]
-struct Moves {
-    piece: usize,
-    call: HostCall,
-    nth: u64,
-    ghost some: { 0 < piece },
-}
-
-fn moving(piece: usize, call: HostCall, nth: u64) -> Moves
-    requires { 0 < piece }
-{
-    Moves { piece, call, nth }
-}
+// Does a host move a byte in a call, or up to 4,096, and which call fails: the nth of a kind.
+type Moves = (bool, HostCall, u64);
 
 // What is left of a session over a host with some files.
 type Left = Result<(TestHost, Ran), AllocError>;
@@ -53,14 +34,15 @@ fn run_files(alloc: Global, store: Store, moves: Moves, row: FileRow, out: Optio
     if let Some(out) = out {
         mem.put(b"out", out)?;
     }
-    let mut host = TestHost::new(mem, moves.piece, moves.call, moves.nth);
-    let given = Given::whole(row.1.as_bytes());
+    let (is_slow, call, nth) = moves;
+    let piece = if is_slow { 1 } else { 4096 };
+    let mut host = TestHost::new(mem, piece, call, nth);
+    let given = (row.1.as_bytes(), LIMIT);
     let ran = run_over(alloc, store, &mut host, given, (b"", 0));
     Ok((host, ran))
 }
 
-// The session of a row, run once more where it does not write what it is to, and a growth may have been
-// refused.
+// The session of a row, run once more where it does not write what it is to, and a growth may have been refused.
 fn run_row(alloc: Global, store: Store, moves: Moves, row: FileRow) -> Left {
     match run_files(alloc, store, moves, row, None) {
         Ok((host, ran)) if ran.written.as_slice() == row.2 || !ran.may_be_refused() => {
@@ -88,8 +70,7 @@ fn expect_moves(rt: &(impl Abort + AllocGlobal), moves: Moves, row: FileRow) {
     }
 }
 
-/// Pages that are turned and typed, and what was open is closed; a page that is read once more; and an
-/// output that is dropped.
+/// Pages that are turned and typed until all is closed, a page that is read once more, an output that is dropped.
 const TURNED: &str = "ERin\x1bEWout\x1bYHTPHTEC\x1b\x1bEF\x1b\x1b";
 
 const READ_ON: &str = "ERin\x1bY\x1b\x1bYHT\x1b\x1b";
@@ -111,8 +92,8 @@ const FAILING: &[(HostCall, &str, &[u8], Option<&[u8]>)] = &[
 #[test]
 fn a_host_fails_and_the_session_goes_on(rt: HostRuntime) {
     for (call, input, written, out) in FAILING {
-        let moves = moving(4096, *call, 1);
-        expect_moves(&rt, moves, (TWO, *input, *written, "coded", *out));
+        let row: FileRow = (TWO, *input, *written, "coded", *out);
+        expect_moves(&rt, (false, *call, 1), row);
     }
 }
 
@@ -122,9 +103,8 @@ const FORM_FEEDS: &[u8] = &[0x0c; 5000];
 // No more is read than what the page needs, so a fault behind it does not come.
 #[test]
 fn a_page_is_read_no_further(rt: HostRuntime) {
-    let moves = moving(4096, HostCall::Read, 2);
     let row: FileRow = (FORM_FEEDS, "ERin\x1bYHT1=\x1b\x1b", b"1\r\n", "done", None);
-    expect_moves(&rt, moves, row);
+    expect_moves(&rt, (false, HostCall::Read, 2), row);
 }
 
 // The code line for a call that fails.
@@ -144,8 +124,7 @@ fn is_cut_short(written: &[u8], typed: &[u8], line: &[u8]) -> bool {
     }
 }
 
-// Is what is written a part and a code, and the file `out` as it was? Or there are fewer calls of
-// that kind, and all is as the row says.
+// Is a part written and a code, and `out` as it was? Or there are fewer such calls, and all is as the row says.
 fn fails_well(host: &TestHost, ran: &Ran, row: FileRow, call: HostCall) -> bool {
     let (bytes, _, typed, _, out) = row;
     let mem = host.mem();
@@ -158,11 +137,10 @@ fn fails_well(host: &TestHost, ran: &Ran, row: FileRow, call: HostCall) -> bool 
     }
 }
 
-// Does the session of a row fail well where a call of the host fails and a file `out` is there
-// already?
+// Does the session of a row fail well where a call of the host fails and a file `out` is there already?
 fn fails_as_told(alloc: Global, row: FileRow, moves: Moves) -> bool {
     match run_files(alloc, Store::Gap, moves, row, Some(b"old")) {
-        Ok((host, ran)) => fails_well(&host, &ran, row, moves.call),
+        Ok((host, ran)) => fails_well(&host, &ran, row, moves.1),
         Err(_) => false,
     }
 }
@@ -170,15 +148,15 @@ fn fails_as_told(alloc: Global, row: FileRow, moves: Moves) -> bool {
 // A host fails as a row says, the second time at the latest: a growth may be refused the first time.
 fn expect_failure(rt: &(impl Abort + AllocGlobal), row: FileRow, moves: Moves) {
     let is_well = fails_as_told(rt.alloc(), row, moves) || fails_as_told(rt.alloc(), row, moves);
-    assert!(rt; is_well, "{}: call {}", row.1, moves.nth);
+    assert!(rt; is_well, "{}: call {}", row.1, moves.2);
 }
 
 // Each of the first calls of each kind fails in turn, by hosts that move a byte in a call and all.
 fn expect_failures(rt: &(impl Abort + AllocGlobal), row: FileRow) {
     for (call, _, _, _) in FAILING {
         for nth in 1..=16 {
-            expect_failure(rt, row, moving(1, *call, nth));
-            expect_failure(rt, row, moving(4096, *call, nth));
+            expect_failure(rt, row, (true, *call, nth));
+            expect_failure(rt, row, (false, *call, nth));
         }
     }
 }

@@ -1,6 +1,4 @@
-//! Sessions that are heard, and that the first code ends. One in which an allocation may have
-//! failed runs once more.
-use super::trial::{number_of, row_of};
+//! Sessions that are heard, and that the first code ends. One in which an allocation may have failed runs once more.
 use std::alloc::Global;
 use teco_base::{Code, LIMIT};
 use teco_pages::{Host, MemHost};
@@ -8,8 +6,7 @@ use teco_run::{Machine, Site, Stopped};
 use teco_session::{Conduct, Done, Limits, Listener, SessionFault, session_heard};
 use teco_text::{TextStore, VecText};
 
-// What was heard: how many strings stopped, the length of the last, its steps and its site; and the
-// code of a rest.
+// What was heard: how many strings stopped, the length of the last, its steps and its site; and the code of a rest.
 #[derive(Clone, Copy, Default, PartialEq)]
 struct Notes {
     strings: usize,
@@ -38,26 +35,20 @@ impl<H: Host> Listener<H> for Notes {
     }
 }
 
-// A session of an input, with what is written and what is heard.
-fn hear(
-    alloc: Global,
-    input: &[u8],
-    until_code: bool,
-) -> (Result<Done, SessionFault>, Vec<u8>, Notes) {
-    let mut machine = Machine::new(alloc, VecText::new(alloc));
-    let mut reader = input;
-    let mut written = Vec::new(alloc);
-    let mut notes = Notes::default();
-    let limits = Limits {
-        steps: 100,
-        length: LIMIT,
-    };
+// What comes of a session of an input, which a code ends, or none.
+fn hear(alloc: Global, input: &[u8], until: bool, to: &mut Vec<u8>, notes: &mut Notes) -> Heard {
+    let (mut machine, mut host) = (
+        Machine::new(alloc, VecText::new(alloc)),
+        MemHost::new(alloc),
+    );
+    let (mut reader, until_code, steps, length) = (input, until, 100, LIMIT);
+    let limits = Limits { steps, length };
     let conduct = Conduct { limits, until_code };
-    let mut host = MemHost::new(alloc);
-    let (on, from, to, files) = (&mut machine, &mut reader, &mut written, &mut host);
-    let done = session_heard(alloc, on, from, to, files, conduct, &mut notes);
-    (done, written, notes)
+    let (on, from, files) = (&mut machine, &mut reader, &mut host);
+    session_heard(alloc, on, from, to, files, conduct, notes)
 }
+
+type Heard = Result<Done, SessionFault>;
 
 // Does the first code end the session, has what is written a code, does a string end it; how many
 // strings are heard, the length, the steps and the place of the last, and is a rest heard that has a
@@ -75,30 +66,40 @@ const HEARD: &[&str] = &[
     "1 0 0 0 0 0 0 0  => ",
 ];
 
+// What a line has before a mark, or all; the line keeps what stands behind the mark.
+fn part_before<'a>(line: &mut &'a str, mark: &str) -> &'a str {
+    let (part, rest) = line.split_once(mark).unwrap_or((*line, ""));
+    *line = rest;
+    part
+}
+
+// The eight numbers that a line begins with, each before a blank.
+fn numbers_of(line: &mut &str) -> [u64; 8] {
+    let mut numbers = [0; 8];
+    for number in numbers.iter_mut() {
+        *number = part_before(line, " ").parse().unwrap_or(0);
+    }
+    numbers
+}
+
 // Is a session heard as the row says?
 fn is_heard(alloc: Global, line: &str) -> bool {
     let mut rest = line;
-    let until_code = number_of(&mut rest) == 1;
-    let is_coded = number_of(&mut rest) == 1;
-    let is_exit = number_of(&mut rest) == 1;
-    let strings = number_of(&mut rest) as usize;
-    let length = number_of(&mut rest) as usize;
-    let steps = number_of(&mut rest);
-    let site = Site {
-        register: None,
-        place: number_of(&mut rest) as usize,
-    };
+    let [until, coded, exit, strings, length, steps, place, code] = numbers_of(&mut rest);
+    let input = part_before(&mut rest, " => ").as_bytes();
+    let (register, place) = (None, place as usize);
+    let site = Site { register, place };
     let wanted = Notes {
-        strings,
-        length,
+        strings: strings as usize,
+        length: length as usize,
         steps,
         site: (strings > 0).then_some(site),
-        rest: (number_of(&mut rest) == 1).then_some(Code::Utc),
+        rest: (code == 1).then_some(Code::Utc),
     };
-    let row = row_of(rest);
-    let (done, written, found) = hear(alloc, row.input, until_code);
-    let is_done = matches!(done, Ok(done) if done.coded == is_coded && done.exit == is_exit);
-    is_done && found == wanted && written.as_slice() == row.written
+    let (mut written, mut found) = (Vec::new(alloc), Notes::default());
+    let done = hear(alloc, input, until == 1, &mut written, &mut found);
+    let is_ended = matches!(done, Ok(done) if (done.coded, done.exit) == (coded == 1, exit == 1));
+    is_ended && found == wanted && written.as_slice() == rest.as_bytes()
 }
 
 #[test]

@@ -2,13 +2,11 @@
 #![tactic(auto)]
 
 #[cfg(test)]
-mod brackets;
-#[cfg(test)]
 mod files;
 #[cfg(test)]
-mod growths;
-#[cfg(test)]
 mod heard;
+#[cfg(test)]
+mod long;
 #[cfg(test)]
 mod run;
 #[cfg(test)]

@@ -1,6 +1,5 @@
-//! Machines under caps, and where runs stop: what no session reaches. A machine answers `Memory` only
-//! where memory is refused; such a run is made once more, so that the rows also hold where one
-//! allocation fails.
+//! Machines under caps, and where runs stop: what no session reaches. A machine answers `Memory` only where memory is
+//! refused; such a run is made once more, so that the rows also hold where one allocation fails.
 mod counting;
 mod sites;
 
@@ -20,8 +19,7 @@ type Answer = Result<u64, Code>;
 
 fn answer(stop: Stop) -> Answer {
     match stop {
-        Stop::Ended { steps } => Ok(steps),
-        Stop::Exit { steps } => Ok(steps),
+        Stop::Ended { steps } | Stop::Exit { steps } => Ok(steps),
         Stop::Error(code) => Err(code),
         Stop::HostFault(HostFault::NoFile) => Err(Code::Fnf),
         Stop::HostFault(HostFault::In) => Err(Code::Inp),
@@ -50,8 +48,7 @@ fn has_typed(machine: &mut Machine<VecText>, typed: &[u8]) -> bool {
     taken.as_slice() == typed
 }
 
-// How many bytes a machine may type, and how many its texts may take, a command string, what it
-// types then, and what it comes to.
+// How many bytes a machine may type and its texts may take, a command string, what it types, and what it comes to.
 type Capped = (usize, &'static [u8], &'static [u8], Answer);
 
 const CAPPED: &[Capped] = &[
@@ -74,20 +71,24 @@ fn is_capped(alloc: Global, row: &Capped) -> bool {
     row.2.starts_with(&typed) && (got == Err(Code::Mem) || is_as_wanted)
 }
 
-// Caps are refused growths; macros call one another as deep as a cap lets, and the next string runs.
+// Do macros call one another as deep as a cap lets, and does the next string run then?
+fn is_called_deep(alloc: Global) -> bool {
+    let mut machine = new_machine(alloc);
+    machine.set_cap(1_000_000);
+    let got = answer_on(&mut machine, alloc, b"@^UA/%B-1000\"LMA'/MAQB=", 100_000);
+    let is_typed = has_typed(&mut machine, b"1000\r\n");
+    let next = answer_on(&mut machine, alloc, b"1=", 10);
+    machine.drop_typed();
+    let is_dropped = has_typed(&mut machine, b"");
+    (got == Err(Code::Mem) || is_typed) && next != Err(Code::Lim) && is_dropped
+}
+
 #[test]
 fn caps_are_refused_growths(rt: HostRuntime) {
     for row in CAPPED {
-        assert!(rt; is_capped(rt.alloc(), &row), "{:?}", row.1);
+        assert!(rt; is_capped(rt.alloc(), row), "{:?}", row.1);
     }
-    let (mut machine, alloc) = (new_machine(rt.alloc()), rt.alloc());
-    machine.set_cap(1_000_000);
-    let command = b"@^UA/%B-1000\"LMA'/MAQB=";
-    let got = answer_on(&mut machine, alloc, command, 100_000);
-    assert!(rt; got == Err(Code::Mem) || has_typed(&mut machine, b"1000\r\n"));
-    assert!(rt; answer_on(&mut machine, alloc, b"1=", 10) != Err(Code::Lim));
-    machine.drop_typed();
-    assert!(rt; has_typed(&mut machine, b""));
+    assert!(rt; is_called_deep(rt.alloc()));
 }
 
 // The texts of a library, each in its register's place.
@@ -109,20 +110,25 @@ fn load(machine: &mut Machine<VecText>, texts: &Texts) -> Result<(), AllocError>
     Ok(())
 }
 
-// What registers have: how many characters with those of the push-down list, and the texts of A, of B
-// and of 9.
+// What registers have: how many characters with those of the push-down list, and the texts of A, of B and of 9.
 type Held = (u128, [&'static [u8]; 3]);
 
-fn holds(machine: &Machine<VecText>, held: &Held) -> bool {
-    let are_texts = b"AB9".iter().zip(held.1.iter()).all(|(name, text)| {
-        machine.regs().text(Reg::of(*name).unwrap_or_default()) == *text
-    });
-    are_texts && machine.held() == held.0
+fn has_text(machine: &Machine<VecText>, name: u8, text: &[u8]) -> bool {
+    machine.regs().text(Reg::of(name).unwrap_or_default()) == text
 }
 
-// Loads texts into registers, once more where memory was refused: nothing was loaded then.
-fn load_steady(machine: &mut Machine<VecText>, texts: &Texts, before: &Held) -> bool {
-    load(machine, texts).is_ok() || (holds(machine, before) && load(machine, texts).is_ok())
+fn holds(machine: &Machine<VecText>, (held, [a, b, nine]): &Held) -> bool {
+    let are_letters = has_text(machine, b'A', a) && has_text(machine, b'B', b);
+    are_letters && has_text(machine, b'9', nine) && machine.held() == *held
+}
+
+// Are texts loaded, so that registers hold this then? Once more where memory was refused, and nothing loaded.
+fn is_loaded(machine: &mut Machine<VecText>, texts: &Texts, before: &Held, after: &Held) -> bool {
+    let mut loaded = load(machine, texts);
+    if loaded.is_err() && holds(machine, before) {
+        loaded = load(machine, texts);
+    }
+    loaded.is_ok() && holds(machine, after)
 }
 
 // Does a command string come to its end on a machine, the second time at the latest?
@@ -135,24 +141,29 @@ const TWO: Held = (8, [b"%9=", b"", b"ninth"]);
 
 const ALL: Held = (144, [b"some"; 3]);
 
-// Four characters more are on the push-down list.
 const BOTH: Held = (148, [b"%9=", b"some", b"ninth"]);
 
-// Texts are loaded into two registers, into all and into the two again, and then numbers, the push-down
-// list and the others stay.
+// The texts of two registers, the first and the last.
+fn two_texts() -> Texts {
+    let mut texts: Texts = [None; REGISTERS];
+    texts[0] = Some(b"%9=");
+    texts[REGISTERS - 1] = Some(b"ninth");
+    texts
+}
+
+// Are texts loaded into two registers, into all, and into the two again? Numbers, pushed and other texts stay.
+fn are_loaded(machine: &mut Machine<VecText>, alloc: Global, two: &Texts) -> bool {
+    is_loaded(machine, two, &(0, [b""; 3]), &TWO)
+        && is_loaded(machine, &[Some(b"some"); REGISTERS], &TWO, &ALL)
+        && is_done(machine, alloc, b"5U9[B")
+        && is_loaded(machine, two, &(148, ALL.1), &BOTH)
+        && is_done(machine, alloc, b"MA]A")
+        && has_typed(machine, b"6\r\n")
+        && holds(machine, &(145, [b"some", b"some", b"ninth"]))
+}
+
 #[test]
 fn texts_are_loaded_all_or_none(rt: HostRuntime) {
     let mut machine = new_machine(rt.alloc());
-    let mut two: Texts = [None; REGISTERS];
-    two[0] = Some(b"%9=");
-    two[REGISTERS - 1] = Some(b"ninth");
-    assert!(rt; load_steady(&mut machine, &two, &(0, [b""; 3])) && holds(&machine, &TWO));
-    let all: Texts = [Some(b"some"); REGISTERS];
-    assert!(rt; load_steady(&mut machine, &all, &TWO) && holds(&machine, &ALL));
-    assert!(rt; is_done(&mut machine, rt.alloc(), b"5U9[B"));
-    let before = (148, ALL.1);
-    assert!(rt; load_steady(&mut machine, &two, &before) && holds(&machine, &BOTH));
-    assert!(rt; is_done(&mut machine, rt.alloc(), b"MA]A"));
-    assert!(rt; has_typed(&mut machine, b"6\r\n"));
-    assert!(rt; holds(&machine, &(145, [b"some", b"some", b"ninth"])));
+    assert!(rt; are_loaded(&mut machine, rt.alloc(), &two_texts()));
 }

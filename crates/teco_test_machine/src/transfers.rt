@@ -1,13 +1,13 @@
-//! Sessions whose reads and writes fail, or end in the midst of what is read.
-use super::trial::{Given, STEPS, expect_given, has, number_of, part_before, row_of, word};
-use std::alloc::{AllocError, Global};
+//! Sessions whose reads, writes or growths fail.
+use super::trial::{Left, Ran, STEPS, STORES, Store, expect, has, run_over, word};
+use std::alloc::Global;
 use std::io;
 use std::io::{ErrorKind, Read, Write};
 use std::process::Abort;
-use std::test::Fail;
+use teco_base::LIMIT;
 use teco_pages::MemHost;
 use teco_run::Machine;
-use teco_session::{CHUNK, session};
+use teco_session::session;
 use teco_text::VecText;
 
 /// Gives a byte at each read, and fails once, after so many.
@@ -64,142 +64,134 @@ impl Write for SlowWriter {
     }
 }
 
-/// How many reads and writes do well before one that fails, and what comes of it.
-const FAILED: &[&str] = &[
-    "0 99 read Ia\x1b1=\x1b\x1bIb\x1b2=\x1b\x1b => ",
-    "6 99 read Ia\x1b1=\x1b\x1bIb\x1b2=\x1b\x1b => ",
-    "7 99 read Ia\x1b1=\x1b\x1bIb\x1b2=\x1b\x1b => 1\r\n | a | 1",
-    "13 99 read Ia\x1b1=\x1b\x1bIb\x1b2=\x1b\x1b => 1\r\n | a | 1",
-    "14 99 read Ia\x1b1=\x1b\x1bIb\x1b2=\x1b\x1b => 1\r\n2\r\n | ab | 2",
-    "15 99 done Ia\x1b1=\x1b\x1bIb\x1b2=\x1b\x1b => 1\r\n2\r\n | ab | 2",
-    "99 0 write Ia\x1b1=\x1b\x1bIb\x1b2=\x1b\x1b =>  | a | 1",
-    "99 2 write Ia\x1b1=\x1b\x1bIb\x1b2=\x1b\x1b => 1\r | a | 1",
-    "99 3 write Ia\x1b1=\x1b\x1bIb\x1b2=\x1b\x1b => 1\r\n | ab | 2",
-    "99 5 write Ia\x1b1=\x1b\x1bIb\x1b2=\x1b\x1b => 1\r\n2\r | ab | 2",
-    "99 6 done Ia\x1b1=\x1b\x1bIb\x1b2=\x1b\x1b => 1\r\n2\r\n | ab | 2",
-    "3 99 read ]A\x1b\x1b1=\x1b\x1b => ",
-    "4 99 read ]A\x1b\x1b1=\x1b\x1b => ?PES\r\n",
-    "99 3 write ]A\x1b\x1b1=\x1b\x1b => ?PE",
-    "99 4 write 5C\x1b\x1b1=\x1b\x1b => ?POP",
-    "99 5 write 1=\x1b\x1b2= => 1\r\n?U",
+/// Two strings, each of which inserts a letter and types a number.
+const AB: &str = "Ia\x1b1=\x1b\x1bIb\x1b2=\x1b\x1b";
+
+/// How many reads and writes do well before one that fails, what comes of it, the input, and what is written and left.
+type Row = (u64, u64, &'static str, &'static str, Left);
+
+const FAILED: &[Row] = &[
+    (0, 99, "read", AB, (b"", b"", 0)),
+    (6, 99, "read", AB, (b"", b"", 0)),
+    (7, 99, "read", AB, (b"1\r\n", b"a", 1)),
+    (13, 99, "read", AB, (b"1\r\n", b"a", 1)),
+    (14, 99, "read", AB, (b"1\r\n2\r\n", b"ab", 2)),
+    (15, 99, "done", AB, (b"1\r\n2\r\n", b"ab", 2)),
+    (99, 0, "write", AB, (b"", b"a", 1)),
+    (99, 2, "write", AB, (b"1\r", b"a", 1)),
+    (99, 3, "write", AB, (b"1\r\n", b"ab", 2)),
+    (99, 5, "write", AB, (b"1\r\n2\r", b"ab", 2)),
+    (99, 6, "done", AB, (b"1\r\n2\r\n", b"ab", 2)),
+    (3, 99, "read", "]A\x1b\x1b1=\x1b\x1b", (b"", b"", 0)),
+    (4, 99, "read", "]A\x1b\x1b1=\x1b\x1b", (b"?PES\r\n", b"", 0)),
+    (99, 3, "write", "]A\x1b\x1b1=\x1b\x1b", (b"?PE", b"", 0)),
+    (99, 4, "write", "5C\x1b\x1b1=\x1b\x1b", (b"?POP", b"", 0)),
+    (99, 5, "write", "1=\x1b\x1b2=", (b"1\r\n?U", b"", 0)),
 ];
 
-/// How many reads and writes do well before the one that fails, and how those fail. Without a kind
-/// a write takes nothing.
-#[derive(Clone, Copy)]
-struct Faults {
-    reads: u64,
-    writes: u64,
-    of_read: ErrorKind,
-    of_write: Option<ErrorKind>,
-}
+/// How the read and the write that fail do so. Without a kind a write takes nothing.
+type Kinds = (ErrorKind, Option<ErrorKind>);
 
-// Does a session with these faults come to an outcome, and write and leave what its line says?
-fn is_slow(alloc: Global, faults: Faults, line: &'static str, outcome: &str) -> bool {
-    let row = row_of(line);
+// Does a session in which these fail come to an outcome, and write and leave what its row says?
+fn is_slow(alloc: Global, row: &Row, kinds: Kinds) -> bool {
+    let (reads, writes, outcome, input, (written, text, pointer)) = *row;
     let mut machine = Machine::new(alloc, VecText::new(alloc));
     let mut reader = SlowReader {
-        bytes: row.input,
-        before: Some(faults.reads),
-        kind: faults.of_read,
+        bytes: input.as_bytes(),
+        before: Some(reads),
+        kind: kinds.0,
     };
     let mut writer = SlowWriter {
         bytes: Vec::new(alloc),
-        before: Some(faults.writes),
-        kind: faults.of_write,
+        before: Some(writes),
+        kind: kinds.1,
     };
     let mut host = MemHost::new(alloc);
     let (from, to) = (&mut reader, &mut writer);
     let done = session(alloc, &mut machine, from, to, &mut host, STEPS);
-    let is_written = word(done) == outcome && writer.bytes.as_slice() == row.written;
-    is_written && has(&machine, row.text, row.pointer)
+    let is_written = word(done) == outcome && writer.bytes.as_slice() == written;
+    is_written && has(&machine, text, pointer)
 }
 
-// A session over a slow reader and writer comes out as its line says, the second time at the latest:
-// a growth may be refused the first time.
-fn expect_slow(rt: &(impl Abort + AllocGlobal), faults: Faults, line: &'static str, outcome: &str) {
-    let is_good = is_slow(rt.alloc(), faults, line, outcome)
-        || is_slow(rt.alloc(), faults, line, outcome);
-    let Faults { reads, writes, .. } = faults;
-    assert!(rt; is_good, "{line}: {reads} reads, {writes} writes");
+// A session comes out as its row says, the second time at the latest: a growth may be refused the first time.
+fn expect_slow(rt: &(impl Abort + AllocGlobal), row: &Row, kinds: Kinds) {
+    let is_good = is_slow(rt.alloc(), row, kinds) || is_slow(rt.alloc(), row, kinds);
+    let (reads, writes, _, input, _) = row;
+    assert!(rt; is_good, "{input}: {reads} reads, {writes} writes");
 }
 
 #[test]
 fn transfers_fail(rt: HostRuntime) {
-    for line in FAILED {
-        let mut rest: &'static str = line;
-        let (reads, writes) = (number_of(&mut rest), number_of(&mut rest));
-        let outcome = part_before(&mut rest, " ");
-        for of_write in [Some(ErrorKind::BrokenPipe), None] {
-            let faults = Faults {
-                reads,
-                writes,
-                of_read: ErrorKind::BrokenPipe,
-                of_write,
-            };
-            expect_slow(&rt, faults, rest, outcome);
-        }
+    let kind = ErrorKind::BrokenPipe;
+    for row in FAILED {
+        expect_slow(&rt, row, (kind, Some(kind)));
+        expect_slow(&rt, row, (kind, None));
     }
 }
 
 #[test]
 fn interruptions_are_passed(rt: HostRuntime) {
-    let line = "Ia\x1b1=\x1b\x1bIb\x1b2=\x1b\x1b => 1\r\n2\r\n | ab | 2";
+    let kind = ErrorKind::Interrupted;
     for n in 0..16 {
-        let faults = Faults {
-            reads: n,
-            writes: n,
-            of_read: ErrorKind::Interrupted,
-            of_write: Some(ErrorKind::Interrupted),
-        };
-        expect_slow(&rt, faults, line, "done");
+        let row: Row = (n, n, "done", AB, (b"1\r\n2\r\n", b"ab", 2));
+        expect_slow(&rt, &row, (kind, Some(kind)));
     }
 }
 
-// A comment of so many letters, and then two strings.
-fn string_of(alloc: Global, letters: usize) -> Result<String, AllocError> {
-    let comment = "a".repeat(alloc, letters)?;
-    format!(in alloc; "!{comment}!1=\x1b\x1b2=\x1b\x1b")
-}
-
-// The pair of ESC at the end of a string is behind, across and before the end of what one read
-// gives.
-#[test]
-fn reads_end_at_a_pair(rt: HostRuntime) -> Result<(), Fail> {
-    for letters in CHUNK - 9..CHUNK - 1 {
-        let input = match string_of(rt.alloc(), letters) {
-            Ok(input) => input,
-            Err(_) => string_of(rt.alloc(), letters)?,
-        };
-        let given = Given::whole(input.as_bytes());
-        expect_given(&rt, given, "done", "a pair => 1\r\n2\r\n");
-    }
-    Ok(())
-}
-
-/// Strings of at most 64 bytes: so many digits 1, what comes of it, what follows them, and what is
-/// written.
-const CAPPED: &[&str] = &[
-    "64 coded  => ?FUL\r\n",
-    "63 coded  => ?UTC\r\n",
-    "60 done = \x1b\x1b => -954437177\r\n",
+/// One string each, the bytes that it types, and the buffer and the pointer before and after it.
+const REFUSED_GROWTHS: &[(&str, Left)] = &[
+    (
+        "Iab\x1b(((((((((1)))))))))=HT\x1b\x1b",
+        (b"1\r\nab", b"ab", 2),
+    ),
+    (
+        "Iabcabc\x1bJ<FSb\x1bXX\x1b;>HT\x1b\x1b",
+        (b"aXXcaXXc", b"aXXcaXXc", 0),
+    ),
+    (
+        "Iabc\x1bHXA:QA=1QA=HKGAGA:GA.=\x1b\x1b",
+        (b"3\r\n98\r\nabc6\r\n", b"abcabc", 6),
+    ),
+    (
+        "5UA@^UA/xy/[A7UA^UAz\x1b]AQA=:GA\x1b\x1b",
+        (b"5\r\nxy", b"", 0),
+    ),
 ];
 
+// Where a growth is refused, a part of the bytes is typed and then the line for want of memory; or
+// nothing is, and memory is the fault; or the writer wanted it.
+fn is_allowed(ran: &Ran, whole: &[u8]) -> bool {
+    match ran.outcome {
+        "done" => ran.written.as_slice() == whole,
+        "coded" => match ran.written.strip_suffix(b"?MEM\r\n") {
+            Some(typed) => whole.starts_with(typed),
+            None => false,
+        },
+        "memory" => ran.written.is_empty(),
+        "write" => whole.starts_with(&ran.written),
+        _ => false,
+    }
+}
+
+// Is what comes of a session over a store allowed, and left so where it comes to its end?
+fn is_kept(alloc: Global, store: Store, input: &str, (written, text, pointer): Left) -> bool {
+    let mut host = MemHost::new(alloc);
+    let given = (input.as_bytes(), LIMIT);
+    let ran = run_over(alloc, store, &mut host, given, (text, pointer));
+    is_allowed(&ran, written) && (ran.is_left || ran.outcome != "done")
+}
+
+// Where an allocation fails in a session, the next over the same machine goes on with what it left.
 #[test]
-fn strings_are_capped(rt: HostRuntime) {
-    for line in CAPPED {
-        let mut rest = *line;
-        let ones = number_of(&mut rest) as usize;
-        let outcome = part_before(&mut rest, " ");
-        let row = row_of(rest);
-        let mut input = [b'1'; 64];
-        assert!(rt; ones <= 64 && row.input.len() <= 64 - ones);
-        let len = ones + row.input.len();
-        input[ones..len].copy_from_slice(row.input);
-        let given = Given {
-            input: &input[..len],
-            max: 64,
-        };
-        expect_given(&rt, given, outcome, line);
+fn growths_are_refused(rt: HostRuntime) {
+    for (input, left) in REFUSED_GROWTHS {
+        for store in STORES {
+            expect(
+                &rt,
+                is_kept(rt.alloc(), *store, input, *left),
+                input,
+                *store,
+            );
+        }
     }
 }

@@ -1,8 +1,4 @@
-//! Sessions over memory, run over both stores. A session that is refused a growth is run once more,
-//! so that each row also holds where one allocation fails.
-ghost use Rattle.std.specs.Prelude.{◌≤◌};
-ghost use Rattle.teco_base.specs.declared.TheConstants.{LIMIT};
-
+//! Sessions over memory and both stores. One that is refused a growth is run once more, so that each row holds then.
 use std::alloc::Global;
 use std::process::Abort;
 use teco_base::LIMIT;
@@ -25,22 +21,9 @@ pub enum Store {
 pub const STORES: &[Store] = &[Store::Flat, Store::Gap];
 
 /// What a session is given: an input, and how long a string may be.
-#[derive(Clone, Copy)]
-pub struct Given<'a> {
-    pub input: &'a [u8],
-    pub max: usize,
-    ghost within: { max ≤ LIMIT },
-}
+pub type Given<'a> = (&'a [u8], usize);
 
-impl<'a> Given<'a> {
-    /// An input, with strings as long as may be.
-    pub fn whole(input: &'a [u8]) -> Given<'a> {
-        Given { input, max: LIMIT }
-    }
-}
-
-/// What came of a session: an outcome, what was written, and the buffer and the pointer that are
-/// left, front and back.
+/// What came of a session: an outcome, what was written, and the buffer and the pointer that are left, front and back.
 #[derive(Drop)]
 pub struct Ran {
     pub outcome: &'static str,
@@ -80,9 +63,12 @@ impl Ran {
 
     /// May a growth have been refused?
     pub fn may_be_refused(&self) -> bool {
-        let codes = self.written.windows(4);
-        let is_typed = codes.into_iter().any(|four| REFUSALS.contains(&four));
-        is_typed || self.outcome == "memory" || self.outcome == "write"
+        for code in self.written.windows(4) {
+            if REFUSALS.contains(&code) {
+                return true;
+            }
+        }
+        self.outcome == "memory" || self.outcome == "write"
     }
 }
 
@@ -94,9 +80,8 @@ fn run_with<T: TextStore + Drop, H: Host>(
     left: (&[u8], usize),
 ) -> Ran {
     let mut machine = Machine::new(alloc, store);
-    let mut reader = given.input;
-    let mut written = Vec::new(alloc);
-    let (from, to, max) = (&mut reader, &mut written, given.max);
+    let (mut reader, mut written) = (given.0, Vec::new(alloc));
+    let (from, to, max) = (&mut reader, &mut written, given.1.min(LIMIT));
     let done = session_max(alloc, &mut machine, from, to, host, STEPS, max);
     Ran {
         outcome: word(done),
@@ -119,42 +104,8 @@ pub fn run_over<H: Host>(
     }
 }
 
-/// An input and what is written, and the buffer and the pointer that are left.
-#[derive(Clone, Copy)]
-pub struct Row<'a> {
-    pub input: &'a [u8],
-    pub written: &'a [u8],
-    pub text: &'a [u8],
-    pub pointer: usize,
-}
-
-/// What a line has before a mark, or all; the line keeps what stands behind the mark.
-pub fn part_before<'a>(line: &mut &'a str, mark: &str) -> &'a str {
-    let (part, rest) = line.split_once(mark).unwrap_or((*line, ""));
-    *line = rest;
-    part
-}
-
-/// The number that a line begins with, before a blank.
-pub fn number_of(line: &mut &str) -> u64 {
-    part_before(line, " ").parse().unwrap_or(0)
-}
-
-/// The row of a line `INPUT => WRITTEN | BUFFER | POINTER`. Where the last two are left out, the
-/// buffer is empty.
-pub fn row_of(line: &str) -> Row<'_> {
-    let mut rest = line;
-    let input = part_before(&mut rest, " => ").as_bytes();
-    let written = part_before(&mut rest, " | ").as_bytes();
-    let text = part_before(&mut rest, " | ").as_bytes();
-    let pointer = rest.parse().unwrap_or(0);
-    Row {
-        input,
-        written,
-        text,
-        pointer,
-    }
-}
+/// What is written, and the buffer and the pointer that are left.
+pub type Left = (&'static [u8], &'static [u8], usize);
 
 /// A session over a store came to what its row says.
 pub fn expect(rt: &impl Abort, is_good: bool, line: &str, store: Store) {
@@ -173,11 +124,10 @@ fn run_steady(alloc: Global, store: Store, given: Given<'_>, written: &[u8]) -> 
     }
 }
 
-/// A session over both stores, which has no text left, writes what its line says.
-pub fn expect_given(rt: &(impl Abort + AllocGlobal), given: Given<'_>, outcome: &str, line: &str) {
-    let written = row_of(line).written;
-    for store in STORES.iter() {
-        let ran = run_steady(rt.alloc(), *store, given, written);
-        expect(rt, ran.is(outcome, written), line, *store);
+/// A session over both stores, which has no text left, writes this.
+pub fn expect_ran(rt: &(impl Abort + AllocGlobal), given: Given<'_>, outcome: &str, typed: &str) {
+    for store in STORES {
+        let ran = run_steady(rt.alloc(), *store, given, typed.as_bytes());
+        expect(rt, ran.is(outcome, typed.as_bytes()), typed, *store);
     }
 }

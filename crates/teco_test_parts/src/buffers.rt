@@ -1,9 +1,6 @@
 // What is read ahead of an input, what is kept of small writes, and how much may be read and written.
 use crate::faulty::{Faulty, LIMITS, faulty_host};
-use crate::scratch::{
-    begin_in, begin_out, host, is_alone, is_exact, is_file, long_text, put_whole, reads, remove,
-    scratch, write_pieces,
-};
+use crate::scratch::*;
 use std::fs::OpenFile;
 use std::{fs, io};
 use teco_base::LIMIT;
@@ -59,8 +56,7 @@ fn is_sent_on(host: &mut FileHost<Faulty>, text: &[u8]) -> bool {
     is_as_wanted && host.close_out().is_ok()
 }
 
-// Is a fault told where an output is closed? What was kept of it is gone: nothing of it is in the
-// next ones.
+// Is a fault told where an output is closed? What was kept of it is gone: nothing of it is in the next ones.
 fn is_nothing_left(rt: &HostRuntime, faulty: &mut FileHost<Faulty>, text: &[u8]) -> bool {
     fs::write(rt, PATH, b"old").is_ok()
         && begin_out(faulty, PATH, b"")
@@ -75,15 +71,20 @@ fn is_nothing_left(rt: &HostRuntime, faulty: &mut FileHost<Faulty>, text: &[u8])
         && is_file(rt, PATH, b"new")
 }
 
+// Is this what a read gives?
+fn is_given(host: &mut FileHost<Faulty>, part: &[u8]) -> bool {
+    let mut buf = [0; 4096];
+    let read = host.read(&mut buf);
+    matches!(read, Ok(n) if n == part.len()) && buf.starts_with(part)
+}
+
 // Is what the system gives of a text, in parts of 1,000 bytes, served so, as of a terminal?
 fn is_served_at_once(host: &mut FileHost<Faulty>, text: &[u8]) -> bool {
-    let mut buf = [0; 4096];
     let mut is_served = begin_in(host, PATH);
     for part in text.chunks(1000) {
-        is_served &= matches!(host.read(&mut buf), Ok(n) if n == part.len());
-        is_served &= buf.starts_with(part);
+        is_served = is_served && is_given(host, part);
     }
-    is_served && matches!(host.read(&mut buf), Ok(0))
+    is_served && is_given(host, b"")
 }
 
 // Does a fault of the system come behind all bytes that were read before it, and once?
@@ -97,8 +98,7 @@ fn is_fault_behind(host: &mut FileHost<Faulty>, text: &[u8], whole: usize) -> bo
         && matches!(reads(host, behind, 4096), Ok(true))
 }
 
-// What is tried, the length of the text, how many bytes a call moves at most, and how many the file
-// moves before it fails once.
+// What is tried, the length of the text, how many bytes a call moves at most, and how many the file before it fails.
 type Row = (&'static str, usize, usize, usize);
 
 const ROWS: &[Row] = &[

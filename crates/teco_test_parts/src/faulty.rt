@@ -1,5 +1,4 @@
-// Files of the system that move few bytes at a call, and of which each fails once; another file may
-// stand in for the limits that the system sets.
+// Files that move few bytes at a call, and fail once; another may stand in for the limits that the system sets.
 use std::alloc::Allocator;
 use std::fs::{File, Files, Metadata, OpenFile, OpenOptions};
 use std::io::{self, Read, Seek, SeekFrom, Write};
@@ -9,15 +8,13 @@ use teco_pages::{FileHost, System};
 /// Where a process reads its limits.
 pub const LIMITS: &str = "/proc/self/limits";
 
-/// The runtime of such files.
+/// The runtime of such files: how many bytes a call moves at most, how many a file moves before it fails,
+/// and the file that stands in for the limits.
 #[derive(Clone, Copy, Drop)]
 pub struct Faulty {
     pub rt: HostRuntime,
-    // how many bytes a call moves at most
     pub piece: usize,
-    // how many bytes a file moves before it fails
     pub whole: usize,
-    // the file that stands in for the limits
     pub limits: &'static str,
 }
 

@@ -1,12 +1,9 @@
-// What a host of the system's files does with outputs, inputs and the files that have their names,
-// step by step, and what is then found in their folder.
-use crate::scratch::{
-    begin_in, begin_out, has_names, host, is_alone, is_file, is_missing, is_refused, mode,
-    put_whole, remove, scratch,
-};
-use std::fs::Permissions;
+// What a host of the system's files does step by step with outputs and inputs, and what is then found in their folder.
+use crate::scratch::*;
+use std::alloc::Global;
+use std::fs;
+use std::fs::{DirEntry, Permissions};
 use std::os::unix::fs::{PermissionsExt, symlink};
-use std::{fs, io};
 use teco_pages::{Backup, Closed, Closing, FileHost, Handling, Host, ProcessFacts, remove_strays};
 
 const FOLDER: &str = "somleut_test_outputs";
@@ -25,8 +22,7 @@ fn closing_of(word: &str) -> Closing {
     }
 }
 
-// Is it set how a host treats outputs: how they are closed, that files are edited in place, or that
-// one that is replaced is kept, maybe where one is?
+// Is it set how outputs are closed, that files are edited in place, or kept where they are replaced?
 fn is_set(rt: &HostRuntime, host: &mut FileHost<HostRuntime>, word: &str, text: &str) -> bool {
     let backup = match String::from_str(rt.alloc(), ".old") {
         Ok(suffix) => Ok(suffix),
@@ -102,8 +98,7 @@ fn is_so(rt: &HostRuntime, word: &str, text: &str) -> bool {
     }
 }
 
-// The step that is not done by one host, which is gone then. A close that is refused memory loses
-// the output, and nothing else.
+// The step that is not done by one host. A close that is refused memory loses the output, and nothing else.
 fn step_not_done<'a>(rt: &HostRuntime, steps: &'a str) -> Option<&'a str> {
     let mut host = host(rt);
     for step in steps.split(" ") {
@@ -119,8 +114,7 @@ fn step_not_done<'a>(rt: &HostRuntime, steps: &'a str) -> Option<&'a str> {
 
 // Steps in an empty folder, and the bytes of the file when the host is gone. It is then alone there.
 const STEPS: &[&str] = &[
-    // An output takes its name when it is closed. A file that is replaced keeps its permissions,
-    // and its bytes until then. One output is open at a time.
+    // An output takes its name when it is closed; a file keeps its permissions, and its bytes until then. One is open.
     "begin:new is-missing close alone:new begin:newer has:new => new",
     "put:old private begin:newer cannot-begin-other close is-private => newer",
     // A dropped output leaves no trace, nor does the last one, which is open where the host goes.
@@ -148,8 +142,7 @@ const STEPS: &[&str] = &[
     "edit put:old read begin:new put:longer cannot-close => longer",
     // A folder is no file to edit, and a file that is not there is none.
     "edit is-missing cannot-read make-folder cannot-read remove-folder put:old read => old",
-    // A file is kept under its other name with its permissions, in the place of no other file
-    // unless it may be. One that stays as it was is not kept.
+    // A file that is replaced is kept with its permissions, in the place of no other file unless it may be.
     "edit keep put:old private read begin:new close kept:old is-private remove-kept => new",
     "edit keep put:new put-kept:old read begin:newer cannot-close kept:old remove-kept => new",
     "edit keep:again put:new put-kept:old read begin:newer close kept:new remove-kept => newer",
@@ -193,83 +186,79 @@ fn a_link_is_followed_and_set_id_bits_are_kept(rt: HostRuntime) {
     assert!(rt; remove(&rt, "somleut_test_link"));
 }
 
-// Another file takes the place of the one beside the target. Is it left, and no output made, where
-// the output is closed or dropped? Both files are then removed.
-fn is_another_left(rt: &HostRuntime, is_dropped: bool) -> io::Result<bool> {
-    let mut host = host(rt);
-    let is_begun = begin_out(&mut host, "somleut_test_taken/out", b"new");
-    let Some(entry) = fs::read_dir(rt, "somleut_test_taken")?.next() else {
-        return Ok(false);
-    };
-    let entry = entry?;
-    let path = entry.path();
-    let beside = path.as_str();
-    fs::rename(rt, beside, "somleut_test_taken/moved")?;
-    fs::write(rt, beside, b"another")?;
-    let is_ended = if is_dropped {
-        host.drop_out().is_ok()
-    } else {
-        host.close_out().is_err()
-    };
-    let is_left = is_file(rt, beside, b"another") && is_missing(rt, "somleut_test_taken/out");
-    fs::remove_file(rt, beside)?;
-    fs::remove_file(rt, "somleut_test_taken/moved")?;
-    Ok(is_begun && is_ended && is_left)
+// Another file takes the place of the one of an output, which is dropped, or can't be closed. Is it left?
+fn is_left(rt: &HostRuntime, host: &mut FileHost<HostRuntime>, path: &str, drops: bool) -> bool {
+    fs::rename(rt, path, "somleut_test_taken/moved").is_ok()
+        && fs::write(rt, path, b"another").is_ok()
+        && ((drops && host.drop_out().is_ok()) || (!drops && host.close_out().is_err()))
+        && is_file(rt, path, b"another")
+        && is_missing(rt, "somleut_test_taken/out")
 }
 
+// The first name in a folder, if it has one.
+fn first_in(rt: &HostRuntime, folder: &str) -> Option<DirEntry> {
+    match fs::read_dir(rt, folder) {
+        Ok(mut names) => match names.next() {
+            Some(Ok(entry)) => Some(entry),
+            _ => None,
+        },
+        Err(_) => None,
+    }
+}
+
+// Is the file left that takes the place of the one beside the target?
+fn is_another_left(rt: &HostRuntime, is_dropped: bool) -> bool {
+    let mut host = host(rt);
+    let folder = "somleut_test_taken";
+    let is_begun = scratch(rt, folder) && begin_out(&mut host, "somleut_test_taken/out", b"new");
+    match first_in(rt, folder) {
+        Some(entry) => is_begun && is_left(rt, &mut host, entry.path().as_str(), is_dropped),
+        None => false,
+    }
+}
+
+// The second time at the latest: memory may be refused the first time.
 #[test]
 fn the_file_of_another_is_left(rt: HostRuntime) {
-    assert!(rt; scratch(&rt, "somleut_test_taken"));
     for is_dropped in [false, true] {
-        let mut is_left = is_another_left(&rt, is_dropped);
-        if is_left.is_err() {
-            is_left = is_another_left(&rt, is_dropped);
-        }
-        assert!(rt; matches!(is_left, Ok(true)));
+        let is_so = is_another_left(&rt, is_dropped) || is_another_left(&rt, is_dropped);
+        assert!(rt; is_so, "{is_dropped}");
     }
     assert!(rt; remove(&rt, "somleut_test_taken"));
 }
 
-// The name of the one file in the folder, with another number of a process in it, if it has one.
-fn renamed(rt: &HostRuntime, folder: &str, number: &str) -> io::Result<Option<String>> {
-    let Some(entry) = fs::read_dir(rt, folder)?.next() else {
-        return Ok(None);
-    };
-    let entry = entry?;
-    let Some(rest) = entry.file_name().strip_prefix(".somleut-") else {
-        return Ok(None);
-    };
-    let Some((_, behind)) = rest.split_once('-') else {
-        return Ok(None);
-    };
-    Ok(Some(format!(in rt.alloc(); "{folder}/.somleut-{number}-{behind}")?))
+// The name of a file beside a target, with another number of a process in it: more than any has.
+fn stray_of(alloc: Global, name: &str) -> Option<String> {
+    let (_, behind) = name.strip_prefix(".somleut-")?.split_once('-')?;
+    format!(in alloc; "somleut_test_strays/.somleut-4194305-{behind}").ok()
+}
+
+// Is a file removed that a process left which is gone, and no other?
+fn is_stray_removed(rt: &HostRuntime, folder: &str, stray: &str) -> bool {
+    let facts = ProcessFacts::read(rt, rt.alloc());
+    fs::write(rt, stray, b"left").is_ok()
+        && fs::write(rt, "somleut_test_strays/.somleut-1", b"no stray").is_ok()
+        && matches!(remove_strays(rt, rt.alloc(), folder, facts), Ok(1))
+        && is_missing(rt, stray)
+        && matches!(remove_strays(rt, rt.alloc(), folder, facts), Ok(0))
 }
 
 // Is what a process left removed that is gone, and not what this one has open?
-fn is_swept(rt: &HostRuntime, folder: &str) -> io::Result<bool> {
-    let (facts, mut host) = (ProcessFacts::read(rt, rt.alloc()), host(rt));
-    if !scratch(rt, folder) || !begin_out(&mut host, "somleut_test_strays/out", b"new") {
-        return Ok(false);
-    }
-    // more than any process has as its number
-    let Some(stray) = renamed(rt, folder, "4194305")? else {
-        return Ok(false);
+fn is_swept(rt: &HostRuntime, folder: &str) -> bool {
+    let mut host = host(rt);
+    let is_begun = scratch(rt, folder) && begin_out(&mut host, "somleut_test_strays/out", b"new");
+    let Some(entry) = first_in(rt, folder) else {
+        return false;
     };
-    fs::write(rt, &stray, b"left")?;
-    fs::write(rt, "somleut_test_strays/.somleut-1", b"no stray")?;
-    Ok(
-        remove_strays(rt, rt.alloc(), folder, facts)? == 1
-            && is_missing(rt, &stray)
-            && remove_strays(rt, rt.alloc(), folder, facts)? == 0,
-    )
+    match stray_of(rt.alloc(), entry.file_name()) {
+        Some(stray) => is_begun && is_stray_removed(rt, folder, &stray),
+        None => false,
+    }
 }
 
 #[test]
 fn what_killed_runs_left_is_removed(rt: HostRuntime) {
     let folder = "somleut_test_strays";
-    let mut is_done = is_swept(&rt, folder);
-    if is_done.is_err() {
-        is_done = is_swept(&rt, folder);
-    }
-    assert!(rt; matches!(is_done, Ok(true)) && remove(&rt, folder));
+    let is_so = is_swept(&rt, folder) || is_swept(&rt, folder);
+    assert!(rt; is_so && remove(&rt, folder));
 }

@@ -16,19 +16,24 @@ pub fn scratch(rt: &HostRuntime, folder: &str) -> bool {
     fs::create_dir(rt, folder).is_ok()
 }
 
-fn count_names(rt: &HostRuntime, folder: &str) -> io::Result<usize> {
+// How many names a folder has. None where it can't be read whole.
+fn count_names(rt: &HostRuntime, folder: &str) -> Option<usize> {
+    let Ok(names) = fs::read_dir(rt, folder) else {
+        return None;
+    };
     let mut count = 0usize;
-    for entry in fs::read_dir(rt, folder)? {
-        let _entry = entry?;
+    for name in names {
+        if name.is_err() {
+            return None;
+        }
         count = count.saturating_add(1);
     }
-    Ok(count)
+    Some(count)
 }
 
 // Has a folder so many names?
 pub fn has_names(rt: &HostRuntime, folder: &str, want: usize) -> bool {
-    let count = count_names(rt, folder).or_else(|_| count_names(rt, folder));
-    matches!(count, Ok(count) if count == want)
+    count_names(rt, folder) == Some(want) || count_names(rt, folder) == Some(want)
 }
 
 // The permissions of a file.
@@ -72,8 +77,7 @@ pub fn is_refused<R: System>(host: &FileHost<R>) -> bool {
     }
 }
 
-// Opens an output and writes some bytes to it; answers whether it could. None is open where memory
-// was refused.
+// Opens an output and writes some bytes to it; answers whether it could. None is open where memory was refused.
 pub fn begin_out<R: System>(host: &mut FileHost<R>, path: &str, bytes: &[u8]) -> bool {
     let mut is_open = host.open_out(path.as_bytes()).is_ok();
     if !is_open && is_refused(host) && host.write(b"none is open").is_err() {
@@ -97,8 +101,11 @@ pub fn long_text(alloc: Global, len: usize) -> Result<Vec<u8>, AllocError> {
 // Opens an input; answers whether it could. The one before stays open where memory was refused.
 pub fn begin_in<R: System>(host: &mut FileHost<R>, path: &str) -> bool {
     let left = host.bytes_left();
-    host.open_in(path.as_bytes()).is_ok()
-        || (is_refused(host) && host.bytes_left() == left && host.open_in(path.as_bytes()).is_ok())
+    let mut is_open = host.open_in(path.as_bytes()).is_ok();
+    if !is_open && is_refused(host) && host.bytes_left() == left {
+        is_open = host.open_in(path.as_bytes()).is_ok();
+    }
+    is_open
 }
 
 // Writes a text in pieces of so many bytes; answers whether it could.
@@ -124,34 +131,45 @@ pub fn put_whole<R: System>(host: &mut FileHost<R>, path: &str, bytes: &[u8]) ->
     begin_out(host, path, bytes) && host.close_out().is_ok()
 }
 
+// What is left of a text behind the next bytes of an input, if it begins with them.
+fn behind<'a>(
+    host: &mut impl Host,
+    text: &'a [u8],
+    room: &mut [u8],
+) -> Result<Option<&'a [u8]>, Failed> {
+    match host.read(room) {
+        Ok(n) => Ok(text.strip_prefix(&room[..n])),
+        Err(Failed) => Err(Failed),
+    }
+}
+
 // Reads an input in pieces of so many bytes: does it have this text?
 pub fn reads(host: &mut impl Host, text: &[u8], piece: usize) -> Result<bool, Failed> {
     let mut buf = [0; 70_000];
-    let room = piece.min(70_000);
+    let room = &mut buf[..piece.min(70_000)];
     let mut rest = text;
     for _ in 0..=text.len() {
-        let n = host.read(&mut buf[..room])?;
-        if n == 0 {
-            break;
-        }
-        match rest.strip_prefix(&buf[..n]) {
-            Some(behind) => rest = behind,
-            None => return Ok(false),
+        match behind(host, rest, room)? {
+            Some(left) if left.len() < rest.len() => rest = left,
+            left => return Ok(left.is_some() && rest.is_empty()),
         }
     }
-    Ok(rest.is_empty())
+    Ok(false)
+}
+
+// Is a text written in pieces of so many bytes, and read so?
+fn is_moved<R: System>(host: &mut FileHost<R>, path: &str, text: &[u8], piece: usize) -> bool {
+    begin_out(host, path, b"")
+        && write_pieces(host, text, piece)
+        && host.close_out().is_ok()
+        && begin_in(host, path)
+        && matches!(reads(host, text, piece), Ok(true))
 }
 
 // Does a text of so many bytes arrive that is written in pieces of so many, and is it read so?
 pub fn is_exact(rt: &HostRuntime, path: &str, size: usize, piece: usize) -> bool {
-    let Ok(text) = long_text(rt.alloc(), size) else {
-        return false;
-    };
-    let mut host = host(rt);
-    begin_out(&mut host, path, b"")
-        && write_pieces(&mut host, &text, piece)
-        && host.close_out().is_ok()
-        && begin_in(&mut host, path)
-        && matches!(reads(&mut host, &text, piece), Ok(true))
-        && is_file(rt, path, &text)
+    match long_text(rt.alloc(), size) {
+        Ok(text) => is_moved(&mut host(rt), path, &text, piece) && is_file(rt, path, &text),
+        Err(AllocError) => false,
+    }
 }

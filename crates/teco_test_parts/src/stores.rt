@@ -1,5 +1,4 @@
-// Rows of calls on either store, with what each answers and leaves. A call that is refused memory
-// is made once more, so that the rows also hold where one allocation fails.
+// Rows of calls on either store, with what each answers and leaves. One that is refused memory is made once more.
 use std::alloc::Global;
 use std::process::Abort;
 use teco_base::LIMIT;
@@ -41,15 +40,19 @@ fn answer<T: TextStore>(store: &mut T, alloc: Global, call: Call) -> &'static st
     }
 }
 
+// Whether the store has this at a place.
+fn has<T: TextStore>(store: &T, place: usize, byte: Option<u8>) -> bool {
+    store.at(place) == byte
+}
+
 // Whether the store has this text and pointer, character by character.
 fn is_at<T: TextStore>(store: &T, text: &[u8], dot: usize) -> bool {
-    store.len() == text.len()
-        && store.dot() == dot
-        && store.at(text.len()).is_none()
-        && text
-            .iter()
-            .enumerate()
-            .all(|(i, byte)| store.at(i) == Some(*byte))
+    for (place, byte) in text.iter().enumerate() {
+        if !has(store, place, Some(*byte)) {
+            return false;
+        }
+    }
+    store.len() == text.len() && store.dot() == dot && has(store, text.len(), None)
 }
 
 // Whether the two pieces that the store shows are this text.

@@ -1,8 +1,9 @@
 // Files that are refused, and what is told of them.
 use crate::scratch::{has_names, host, remove, scratch};
+use std::alloc::Global;
 use std::fs;
 use std::os::unix::fs::symlink;
-use teco_pages::Host;
+use teco_pages::{FileHost, Host, Trouble};
 
 const FOLDER: &str = "somleut_test_refused";
 
@@ -38,30 +39,40 @@ fn make_targets(rt: &HostRuntime) -> bool {
         && symlink(rt, "/proc/self/fd/1", "somleut_test_refused/again").is_ok()
 }
 
-// What is told where a name can't be opened, in words; nothing is open then.
-fn told(rt: &HostRuntime, is_input: bool, opened: &[u8]) -> Option<String> {
+// Does what is told of a trouble begin so?
+fn begins(alloc: Global, trouble: &Trouble, wanted: &str) -> bool {
+    let Ok(name) = String::from_utf8_lossy(alloc, &trouble.name) else {
+        return false;
+    };
+    match format!(in alloc; "{} {name}: {}", trouble.purpose, trouble.reason) {
+        Ok(told) => told.as_str().starts_with(wanted),
+        Err(_) => false,
+    }
+}
+
+// Is nothing open in a host?
+fn is_closed(host: &mut FileHost<HostRuntime>) -> bool {
+    host.read(&mut [0; 4]).is_err() && host.write(b"a").is_err() && host.close_out().is_err()
+}
+
+// Can't a name be opened, is this told of it, and is nothing open then?
+fn is_refused(rt: &HostRuntime, is_input: bool, name: &[u8], wanted: &str) -> bool {
     let mut host = host(rt);
     let is_open = if is_input {
-        host.open_in(opened).is_ok()
+        host.open_in(name).is_ok()
     } else {
-        host.open_out(opened).is_ok()
+        host.open_out(name).is_ok()
     };
-    let trouble = host.trouble()?;
-    let name = String::from_utf8_lossy(rt.alloc(), &trouble.name).ok()?;
-    let told = format!(in rt.alloc(); "{} {name}: {}", trouble.purpose, trouble.reason).ok()?;
-    let is_other = host.read(&mut [0; 4]).is_ok() || host.write(b"a").is_ok();
-    (!is_open && !is_other && host.close_out().is_err()).then_some(told)
+    let is_told = match host.trouble() {
+        Some(trouble) => begins(rt.alloc(), trouble, wanted),
+        None => false,
+    };
+    is_told && !is_open && is_closed(&mut host)
 }
 
 // Is this told, the second time at the latest? Memory may be refused the first time.
 fn is_told(rt: &HostRuntime, is_input: bool, name: &[u8], wanted: &str) -> bool {
-    for _ in 0..2 {
-        match told(rt, is_input, name) {
-            Some(told) if told.as_str().starts_with(wanted) => return true,
-            _ => {}
-        }
-    }
-    false
+    is_refused(rt, is_input, name, wanted) || is_refused(rt, is_input, name, wanted)
 }
 
 // Is a line told of the name that it has?

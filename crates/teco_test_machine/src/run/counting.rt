@@ -1,7 +1,5 @@
-// A run edits the store that the machine was given, and makes no list of its own: a store counts
-// the characters put into it.
+// A run edits the store that it was given, and makes no list: a store counts the characters put into it.
 use super::*;
-use std::alloc::Global;
 use std::marker::Model;
 use teco_text::{TextFault, TextStore};
 
@@ -74,26 +72,26 @@ impl TextStore for Counting {
     }
 }
 
-// Does a run on 500 characters, which puts in 1,000 and deletes each, put in as many as it says? None
-// where memory was refused.
-fn is_counted(rt: &impl Abort, alloc: Global) -> Option<bool> {
+// The characters that a run is given.
+const GIVEN: &[u8] = &[b'b'; 500];
+
+// A store of these. It is empty where memory was refused twice.
+fn new_store(alloc: Global) -> Counting {
     let mut text = VecText::new(alloc);
-    if text.insert(&[b'b'; 500]).is_err() {
-        assert!(rt; text.insert(&[b'b'; 500]).is_ok());
-    }
-    let mut machine = Machine::new(alloc, Counting { text, put_in: 0 });
-    match machine.run(b"1000<Ia\x1b-D>\x1b\x1b", 10_000, &mut MemHost::new(alloc)) {
-        Stop::Memory => None,
-        Stop::Ended { .. } => {
-            let store = machine.store();
-            Some(store.put_in == 1000 && store.slices().0 == [b'b'; 500].as_slice())
-        }
-        _ => Some(false),
-    }
+    let _is_done = text.insert(GIVEN).is_ok() || text.insert(GIVEN).is_ok();
+    Counting { text, put_in: 0 }
+}
+
+// Does a run, which puts in 1,000 characters and deletes each, put in as many as it says?
+fn is_counted(alloc: Global) -> bool {
+    let mut machine = Machine::new(alloc, new_store(alloc));
+    let stop = machine.run(b"1000<Ia\x1b-D>\x1b\x1b", 10_000, &mut MemHost::new(alloc));
+    let store = machine.store();
+    let is_left = store.put_in == 1000 && store.slices().0 == GIVEN;
+    is_left && matches!(stop, Stop::Ended { .. })
 }
 
 #[test]
 fn a_run_puts_in_as_many_characters_as_it_says(rt: HostRuntime) {
-    let is_so = is_counted(&rt, rt.alloc()) == Some(true);
-    assert!(rt; is_so || is_counted(&rt, rt.alloc()) == Some(true));
+    assert!(rt; is_counted(rt.alloc()) || is_counted(rt.alloc()));
 }
