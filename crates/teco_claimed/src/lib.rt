@@ -1,8 +1,16 @@
-//! Certificates of the linear rules: what is claimed of a macro, as a text, and macros of which it was
+//! Certificates of the linear rules: what is claimed of a macro, as a text, and macros of which that was
 //! checked.
 #![tactic(auto)]
 
 mod certificate;
+mod check;
+mod claimed;
 mod reading;
+mod refusal;
+#[cfg(test)]
+mod tests;
 
 pub use certificate::LinearCertificate;
+pub use check::check_linear;
+pub use claimed::Claimed;
+pub use refusal::{LinearRefusal, NodePlace};

@@ -1,0 +1,45 @@
+-- What is so of a macro whose certificate of the linear rules was checked.
+use Rattle.std.specs.Prelude.{◌≡◌, ℕ, List, map, length, Option, option_map, Ok}
+use Rattle.teco_claimed.specs.Reads.{IsWellFormed}
+use Rattle.teco_claimed.specs.declared.certificate.LinearCertificate.{LinearCertificate}
+use Rattle.teco_library.specs.Library.{LibraryFile, argument_of}
+use Rattle.teco_model.specs.Macros.{Library}
+use Rattle.teco_paths.specs.Sure.{IsCertain}
+use Rattle.teco_promise.specs.Promise.{Promise}
+use Rattle.teco_verifier.specs.expansion.Expansion.{expansion}
+use Rattle.teco_verifier.specs.expansion.Node.{Node}
+
+-- the library, and what the certificate says of the entry
+pub record LinearFinding : Type 0 where
+  pub library : LibraryFile
+  pub certificate : LinearCertificate
+
+-- The argument is the one that the library declares for the entry, if it declares one.
+abbrev pub TakesDeclared : LibraryFile → LinearCertificate → Type 0
+TakesDeclared library certificate = certificate.argument ≡ argument_of library certificate.entry
+
+-- how long the texts are, by the places of their registers
+abbrev pub lengths_of : Library → List (Option ℕ)
+lengths_of library = map (option_map length) library
+
+-- The certificate has a text and the argument that is declared, the macro has an expansion, and each of its runs ends
+-- as the certificate says.
+pub record IsChecked (library : LibraryFile) (certificate : LinearCertificate) : Type 0 where
+  pub well_formed : IsWellFormed certificate
+  pub declared : TakesDeclared library certificate
+  pub nodes : List Node
+  pub expanded : expansion library.texts certificate.entry ≡ Ok nodes
+  pub certain :
+      IsCertain nodes (lengths_of library.texts) certificate.argument certificate.needs certificate.claims.commands
+      certificate.claims.size
+
+-- what the certificate says, but not what it claims on the way
+abbrev pub promise_of : LinearFinding → Promise
+promise_of found = record {
+  library = found.library.texts;
+  entry = found.certificate.entry;
+  argument = found.certificate.argument;
+  needs = found.certificate.needs;
+  commands = found.certificate.claims.commands;
+  size = found.certificate.claims.size;
+}

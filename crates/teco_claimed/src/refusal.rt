@@ -1,0 +1,139 @@
+//! Why a certificate of the linear rules is refused.
+ghost use Rattle.std.specs.Prelude.{◌≡◌};
+ghost use Rattle.teco_claimed.specs.Refused.{place_told, refusal_by_claims, refusal_by_expansion};
+ghost use Rattle.teco_claimed.specs.Refused.{refusal_by_reading, number_told};
+ghost use Rattle.teco_claimed.specs.declared.refusal.LinearRefusal.TheVariants.{Memory};
+
+use std::alloc::AllocError;
+use std::fmt;
+use teco_certificate::CertificateFault;
+use teco_expansion::{ExpandFault, Nodes, Reason, Refusal};
+use teco_paths::fault::PathFault;
+use thiserror::Error;
+
+/// Where the element of a node stands: the place of the register in whose text, and its place there.
+#[derive(Clone, Copy, Debug, PartialEq, Eq)]
+pub struct NodePlace {
+    /// The place of the register, 0 for `A`.
+    pub register: usize,
+    /// The place of the element in its text.
+    pub place: usize,
+}
+
+/// Why a certificate of the linear rules is refused.
+#[derive(Clone, Copy, Error)]
+pub enum LinearRefusal {
+    /// The text is no certificate of the linear rules.
+    #[error("the text is no certificate of the linear rules")]
+    NotACertificate,
+    /// Its argument is not the one that the library declares for the entry, if it declares one.
+    #[error("the argument is not the one that the library declares")]
+    OtherArgument,
+    /// The macro has no expansion.
+    #[error("the macro has no expansion: {}", reason_text(.0.reason))]
+    NotExpanded(Refusal),
+    /// The claims do not hang together.
+    #[error("{fault}")]
+    NotCertain {
+        /// Why.
+        fault: PathFault,
+        /// Where the element stands whose number that tells, if there is one.
+        at: Option<NodePlace>,
+    },
+    /// A growth was refused.
+    #[error("out of memory")]
+    Memory,
+}
+
+// Why a macro has no expansion.
+fn reason_text(reason: Reason) -> &'static str {
+    match reason {
+        Reason::Fault => "an element or a search text has a fault",
+        Reason::Unpaired => "a bracket, a pipe or a tag has no partner, or pairs overlap",
+        Reason::NoMacro => "what is called is no macro of the library",
+        Reason::Recursion => "a macro calls itself, or one that calls it",
+        Reason::TooLarge => "there are too many elements, open calls or open iterations",
+    }
+}
+
+impl fmt::Debug for LinearRefusal {
+    fn fmt<W: fmt::Write>(&self, f: &mut fmt::Formatter<W>) -> fmt::Result {
+        write!(f, "{self}")
+    }
+}
+
+impl From<AllocError> for LinearRefusal {
+    ghost from_gives = { λ _ refused. refused ≡ Memory };
+
+    fn from(_refused: AllocError) -> LinearRefusal {
+        LinearRefusal::Memory
+    }
+}
+
+impl From<CertificateFault> for LinearRefusal {
+    ghost from_gives = { λ fault refused. refused ≡ refusal_by_reading fault };
+
+    fn from(fault: CertificateFault) -> LinearRefusal {
+        match fault {
+            CertificateFault::NotACertificate => LinearRefusal::NotACertificate,
+            CertificateFault::Memory => LinearRefusal::Memory,
+        }
+    }
+}
+
+impl From<ExpandFault> for LinearRefusal {
+    ghost from_gives = { λ fault refused. refused ≡ refusal_by_expansion fault };
+
+    fn from(fault: ExpandFault) -> LinearRefusal {
+        match fault {
+            ExpandFault::Refused(refusal) => LinearRefusal::NotExpanded(refusal),
+            ExpandFault::Memory => LinearRefusal::Memory,
+        }
+    }
+}
+
+// The number of the element that a fault tells, if it tells one.
+fn number_in(fault: PathFault) -> Option<usize>
+    ensures { result ≡ number_told fault }
+{
+    match fault {
+        PathFault::NoElement(number)
+        | PathFault::NotTold(number)
+        | PathFault::NotOpen(number)
+        | PathFault::Condition(number)
+        | PathFault::Size(number)
+        | PathFault::Commands(number)
+        | PathFault::Claims(number)
+        | PathFault::Unread(number) => Some(number),
+        PathFault::TooLong | PathFault::Unknown | PathFault::Memory => None,
+    }
+}
+
+// Where the element stands whose number a fault tells, if there is one.
+fn place_in(nodes: &Nodes<'_>, fault: PathFault) -> Option<NodePlace>
+    ensures { result ≡ place_told nodes.now fault }
+{
+    let number = number_in(fault)?;
+    if number == 0 || number > nodes.len() {
+        return None;
+    }
+    Some(NodePlace {
+        register: nodes.register(number),
+        place: nodes.place(number),
+    })
+}
+
+impl LinearRefusal {
+    /// Where the claims of a macro with these nodes do not hang together.
+    pub(crate) fn of_claims(nodes: &Nodes<'_>, fault: PathFault) -> LinearRefusal
+        ensures { result ≡ refusal_by_claims nodes.now fault }
+    {
+        match fault {
+            PathFault::Memory => LinearRefusal::Memory,
+            fault => LinearRefusal::NotCertain {
+                fault,
+                at: place_in(nodes, fault),
+            },
+        }
+    }
+}
