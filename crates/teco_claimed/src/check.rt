@@ -1,5 +1,5 @@
 //! Checking a certificate of the linear rules.
-ghost use Rattle.std.specs.Prelude.{◌≡◌, ◌↔◌, IsTrue, IfOk, OnOk, length, map, option_map};
+ghost use Rattle.std.specs.Prelude.{◌≡◌, ◌↔◌, IsTrue, IfOk, OnOk, length, option_map};
 ghost use Rattle.std.specs.Option.{option_copied};
 ghost use Rattle.std.specs.Result.{IfErr};
 ghost use Rattle.teco_claimed.specs.Claimed.{TakesDeclared};
