@@ -18,8 +18,7 @@ type Expected = (
     Option<(i64, i64)>,
 );
 
-// A library, the place at which its macro A is refused, and the node where that is, if it is; how many
-// nodes there are, and what is known before those that were reached.
+// A library, where its macro A is refused, place and node, how many nodes there are, and what is known before each.
 struct Told(
     &'static str,
     Option<(usize, usize)>,
@@ -27,7 +26,7 @@ struct Told(
     &'static [Expected],
 );
 
-const TOLD: [Told; 3] = [
+const TOLD: &[Told] = &[
     Told("@^UA/J<Sfoo\x1b;I!\x1b>/", None, 8, MARKED),
     Told("@^UA/5C/", Some((1, 3)), 4, MOVED),
     Told("@^UA/MA/", Some((0, 0)), 0, &[]),
@@ -113,35 +112,32 @@ fn tells_of_search(account: &Account<'_>) -> bool {
         && known.failed().map(|room| (room.back, room.fore)) == Some((0, 0))
 }
 
-impl Told {
-    // Is all of this told, of the nodes that were reached and of no others?
-    fn is_told(&self, account: &Account<'_>) -> bool {
-        let Told(_, refused, nodes, expected) = self;
-        for (place, row) in expected.iter().enumerate() {
-            if !is_known(account, place + 1, row) {
-                return false;
-            }
+// Is all of this told, of the nodes that were reached and of no others?
+fn is_told(Told(_, refused, nodes, expected): &Told, account: &Account<'_>) -> bool {
+    for (place, row) in expected.iter().enumerate() {
+        if !is_known(account, place + 1, row) {
+            return false;
         }
-        account.len() == *nodes
-            && ends(account, *refused)
-            && account.known(0).is_none()
-            && account.known(expected.len() + 1).is_none()
-            && account.begin(0).is_none()
-            && account.begin(nodes.saturating_add(1)).is_none()
-            && account.element(nodes.saturating_add(1)).is_none()
-            && (refused.is_some() || (tells_of_choice(account) && tells_of_search(account)))
     }
+    account.len() == *nodes
+        && ends(account, *refused)
+        && account.known(0).is_none()
+        && account.known(expected.len() + 1).is_none()
+        && account.begin(0).is_none()
+        && account.begin(nodes.saturating_add(1)).is_none()
+        && account.element(nodes.saturating_add(1)).is_none()
+        && (refused.is_some() || (tells_of_choice(account) && tells_of_search(account)))
 }
 
 impl Case for Told {
     fn holds(&self, alloc: Global) -> Option<bool> {
         let library = library_of(alloc, self.0.as_bytes())?;
         let account = account_of(alloc, &library, Reg::default()).ok()?;
-        Some(self.is_told(&account))
+        Some(is_told(self, &account))
     }
 }
 
 #[test]
 fn accounts_tell_what_is_known(rt: HostRuntime) {
-    expect_all(&rt, rt.alloc(), &TOLD);
+    expect_all(&rt, rt.alloc(), TOLD);
 }

@@ -1,27 +1,29 @@
-//! Edits over files in memory, by hosts that fail at the nth call, and runs of macros that are not
-//! ready. What edits make is said by cases.
+//! Edits by hosts that fail at the nth call, and runs of macros that are not ready. Cases say what edits make.
 ghost use Rattle.std.specs.Prelude.{⊤};
 
-use crate::subjects::library_of;
+use crate::subjects::{Case, expect_all, library_of};
+use std::alloc::Global;
 use std::process::Abort;
-use teco_apply::{
-    Asked, Edit, Edited, Guard, NotReady, Observer, Pages, apply, edit_file, run_verified,
-    run_verified_with,
-};
-use teco_base::{Code, Reg};
+use std::test::*;
+use teco_apply::*;
+use teco_base::bytes::ESC;
+use teco_base::{Code, LIMIT, Reg};
 use teco_library::Library;
 use teco_model::Stop;
 use teco_pages::{Host, HostCall, MemHost, TestHost};
 use teco_run::{Machine, Stopped};
-use teco_session::{Listener, SessionFault};
+use teco_session::Listener;
 use teco_text::{TextStore, VecText};
-use teco_verify::{Verified, verify};
+use teco_verify::{Refusal, Verified, check_certificate, verify};
 
 /// Puts a mark behind each `foo`.
 const MARKS: &[u8] = b"@^UA/J<Sfoo\x1b;I!\x1b>/";
 
 /// Changes nothing, in three steps: the call, the command and the return.
 const STAYS: &[u8] = b"@^UA/J/";
+
+/// Types the page.
+const TYPES: &[u8] = b"@^UA/HT/";
 
 /// Two pages, each with a word to be marked.
 const TWO: &[u8] = b"xfoo\x0cfoo";
@@ -69,67 +71,31 @@ impl<H: Host> Observer<H> for Watch {
     }
 }
 
-/// How many bytes each call of the host moves, which call fails, and the how manieth.
-type Failing = (usize, HostCall, u64);
+/// Which call of a host fails, and the how manieth, if one does.
+type Failing = (HostCall, u64);
 
-const NONE: Failing = (4096, HostCall::Read, 0);
+const NONE: Failing = (HostCall::Read, 0);
 
-// What an edit of the file `in` into the file `out` came to, what is written, what the guard saw,
-// and the files.
-#[derive(Drop)]
-struct Left {
-    done: Result<Edited, SessionFault>,
-    written: Vec<u8>,
-    seen: Watch,
-    host: TestHost,
+// A host with a file `in` of this text that fails so. One that fails moves a byte in a call.
+fn failing_host(alloc: Global, input: &[u8], (call, nth): Failing) -> Option<TestHost> {
+    let mut mem = MemHost::new(alloc);
+    mem.put(b"in", input).ok()?;
+    let piece = if nth == 0 { 4096 } else { 1 };
+    Some(TestHost::new(mem, piece, call, nth))
 }
 
-impl Left {
-    // Did a code end it, or a guard or neither, behind so many pages and in so many steps?
-    fn is_ended(&self, coded: bool, refused: bool, pages: u64, steps: u64) -> bool {
-        let wanted = (coded, refused, pages, steps);
-        matches!(self.done, Ok(done) if (done.coded, done.refused, done.pages, done.steps) == wanted)
-    }
+// Did a code end an edit, or a guard or neither, behind how many pages and in how many steps?
+type Ended = (bool, bool, u64, u64);
 
-    // Is there no output, and this written?
-    fn is_dropped(&self, written: &[u8]) -> bool {
-        self.host.mem().file(b"out").is_none() && self.written.as_slice() == written
-    }
-
-    // Was the guard asked about so many runs, of which the last had so much held and unread?
-    fn has_seen(&self, asked: u64, held: u128, unread: u64) -> bool {
-        (self.seen.asked, self.seen.held, self.seen.unread) == (asked, held, Some(unread))
-    }
-}
-
-// The verified macro A of a library.
-fn verified_of<'l>(rt: &(impl Abort + AllocGlobal), library: &'l Library) -> Verified<'l> {
-    match verify(rt.alloc(), library, Reg::default()) {
-        Ok(verified) => verified,
-        Err(_) => panic!(rt; "accepted"),
-    }
-}
-
-// A host with a file `in` of this text that fails so.
-fn failing_host(rt: &(impl Abort + AllocGlobal), input: &[u8], failing: Failing) -> TestHost {
-    let (piece, call, nth) = failing;
-    let mut mem = MemHost::new(rt.alloc());
-    assert!(rt; mem.put(b"in", input).is_ok());
-    assert!(rt; piece > 0);
-    TestHost::new(mem, piece, call, nth)
-}
-
-// Edits pages of the file `in` of a host into the file `out`, where a guard refuses a run with so many
-// characters held.
-fn edited_over(
-    rt: &(impl Abort + AllocGlobal),
+// Edits pages of the file `in` of a host into the file `out`. None where there is no end, or an output is left open.
+fn edited_by(
+    alloc: Global,
     verified: &Verified<'_>,
     (pages, refused): (Pages, u128),
-    mut host: TestHost,
-) -> Left {
-    let alloc = rt.alloc();
+    host: &mut TestHost,
+    written: &mut Vec<u8>,
+) -> Option<(Ended, Watch)> {
     let mut machine = Machine::new(alloc, VecText::new(alloc));
-    let mut written = Vec::new(alloc);
     let mut seen = Watch::default();
     let promise = verified.promise();
     let edit = Edit {
@@ -141,141 +107,248 @@ fn edited_over(
         pages,
         guard: &Refusing(refused),
     };
-    let done = edit_file(&mut machine, &edit, &mut host, &mut written, &mut seen);
-    assert!(rt; done.is_err() || !machine.has_output());
-    Left {
-        done,
-        written,
-        seen,
-        host,
-    }
-}
-
-/// How many steps a verified macro takes on the first of two pages of three characters, if it comes to
-/// its end.
-pub fn edited_first(rt: &(impl Abort + AllocGlobal), verified: &Verified<'_>) -> Option<u64> {
-    let host = failing_host(rt, b"foo\x0cbar", NONE);
-    let left = edited_over(rt, verified, (Pages::First, 0), host);
-    match left.done {
-        Ok(done) if !done.coded && !done.refused && done.pages == 1 => Some(done.steps),
+    match edit_file(&mut machine, &edit, host, written, &mut seen) {
+        Ok(done) if !machine.has_output() => {
+            Some(((done.coded, done.refused, done.pages, done.steps), seen))
+        }
         _ => None,
     }
 }
 
-// Edits pages of a file that is `TWO` by the macro A of a library, where a guard refuses a run with so
-// many characters held.
+// Edits the first page alone, and tells no pages and no steps.
+fn edited_first_alone(
+    alloc: Global,
+    verified: &Verified<'_>,
+    host: &mut TestHost,
+    written: &mut Vec<u8>,
+) -> Option<(Ended, Watch)> {
+    let mut machine = Machine::new(alloc, VecText::new(alloc));
+    let on = &mut machine;
+    match apply(alloc, on, verified, None, b"in", b"out", host, written) {
+        Ok(done) if !done.exit && !machine.has_output() => {
+            Some(((done.coded, false, 0, 0), Watch::default()))
+        }
+        _ => None,
+    }
+}
+
+// How many steps a verified macro takes on the first of two pages of three characters, if it comes to its end.
+fn edited_first(alloc: Global, verified: &Verified<'_>) -> Option<u64> {
+    let mut host = failing_host(alloc, b"foo\x0cbar", NONE)?;
+    let mut written = Vec::new(alloc);
+    match edited_by(alloc, verified, (Pages::First, 0), &mut host, &mut written)? {
+        ((false, false, 1, steps), _) => Some(steps),
+        _ => None,
+    }
+}
+
+// A file, if it is there.
+type File = Option<&'static [u8]>;
+
+// Edits the file `TWO` by the macro A: pages, or the first alone. Is this written, too, and the file `out` this?
 fn edited(
-    rt: &(impl Abort + AllocGlobal),
+    alloc: Global,
     file: &[u8],
-    asked: (Pages, u128),
+    (pages, refused): (Option<Pages>, u128),
     failing: Failing,
-) -> Left {
-    let host = failing_host(rt, TWO, failing);
-    let library = library_of(rt.alloc(), file).expect(rt, "a library");
-    let verified = verified_of(rt, &library);
-    edited_over(rt, &verified, asked, host)
+    (wanted, out): (&[u8], File),
+) -> Option<(Ended, Watch, bool)> {
+    let library = library_of(alloc, file)?;
+    let verified = verify(alloc, &library, Reg::default()).ok()?;
+    let mut host = failing_host(alloc, TWO, failing)?;
+    let mut written = Vec::new(alloc);
+    let (files, to) = (&mut host, &mut written);
+    let (ended, seen) = match pages {
+        Some(pages) => edited_by(alloc, &verified, (pages, refused), files, to)?,
+        None => edited_first_alone(alloc, &verified, files, to)?,
+    };
+    let is_left = written.as_slice() == wanted && host.mem().file(b"out") == out;
+    Some((ended, seen, is_left))
 }
 
-// The first run is refused, and the second. Or none is, and heard are what opens the files, two
-// runs, what turns to the second page, and what closes the output; the page and the 12 characters of
-// the macro are held, and all has been read.
-#[test]
-fn a_guard_is_asked_and_hears(rt: HostRuntime) {
-    let first = edited(&rt, MARKS, (Pages::Each, 16), NONE);
-    assert!(rt; first.is_ended(false, true, 0, 0) && first.is_dropped(b""));
-    assert!(rt; first.has_seen(1, 16, 3));
-    let second = edited(&rt, MARKS, (Pages::Each, 15), NONE);
-    assert!(rt; second.is_dropped(b"") && second.has_seen(2, 15, 0));
-    let whole = edited(&rt, MARKS, (Pages::Each, 0), NONE);
-    assert!(rt; whole.has_seen(2, 15, 0) && whole.seen.heard == 5);
-    assert!(rt; whole.host.mem().file(b"out") == Some(b"xfoo!\x0cfoo!".as_slice()));
-}
+// Where how many characters held are refused, how the edit ends, if that is said, of how many runs the guard was
+// asked, how much was held and unread at the last, how many strings were heard, if that is said, and the file `out`.
+struct Guarded(u128, Option<Ended>, (u64, u128, u64), Option<u64>, File);
 
-/// Which call fails, which pages are edited, what is written, and the pages and the steps that were
-/// done before.
-type Dropped = (Failing, Pages, &'static [u8], u64, u64);
-
-const DROPPED: &[Dropped] = &[
-    ((4096, HostCall::OpenIn, 1), Pages::Each, b"?FNF\r\n", 0, 0),
-    ((1, HostCall::Read, 6), Pages::Each, b"?INP\r\n", 1, 3),
-    ((1, HostCall::Write, 1), Pages::Each, b"?OUT\r\n", 1, 3),
-    ((1, HostCall::CloseOut, 1), Pages::Each, b"?OUT\r\n", 2, 6),
-    ((1, HostCall::Read, 6), Pages::Whole, b"?INP\r\n", 0, 0),
-    ((1, HostCall::Write, 1), Pages::Whole, b"?OUT\r\n", 1, 3),
+// The first run is refused, and the second. Or none is, and heard are what opens the files, two runs,
+// what turns to the second page, and what closes the output; the page and the 12 characters of the
+// macro are held, and all has been read.
+const GUARDED: &[Guarded] = &[
+    Guarded(16, Some((false, true, 0, 0)), (1, 16, 3), None, None),
+    Guarded(15, None, (2, 15, 0), None, None),
+    Guarded(0, None, (2, 15, 0), Some(5), Some(b"xfoo!\x0cfoo!")),
 ];
 
-#[test]
-fn a_code_drops_the_output(rt: HostRuntime) {
-    for (failing, pages, written, count, steps) in DROPPED.iter() {
-        let left = edited(&rt, STAYS, (*pages, 0), *failing);
-        let is_so = left.is_ended(true, false, *count, *steps) && left.is_dropped(written);
-        assert!(rt; is_so, "{written:?} behind {count} pages");
+impl Case for Guarded {
+    fn holds(&self, alloc: Global) -> Option<bool> {
+        let how = (Some(Pages::Each), self.0);
+        let (ended, seen, is_left) = edited(alloc, MARKS, how, NONE, (b"", self.4))?;
+        let (asked, held, unread) = self.2;
+        let is_seen = (seen.asked, seen.held, seen.unread) == (asked, held, Some(unread));
+        let is_heard = self.3.is_none() || self.3 == Some(seen.heard);
+        let is_ended = self.1.is_none() || self.1 == Some(ended);
+        Some(is_seen && is_heard && is_ended && is_left)
     }
 }
 
-// A first page is edited and typed, and where the output can't be closed it is dropped.
-#[test]
-fn a_first_page_is_edited_or_the_output_dropped(rt: HostRuntime) {
-    let library = library_of(rt.alloc(), b"@^UA/HT/").expect(&rt, "a library");
-    let verified = verified_of(&rt, &library);
-    for nth in 0..2 {
-        let mut host = failing_host(&rt, TWO, (1, HostCall::CloseOut, nth));
-        let mut machine = Machine::new(rt.alloc(), VecText::new(rt.alloc()));
-        let mut told = Vec::new(rt.alloc());
-        let (alloc, on) = (rt.alloc(), &mut machine);
-        let (files, to) = (&mut host, &mut told);
-        let done = apply(alloc, on, &verified, None, b"in", b"out", files, to);
-        let is_coded = nth == 1;
-        assert!(rt; matches!(done, Ok(done) if !done.exit && done.coded == is_coded));
-        assert!(rt; host.mem().file(b"out").is_none() == is_coded && !machine.has_output());
-        assert!(rt; told.starts_with(b"xfoo") && told.ends_with(b"?OUT\r\n") == is_coded);
+// Which call fails, which pages are edited, what is written, and the pages and steps before the output is dropped.
+struct Dropped(HostCall, u64, Pages, &'static [u8], u64, u64);
+
+const DROPPED: &[Dropped] = &[
+    Dropped(HostCall::OpenIn, 1, Pages::Each, b"?FNF\r\n", 0, 0),
+    Dropped(HostCall::Read, 6, Pages::Each, b"?INP\r\n", 1, 3),
+    Dropped(HostCall::Write, 1, Pages::Each, b"?OUT\r\n", 1, 3),
+    Dropped(HostCall::CloseOut, 1, Pages::Each, b"?OUT\r\n", 2, 6),
+    Dropped(HostCall::Read, 6, Pages::Whole, b"?INP\r\n", 0, 0),
+    Dropped(HostCall::Write, 1, Pages::Whole, b"?OUT\r\n", 1, 3),
+];
+
+impl Case for Dropped {
+    fn holds(&self, alloc: Global) -> Option<bool> {
+        let (how, failing) = ((Some(self.2), 0), (self.0, self.1));
+        let (ended, _, is_left) = edited(alloc, STAYS, how, failing, (self.3, None))?;
+        Some(is_left && ended == (true, false, self.4, self.5))
     }
 }
 
-// What the run of the macro A of a library on an empty machine asks for first, with an argument where one
-// is given; one that is declared is from 1 to 10.
-fn asked_for(rt: &(impl Abort + AllocGlobal), file: &[u8], given: Option<i32>) -> &'static str {
-    let library = library_of(rt.alloc(), file).expect(rt, "a library");
-    let verified = verified_of(rt, &library);
-    let mut machine = Machine::new(rt.alloc(), VecText::new(rt.alloc()));
-    let mut host = MemHost::new(rt.alloc());
-    let stop = match given {
-        Some(n) => run_verified_with(&mut machine, &verified, n, &mut host),
-        None => run_verified(&mut machine, &verified, &mut host),
-    };
+// Which close of an output fails, so that it is dropped, what is written, and the file `out`.
+struct FirstPage(u64, &'static [u8], File);
+
+const FIRST_PAGES: &[FirstPage] = &[
+    FirstPage(2, b"xfoo", Some(TWO)),
+    FirstPage(1, b"xfoo?OUT\r\n", None),
+];
+
+impl Case for FirstPage {
+    fn holds(&self, alloc: Global) -> Option<bool> {
+        let failing = (HostCall::CloseOut, self.0);
+        let (ended, _, is_left) = edited(alloc, TYPES, (None, 0), failing, (self.1, self.2))?;
+        Some(is_left && ended == (self.2.is_none(), false, 0, 0))
+    }
+}
+
+#[test]
+fn files_are_edited_or_outputs_dropped(rt: HostRuntime) {
+    expect_all(&rt, rt.alloc(), GUARDED);
+    expect_all(&rt, rt.alloc(), DROPPED);
+    expect_all(&rt, rt.alloc(), FIRST_PAGES);
+}
+
+// What the run of a macro on an empty machine comes to, with an argument where one is given.
+fn stop_of(alloc: Global, verified: &Verified<'_>, given: Option<i32>) -> Result<Stop, NotReady> {
+    let mut machine = Machine::new(alloc, VecText::new(alloc));
+    let mut host = MemHost::new(alloc);
+    match given {
+        Some(n) => run_verified_with(&mut machine, verified, n, &mut host),
+        None => run_verified(&mut machine, verified, &mut host),
+    }
+}
+
+// What is asked for first, if anything is.
+fn asked_for(stop: Result<Stop, NotReady>) -> Option<&'static str> {
     match stop {
-        Ok(Stop::Ended { .. }) => "nothing",
-        Ok(_) => "another end",
-        Err(NotReady::NoInput) => "an input",
-        Err(NotReady::NoOutput) => "an output",
-        Err(NotReady::Argument) => "an argument",
-        Err(NotReady::Memory) => "memory",
+        Ok(Stop::Ended { .. }) => Some("nothing"),
+        Ok(_) => Some("another end"),
+        Err(NotReady::NoInput) => Some("an input"),
+        Err(NotReady::NoOutput) => Some("an output"),
+        Err(NotReady::Argument) => Some("an argument"),
+        Err(NotReady::Memory) => None,
     }
 }
 
-/// A text is put in as often as an argument says, or three times.
+/// A text is put in as often as an argument from 1 to 10 says, or three times.
 const REPEATS: &[u8] = b"!TECO-LIB 2 A 1 10!@^UA/<Ia\x1b>/";
 
 const THRICE: &[u8] = b"@^UA/3<Ia\x1b>/";
 
 /// A library, an argument, and what is asked for.
-const ASKING: &[(&[u8], Option<i32>, &str)] = &[
-    (b"!TECO-LIB 2 A 1 10!@^UA/<A>/", Some(0), "an input"),
-    (b"!TECO-LIB 2 A 1 10!@^UA/<P>/", Some(0), "an output"),
-    (b"@^UA/AP/", None, "an input"),
-    (b"@^UA/<Nfoo\x1b;I!\x1b>/", None, "an output"),
-    (REPEATS, Some(10), "nothing"),
-    (REPEATS, Some(11), "an argument"),
-    (REPEATS, Some(i32::MIN), "an argument"),
-    (REPEATS, None, "an argument"),
-    (THRICE, Some(3), "an argument"),
-    (THRICE, None, "nothing"),
-];
+struct Asking(&'static [u8], Option<i32>, &'static str);
 
 // Files are asked for, and before an argument.
+const ASKING: &[Asking] = &[
+    Asking(b"!TECO-LIB 2 A 1 10!@^UA/<A>/", Some(0), "an input"),
+    Asking(b"!TECO-LIB 2 A 1 10!@^UA/<P>/", Some(0), "an output"),
+    Asking(b"@^UA/AP/", None, "an input"),
+    Asking(b"@^UA/<Nfoo\x1b;I!\x1b>/", None, "an output"),
+    Asking(REPEATS, Some(10), "nothing"),
+    Asking(REPEATS, Some(11), "an argument"),
+    Asking(REPEATS, Some(i32::MIN), "an argument"),
+    Asking(REPEATS, None, "an argument"),
+    Asking(THRICE, Some(3), "an argument"),
+    Asking(THRICE, None, "nothing"),
+];
+
+impl Case for Asking {
+    fn holds(&self, alloc: Global) -> Option<bool> {
+        let library = library_of(alloc, self.0)?;
+        let verified = verify(alloc, &library, Reg::default()).ok()?;
+        let found = asked_for(stop_of(alloc, &verified, self.1))?;
+        Some(found == self.2)
+    }
+}
+
 #[test]
 fn runs_ask_for_files_and_arguments(rt: HostRuntime) {
-    for (number, (file, given, wanted)) in ASKING.iter().enumerate() {
-        assert!(rt; asked_for(&rt, file, *given) == *wanted, "row {number}");
+    expect_all(&rt, rt.alloc(), ASKING);
+}
+
+// Does the checker accept a text as the certificate of a macro, and is it that of the macro?
+fn is_accepted(alloc: Global, verified: &Verified<'_>, text: &[u8]) -> bool {
+    if text.len() > LIMIT {
+        return false;
     }
+    match check_certificate(alloc, verified.library(), text) {
+        Ok(checked) => matches!(checked.certificate(alloc), Ok(own) if own.as_slice() == text),
+        Err(_) => false,
+    }
+}
+
+// Does the checker accept the certificate of a macro?
+fn is_certified(alloc: Global, verified: &Verified<'_>) -> bool {
+    matches!(verified.certificate(alloc), Ok(text) if is_accepted(alloc, verified, &text))
+}
+
+// Does a macro end on the first of two pages, of three characters each, in no more steps than it may?
+fn keeps_its_word(alloc: Global, verified: &Verified<'_>) -> bool {
+    let length = match verified.text(verified.entry()) {
+        Some(text) => text.len() as u64,
+        None => 0,
+    };
+    let most = verified.commands().at(length.saturating_add(6));
+    match (edited_first(alloc, verified), most) {
+        (Some(steps), Some(most)) => steps <= most,
+        _ => false,
+    }
+}
+
+// Does the macro that is two bytes keep its word, or is it refused at a register? A file that is no library has none.
+fn has_verdict(alloc: Global, [a, b]: [u8; 2]) -> bool {
+    let Ok(library) = Library::read(alloc, &[b'^', b'U', b'A', a, b, ESC]) else {
+        return true;
+    };
+    match verify(alloc, &library, Reg::default()) {
+        Ok(verified) => is_certified(alloc, &verified) && keeps_its_word(alloc, &verified),
+        Err(Refusal::No { register, .. }) => register.is_some(),
+        Err(Refusal::Memory) => false,
+    }
+}
+
+// Macros of two bytes have verdicts, from one number of them to before another.
+fn expect_verdicts(rt: &(impl Abort + AllocGlobal), from: u16, to: u16) {
+    for number in from..to {
+        assert!(rt;
+            has_verdict(rt.alloc(), number.to_be_bytes()),
+            "macro {number}"
+        );
+    }
+}
+
+#[test]
+fn two_bytes_up_to_a_question_mark_are_refused_or_keep_their_word(rt: HostRuntime) {
+    expect_verdicts(&rt, 0x2000, 0x4000);
+}
+
+#[test]
+fn two_bytes_from_an_at_sign_on_are_refused_or_keep_their_word(rt: HostRuntime) {
+    expect_verdicts(&rt, 0x4000, 0x6000);
 }

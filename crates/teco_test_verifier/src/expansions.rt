@@ -16,46 +16,38 @@ type Parts = &'static [(&'static str, usize)];
 /// A long text, how many nodes it has, and of one of them its number, its place and its last way.
 struct LongExpanded(Parts, usize, (usize, usize, usize));
 
-const LONG_EXPANSIONS: [LongExpanded; 4] = [
+const LONG_EXPANSIONS: &[LongExpanded] = &[
     // as many elements as there may be
     LongExpanded(&[("C", 4_094)], 4_096, (2, 0, 3)),
     // each of the tests is far from its end
     LongExpanded(&[("\"N", 998), ("'", 1_998)], 2_998, (2, 0, 1998)),
     // elements are found behind long runs of blanks
-    LongExpanded(
-        &[(" ", 95), ("J", 1), (" ", 129), ("J", 1), (" ", 68)],
-        4,
-        (3, 225, 4),
-    ),
+    LongExpanded(BLANKS, 4, (3, 225, 4)),
     // jumps to one place before many blanks are followed without reading the blanks for each
-    LongExpanded(
-        &[("Ox\x1b", 4_000), ("!x!", 1), (" ", 87_991)],
-        4_003,
-        (3, 3, 4003),
-    ),
+    LongExpanded(JUMPS, 4_003, (3, 3, 4003)),
 ];
+
+const BLANKS: Parts = &[(" ", 95), ("J", 1), (" ", 129), ("J", 1), (" ", 68)];
+
+const JUMPS: Parts = &[("Ox\x1b", 4_000), ("!x!", 1), (" ", 87_991)];
 
 /// A long text, whether it is refused for a call of itself or for its size, and the place in it.
 struct LongRefused(Parts, bool, usize);
 
-const LONG_REFUSALS: [LongRefused; 4] = [
+const LONG_REFUSALS: &[LongRefused] = &[
     // one element more than there may be
     LongRefused(&[("C", 4_095)], false, 4_095),
     // conditionals before many elements are gone through without reading on for each
-    LongRefused(
-        &[("1\"E", 2_000), ("J", 91_994), ("'", 2_000)],
-        false,
-        6_095,
-    ),
+    LongRefused(TESTS, false, 6_095),
     // a call of the macro itself is found behind long runs of blanks
     LongRefused(&[(" ", 95), ("J", 1), (" ", 99), ("MA", 1)], true, 195),
     // jumps before many elements are followed without reading on for each
-    LongRefused(
-        &[("Ox\x1b", 4_000), ("J", 187_991), ("!x!", 1)],
-        false,
-        12_095,
-    ),
+    LongRefused(FAR_JUMPS, false, 12_095),
 ];
+
+const TESTS: Parts = &[("1\"E", 2_000), ("J", 91_994), ("'", 2_000)];
+
+const FAR_JUMPS: Parts = &[("Ox\x1b", 4_000), ("J", 187_991), ("!x!", 1)];
 
 // A file with a text of A.
 fn file_of(alloc: Global, parts: Parts) -> Result<String, AllocError> {
@@ -105,14 +97,14 @@ impl Case for LongRefused {
 
 #[test]
 fn long_texts_are_expanded_as_far_as_they_may_be(rt: HostRuntime) {
-    expect_all(&rt, rt.alloc(), &LONG_EXPANSIONS);
-    expect_all(&rt, rt.alloc(), &LONG_REFUSALS);
+    expect_all(&rt, rt.alloc(), LONG_EXPANSIONS);
+    expect_all(&rt, rt.alloc(), LONG_REFUSALS);
 }
 
 /// A text that pushes a pair at its node 2, and the node at which what is pushed is packed.
 struct Packed(Parts, usize);
 
-const PACKED: [Packed; 1] = [Packed(&[("[B", 1), ("J", 140)], 128)];
+const PACKED: &[Packed] = &[Packed(&[("[B", 1), ("J", 140)], 128)];
 
 // Do the pairs that were pushed before two nodes lie at the same place?
 fn lie_together(table: &Table, one: usize, other: usize) -> Option<bool> {
@@ -138,5 +130,5 @@ impl Case for Packed {
 
 #[test]
 fn what_was_pushed_is_packed(rt: HostRuntime) {
-    expect_all(&rt, rt.alloc(), &PACKED);
+    expect_all(&rt, rt.alloc(), PACKED);
 }

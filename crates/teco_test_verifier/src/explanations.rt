@@ -1,19 +1,12 @@
 // Names of codes and refusals, their notes, and hints.
-use crate::subjects::{Case, expect_all};
-use std::alloc::Global;
+use crate::subjects::{Case, expect, expect_all, is_text};
+use std::alloc::{AllocError, Global};
 use std::test::*;
 use teco_base::{Code, Reg};
-use teco_explain::{
-    Explained, Note, Outline, code_named, hint, note_of_code, note_of_refusal, number_of,
-    refusal_numbered,
-};
+use teco_explain::*;
+use teco_lex::element;
 use teco_source::{Form, Source};
 use teco_verifier::{Refusal, Rules};
-
-// Names of refusals, by their numbers, and names of none; one of them is empty.
-const REFUSALS: &str = "x1 x2 x3 x4 x5 x6 x7 x8 x9 x10 x11 x12 x13 x14 x15 x16 x17 x18";
-
-const NO_REFUSALS: &str = "X0 X19 X 7  Y1 X-1";
 
 // The number of the refusal of a name.
 fn number_named(name: &str) -> Option<usize> {
@@ -21,25 +14,36 @@ fn number_named(name: &str) -> Option<usize> {
     Some(usize::from(number_of(refusal)))
 }
 
+// Names of refusals, in the order of their numbers.
+const REFUSALS: &[&str] = &[
+    "x1", "x2", "x3", "x4", "x5", "x6", "x7", "x8", "x9", "x10", "x11", "x12", "x13", "x14", "x15",
+    "x16", "x17", "x18",
+];
+
+// Names of none.
+const NO_REFUSALS: &[&str] = &["X0", "X19", "X", "7", "", "Y1", "X-1"];
+
 #[test]
-fn codes_have_names_and_refusals_numbers(rt: HostRuntime) {
-    assert!(rt; code_named("?pop") == Some(Code::Pop) && code_named("Out") == Some(Code::Out));
-    assert!(rt; code_named("PO").is_none() && code_named("").is_none());
-    for (place, name) in REFUSALS.split(" ").enumerate() {
+fn refusals_have_numbers(rt: HostRuntime) {
+    for (place, name) in REFUSALS.iter().enumerate() {
         assert!(rt; number_named(name) == place.checked_add(1), "{name}");
     }
-    for name in NO_REFUSALS.split(" ") {
-        assert!(rt; number_named(name).is_none(), "{name}");
+    for name in NO_REFUSALS {
+        expect(&rt, number_named(name).is_none(), name);
     }
 }
 
 // The names of codes that have notes.
-const NOTED: &str = "ARG NAC NCA DIV POP DTB IIA ILL IQN ICE SRH TAG SNI BNI PES UTC UTM NFI NFO \
-                     YCA OFO FUL LIM MEM FNF INP OUT";
+const NOTED: &[&str] = &[
+    "ARG", "NAC", "NCA", "DIV", "POP", "DTB", "IIA", "ILL", "IQN", "ICE", "SRH", "TAG", "SNI",
+    "BNI", "PES", "UTC", "UTM", "NFI", "NFO", "YCA", "OFO", "FUL", "LIM", "MEM", "FNF", "INP",
+    "OUT",
+];
 
-// Whether a note says something, but for examples.
-fn is_whole(note: &Note) -> bool {
-    !note.summary.is_empty() && !note.meaning.is_empty() && !note.remedy.is_empty()
+// Says the note of a code of this name something, but for examples? None where no code has it.
+fn is_noted(name: &str) -> Option<bool> {
+    let note = note_of_code(code_named(name)?);
+    Some(!note.summary.is_empty() && !note.meaning.is_empty() && !note.remedy.is_empty())
 }
 
 const CODE: &str = "the push-down list is empty\n\n\
@@ -52,64 +56,74 @@ const REFUSAL: &str = "this is not the certificate of the macro\n\n\
      Make it anew: teco verify LIB q > CERT.\n";
 
 #[test]
-fn notes_are_whole_and_printed(rt: HostRuntime) -> Result<(), Fail> {
-    for name in NOTED.split(" ") {
-        let note = code_named(name).map(note_of_code);
-        assert!(rt; note.is_some_and(|note| is_whole(&note)), "{name}");
+fn codes_have_names_and_notes(rt: HostRuntime) {
+    for name in NOTED {
+        expect(&rt, is_noted(name) == Some(true), name);
     }
-    let text = format!(in rt.alloc(); "{}", note_of_code(Code::Pes))?;
-    assert!(rt; text.as_str() == CODE);
-    let text = format!(in rt.alloc(); "{}", note_of_refusal(Refusal::Certificate))?;
-    assert!(rt; text.as_str() == REFUSAL);
-    Ok(())
+    expect(&rt, code_named("?pop") == Some(Code::Pop), "?pop");
+    expect(&rt, code_named("Out") == Some(Code::Out), "Out");
+    expect(&rt, code_named("PO").is_none(), "PO");
+    expect(&rt, code_named("").is_none(), "no name");
 }
 
-// The number of a reason, an edition of the rules, a place, a text, and the front of the hint; none
-// where there is no hint.
-struct Hinted(&'static str);
+#[test]
+fn notes_are_printed(rt: HostRuntime) {
+    let is_so = is_text(rt.alloc(), &note_of_code(Code::Pes), CODE);
+    expect(&rt, is_so == Some(true), CODE);
+    let is_so = is_text(rt.alloc(), &note_of_refusal(Refusal::Certificate), REFUSAL);
+    expect(&rt, is_so == Some(true), REFUSAL);
+}
 
-const HINTS: [Hinted; 16] = [
-    Hinted("9 1 11 J<I> \x1bL.-Z;> => L and K are not known"),
-    Hinted("9 2 7 J<I> \x1bL> => L and K move on only"),
-    Hinted("9 1 11 J<Sfoo\x1b;0LK> => The search moves on"),
-    Hinted("9 1 11 J<.-Z;I# \x1bP> => P is not known"),
-    Hinted("9 1 4 <Ix\x1b> => "),
-    Hinted("9 1 3 <HK> => HK and m,nK"),
-    Hinted("9 1 2 <A> => A may have no page"),
-    Hinted("9 1 8 <J.-Z;HK> => J goes back in each turn. Go on"),
-    Hinted("9 1 10 J<QA<Ix\x1b>L> => An iteration in this one"),
-    Hinted("6 1 7 .UBQB,.K => A place that a register"),
-    Hinted("6 2 7 .UBQB,.K => A place that .UQ kept bounds"),
-    Hinted("6 1 7 .UB0KQBJ => A place that .UQ kept counts"),
-    Hinted("7 1 7 0A-32\"ED' => A test of a character says nothing"),
-    Hinted("7 2 8 0A-32\"E3D' => A test of a character says that"),
-    Hinted("10 1 7 3<HXBGB> => X and G"),
-    Hinted("15 1 0 Sfoo\x1b => Outside an iteration"),
+// The name of a reason, an edition of the rules, a place, a text, and the front of the hint, if there is one.
+struct Hinted(&'static str, u8, usize, &'static str, &'static str);
+
+const HINTS: &[Hinted] = &[
+    Hinted("X9", 1, 11, "J<I> \x1bL.-Z;>", "L and K are not known"),
+    Hinted("X9", 2, 7, "J<I> \x1bL>", "L and K move on only"),
+    Hinted("X9", 1, 11, "J<Sfoo\x1b;0LK>", "The search moves on"),
+    Hinted("X9", 1, 11, "J<.-Z;I# \x1bP>", "P is not known"),
+    Hinted("X9", 1, 4, "<Ix\x1b>", ""),
+    Hinted("X9", 1, 3, "<HK>", "HK and m,nK"),
+    Hinted("X9", 1, 2, "<A>", "A may have no page"),
+    Hinted("X9", 1, 8, "<J.-Z;HK>", "J goes back in each turn. Go on"),
+    Hinted("X9", 1, 10, "J<QA<Ix\x1b>L>", "An iteration in this one"),
+    Hinted("X6", 1, 7, ".UBQB,.K", "A place that a register"),
+    Hinted("X6", 2, 7, ".UBQB,.K", "A place that .UQ kept bounds"),
+    Hinted("X6", 1, 7, ".UB0KQBJ", "A place that .UQ kept counts"),
+    Hinted("X7", 1, 7, "0A-32\"ED'", NOTHING),
+    Hinted("X7", 2, 8, "0A-32\"E3D'", "A test of a character says that"),
+    Hinted("X10", 1, 7, "3<HXBGB>", "X and G"),
+    Hinted("X15", 1, 0, "Sfoo\x1b", "Outside an iteration"),
 ];
 
+const NOTHING: &str = "A test of a character says nothing";
+
 impl Case for Hinted {
-    fn holds(&self, alloc: Global) -> Option<bool> {
-        let (number, rest) = self.0.split_once(" ")?;
-        let (edition, rest) = rest.split_once(" ")?;
-        let (place, rest) = rest.split_once(" ")?;
-        let (text, front) = rest.split_once(" => ")?;
-        let name = format!(in alloc; "X{number}").ok()?;
-        let why = refusal_numbered(name.as_str())?;
-        let rules = [Rules::First, Rules::Second][usize::from(edition == "2")];
-        let found = hint(why, text.as_bytes(), place.parse().ok()?, rules).unwrap_or("");
-        Some(found.starts_with(front) && found.is_empty() == front.is_empty())
+    fn holds(&self, _alloc: Global) -> Option<bool> {
+        let why = refusal_numbered(self.0)?;
+        let rules = [Rules::First, Rules::Second][usize::from(self.1 == 2)];
+        let found = hint(why, self.3.as_bytes(), self.2, rules).unwrap_or("");
+        Some(found.starts_with(self.4) && found.is_empty() == self.4.is_empty())
     }
 }
 
 #[test]
 fn common_forms_have_hints(rt: HostRuntime) {
-    expect_all(&rt, rt.alloc(), &HINTS);
+    expect_all(&rt, rt.alloc(), HINTS);
+}
+
+// The lines that a text is laid out in.
+fn outline(text: &str) -> Outline<'_> {
+    Outline {
+        text: text.as_bytes(),
+        mark: b'$',
+    }
 }
 
 // A text, and its elements line by line.
 struct Outlined(&'static str, &'static str);
 
-const OUTLINES: [Outlined; 3] = [
+const OUTLINES: &[Outlined] = &[
     Outlined(
         "J<.-Z;0A-32\"ED|C'>",
         "J\n<\n  .-Z;\n  0A-32\"E\n    D\n  |\n    C\n  '\n>\n",
@@ -120,42 +134,49 @@ const OUTLINES: [Outlined; 3] = [
 
 impl Case for Outlined {
     fn holds(&self, alloc: Global) -> Option<bool> {
-        Some(lines_of(alloc, self.0)?.as_str() == self.1)
+        is_text(alloc, &outline(self.0), self.1)
     }
 }
 
-// The lines that a text is laid out in.
-fn lines_of(alloc: Global, text: &str) -> Option<String> {
-    let outline = Outline {
-        text: text.as_bytes(),
-        mark: b'$',
-    };
-    format!(in alloc; "{outline}").ok()
+// So many iterations in one another, and the length of the longest line that they are laid out in.
+struct Nest(usize, usize);
+
+const NESTED: [Nest; 4] = [Nest(1, 2), Nest(20, 40), Nest(21, 42), Nest(500, 42)];
+
+fn iterations(alloc: Global, count: usize) -> Result<String, AllocError> {
+    let mut text = "1<".repeat(alloc, count)?;
+    for _ in 0..count {
+        text.push('>')?;
+    }
+    Ok(text)
 }
 
-// How long the longest line is that so many iterations in one another are laid out in.
-fn longest_line(alloc: Global, count: usize) -> Option<usize> {
-    let (open, close) = (
-        "1<".repeat(alloc, count).ok()?,
-        ">".repeat(alloc, count).ok()?,
-    );
-    let text = format!(in alloc; "{open}{close}").ok()?;
-    let lines = lines_of(alloc, &text)?;
-    lines.as_str().split("\n").map(|line| line.len()).max()
+fn longest_line(text: &str) -> usize {
+    let mut longest = 0;
+    for line in text.lines() {
+        longest = line.len().max(longest);
+    }
+    longest
+}
+
+impl Case for Nest {
+    fn holds(&self, alloc: Global) -> Option<bool> {
+        let text = iterations(alloc, self.0).ok()?;
+        let lines = format!(in alloc; "{}", outline(&text)).ok()?;
+        Some(longest_line(&lines) == self.1)
+    }
 }
 
 #[test]
 fn texts_are_laid_out_and_indented_to_an_end(rt: HostRuntime) {
-    expect_all(&rt, rt.alloc(), &OUTLINES);
-    for (count, longest) in [(1, 2), (20, 40), (21, 42), (500, 42)] {
-        assert!(rt; longest_line(rt.alloc(), count) == Some(longest), "{count}");
-    }
+    expect_all(&rt, rt.alloc(), OUTLINES);
+    expect_all(&rt, rt.alloc(), &NESTED);
 }
 
 // A library, a reason, the name of a register, or none, a place, and what is said.
 struct Said(&'static str, Refusal, &'static str, usize, &'static str);
 
-const EXPLAINED: [Said; 3] = [
+const EXPLAINED: &[Said] = &[
     Said("5C", Refusal::Library, "", 0, LIBRARY),
     Said("@^UA/?/", Refusal::Fault, "A", 0, FAULT),
     Said("@^UA//", Refusal::Missing, "B", 0, MISSING),
@@ -188,12 +209,87 @@ impl Case for Said {
             place: self.3,
             rules: Rules::First,
         };
-        let text = format!(in alloc; "{explained}").ok()?;
-        Some(text.as_str() == self.4)
+        is_text(alloc, &explained, self.4)
     }
 }
 
 #[test]
 fn refusals_are_explained(rt: HostRuntime) {
-    expect_all(&rt, rt.alloc(), &EXPLAINED);
+    expect_all(&rt, rt.alloc(), EXPLAINED);
+}
+
+// Words, and behind each the name of the command that it is, or nothing.
+const SPELLED: &str =
+    "FS>FS fs>FS j>J ;>; ^X>^X \x18>^X 1^X>^X \"E>\" :S>S ::S>::S @fs>FS nC>C m,nK>K \
+                       -3D>D QA>Q ^ua>^U \x15a>^U 12>0 JJ> FX> SQ> nm> >";
+
+// Words, and behind each the names that are near to it.
+const NEAR: [(&str, &str); 4] = [
+    ("POQ", "POP"),
+    ("e", "ESC, ER, EW, EC, EF, EK"),
+    ("FSX", "FS"),
+    ("zyx", ""),
+];
+
+// Are these the names near to a word?
+fn is_near(alloc: Global, word: &str, names: &str) -> bool {
+    matches!(near_words(alloc, word), Ok(near) if near.as_str() == names)
+}
+
+#[test]
+fn commands_have_names_and_words_near_to_them(rt: HostRuntime) {
+    for pair in SPELLED.split(" ") {
+        let (word, name) = pair.split_once(">").unwrap_or((pair, ""));
+        expect(&rt, command_named(word).unwrap_or("") == name, pair);
+    }
+    for (word, names) in NEAR {
+        expect(&rt, is_near(rt.alloc(), word, names), word);
+    }
+}
+
+// A text that ends with a search, whether that ignores case, and the letter behind a caret in it.
+struct Searching(&'static str, bool, Option<u8>);
+
+const SEARCHING: &[Searching] = &[
+    Searching("Sfoo\x1b", true, None),
+    Searching("1^XSfoo\x1b", false, None),
+    Searching("QA^XSfoo\x1b", true, None),
+    Searching("S^b\x1b", false, Some(b'b')),
+    Searching("1^XSa^b^c\x1b", false, Some(b'b')),
+    Searching("S^Q^b\x1b", true, None),
+    Searching("S^EA^ED^N^ER\x1b", false, None),
+    Searching("FSa\x1b^b\x1b", true, None),
+];
+
+// The slips of the last element of a text.
+fn slips_of(text: &[u8]) -> Option<Slips> {
+    let mut modes = Modes::default();
+    let mut slips = None;
+    let mut at = 0;
+    for _ in 0..text.len() {
+        if at >= text.len() {
+            break;
+        }
+        let Ok(Some(found)) = element(text, at) else {
+            return None;
+        };
+        slips = Some(modes.pass(&found));
+        at = found.next;
+    }
+    slips
+}
+
+impl Case for Searching {
+    fn holds(&self, _alloc: Global) -> Option<bool> {
+        let Slips {
+            ignores_case,
+            caret,
+        } = slips_of(self.0.as_bytes())?;
+        Some(ignores_case == self.1 && caret == self.2)
+    }
+}
+
+#[test]
+fn searches_have_slips(rt: HostRuntime) {
+    expect_all(&rt, rt.alloc(), SEARCHING);
 }

@@ -16,8 +16,4 @@ mod printed;
 #[cfg(test)]
 mod subjects;
 #[cfg(test)]
-mod two_bytes;
-#[cfg(test)]
 mod values;
-#[cfg(test)]
-mod words;

@@ -1,24 +1,16 @@
 //! What is printed of verdicts, over libraries in a scratch folder.
-use std::alloc::Global;
-use std::fs;
-use std::process::Abort;
+use crate::subjects::is_text;
+use std::alloc::{AllocError, Global};
 use std::test::Fail;
+use std::{fs, io};
 use teco_base::Reg;
 use teco_library::LibraryFault;
 use teco_poly::Poly;
-use teco_verdicts::{
-    Console, Editions, Escape, Origin, Outcome, Premise, Request, Verdict, check_macro,
-    editions_for, verify_library_as_json, verify_macro, verify_macro_as_json,
-};
+use teco_verdicts::*;
 use teco_verifier::{Refusal as Why, Rules};
 
 // The library.
 const NAME: &str = "somleut_tools_library";
-
-// The bytes are those of a text.
-fn expect_text(rt: &impl Abort, found: &[u8], wanted: &str) {
-    assert!(rt; found == wanted.as_bytes(), "{wanted}: {found:?}");
-}
 
 // Writers over memory, in place of standard output and standard error.
 fn kept(rt: &HostRuntime) -> Console<Vec<u8>, Vec<u8>> {
@@ -26,7 +18,7 @@ fn kept(rt: &HostRuntime) -> Console<Vec<u8>, Vec<u8>> {
 }
 
 // A library in its file, to be judged by some editions.
-fn library(rt: &HostRuntime, text: &[u8], editions: Editions) -> Result<Request<'static>, Fail> {
+fn library(rt: &HostRuntime, text: &[u8], editions: Editions) -> io::Result<Request<'static>> {
     fs::write(rt, NAME, text)?;
     Ok(Request {
         library: Origin::of_file(NAME),
@@ -39,27 +31,35 @@ const FIRST: Editions = Editions::Only(Rules::First);
 
 const SECOND: Editions = Editions::Only(Rules::Second);
 
-// The last size, number of commands and length of a library for which a premise holds, the premise is of
-// no text, and neither is it behind that.
-#[test]
-fn premises_and_refusals_are_printed(rt: HostRuntime) -> Result<(), Fail> {
-    let size = Poly::read(b"12 + 13*N").expect(&rt, "a polynomial");
-    let commands = Poly::read(b"7 + 9*N").expect(&rt, "a polynomial");
-    let last = format!(in rt.alloc(); "{}", Premise::of(&size, &commands, 20_648_880))?;
-    let wanted = "holds for texts up to 0 characters (N up to 20,648,880, of which the macro takes \
-        20,648,880)";
-    expect_text(&rt, last.as_bytes(), wanted);
-    assert!(rt; Premise::of(&size, &commands, 20_648_881).is_empty());
+const LAST: &str =
+    "holds for texts up to 0 characters (N up to 20,648,880, of which the macro takes \
+    20,648,880)";
+
+// Is a length of a library the last for which a premise holds, of no text, and is it empty behind that?
+fn is_last(alloc: Global) -> Option<bool> {
+    let size = Poly::read(b"12 + 13*N")?;
+    let commands = Poly::read(b"7 + 9*N")?;
+    let is_none = Premise::of(&size, &commands, 20_648_881).is_empty();
+    let is_printed = is_text(alloc, &Premise::of(&size, &commands, 20_648_880), LAST)?;
+    Some(is_none && is_printed)
+}
+
+// Are a refusal and a fault of a library printed?
+fn are_printed(alloc: Global) -> Option<bool> {
     let verdict = Verdict {
         why: Why::Bound,
         register: Reg::of(b'0'),
         place: 12,
     };
     let fault = LibraryFault::NotALibrary { place: 12 };
-    let told = format!(in rt.alloc(); "{verdict}; {fault}")?;
-    let wanted = "refused X10 in 0 at 12; the element at 12 cannot stand in a library";
-    expect_text(&rt, told.as_bytes(), wanted);
-    Ok(())
+    let is_printed = is_text(alloc, &verdict, "refused X10 in 0 at 12")?;
+    Some(is_printed && is_text(alloc, &fault, "the element at 12 cannot stand in a library")?)
+}
+
+#[test]
+fn premises_and_refusals_are_printed(rt: HostRuntime) {
+    assert!(rt; is_last(rt.alloc()) == Some(true));
+    assert!(rt; are_printed(rt.alloc()) == Some(true));
 }
 
 // What is printed and said of the macro A of a library, and whether it is accepted.
@@ -76,57 +76,67 @@ const ROWS: &str = "{\"macro\": \"A\", \"accepted\": true, \"commands\": [8, 4],
 {\"macro\": \"B\", \"accepted\": false, \"refusal\": \"X6\", \"register\": \"B\", \
 \"place\": 3, \"line\": 3, \"column\": 2}\n";
 
+// What is said of the macros of a library, or of one. None where none is refused.
+fn said_of(rt: &HostRuntime, request: Request<'_>, entry: Option<Reg>) -> Option<Vec<u8>> {
+    let mut console = kept(rt);
+    let outcome = match entry {
+        Some(entry) => verify_macro_as_json(rt, &mut console, request, entry),
+        None => verify_library_as_json(rt, &mut console, request),
+    };
+    match outcome {
+        Ok(Outcome::Refused) => Some(console.into_parts().0),
+        _ => None,
+    }
+}
+
 // All of it is said of a library, and the last row of its macro B.
 #[test]
 fn verdicts_are_json(rt: HostRuntime) -> Result<(), Fail> {
     let text = b"@^UA/J<Sfoo$;I!$>/\n@^UB/J\n5C/@^UC~J2147483647U0Q0<I*$>~";
     let request = library(&rt, text, FIRST)?;
-    let mut whole = kept(&rt);
-    let outcome = verify_library_as_json(&rt, &mut whole, request);
-    assert!(rt; matches!(outcome, Ok(Outcome::Refused)) && whole.out.starts_with(ROWS.as_bytes()));
-    assert!(rt; whole.out.ends_with(b"\"greatest_n\": null}\n"));
-    let mut one = kept(&rt);
-    let entry = Reg::of(b'B').expect(&rt, "a register");
-    let outcome = verify_macro_as_json(&rt, &mut one, request, entry);
-    assert!(rt; matches!(outcome, Ok(Outcome::Refused)) && !one.out.is_empty());
-    assert!(rt; ROWS.as_bytes().ends_with(&one.out));
-    fs::remove_file(&rt, NAME)?;
-    Ok(())
+    let (rows, end) = (ROWS.as_bytes(), b"\"greatest_n\": null}\n");
+    let said = said_of(&rt, request, None);
+    assert!(rt; matches!(said, Some(said) if said.starts_with(rows) && said.ends_with(end)));
+    let said = said_of(&rt, request, Reg::of(b'B'));
+    assert!(rt; matches!(said, Some(said) if !said.is_empty() && rows.ends_with(&said)));
+    Ok(fs::remove_file(&rt, NAME)?)
 }
 
-// What the check of a certificate for the macro A of a library prints.
-fn checked(rt: &HostRuntime, request: Request<'_>, name: &str) -> Vec<u8> {
+const CERTIFICATE: &str = "somleut_tools_certificate";
+
+// Is the macro A of a library accepted, and does its certificate begin so, which is kept in its file?
+fn is_certified(rt: &HostRuntime, request: Request<'_>, front: &[u8]) -> bool {
+    let (is_accepted, certificate, _) = verified(rt, request);
+    let is_kept = fs::write(rt, CERTIFICATE, certificate.as_slice()).is_ok();
+    is_accepted && certificate.starts_with(front) && is_kept
+}
+
+// Is this printed by the check of the certificate for the macro A of a library?
+fn is_checked(rt: &HostRuntime, request: Request<'_>, wanted: &str) -> bool {
     let mut console = kept(rt);
-    match check_macro(rt, &mut console, request, Reg::default(), name) {
-        Ok(_) => console.into_parts().0,
-        Err(_) => Vec::new(rt.alloc()),
-    }
+    let outcome = check_macro(rt, &mut console, request, Reg::default(), CERTIFICATE);
+    outcome.is_ok() && console.out.as_slice() == wanted.as_bytes()
 }
 
 // A macro that the second edition alone accepts, and its certificate, which the first one refuses.
 #[test]
 fn certificates_are_of_an_edition(rt: HostRuntime) -> Result<(), Fail> {
     let second = library(&rt, b"@^UA/J<I> $L.-Z;>/", SECOND)?;
-    let (is_accepted, certificate, _) = verified(&rt, second);
-    assert!(rt; is_accepted && certificate.starts_with(b"TECO-CERT 1\nentry A\nrules 2\n"));
-    let name = "somleut_tools_certificate";
-    fs::write(&rt, name, certificate.as_slice())?;
-    let editions = [
+    assert!(rt; is_certified(&rt, second, b"TECO-CERT 1\nentry A\nrules 2\n"));
+    let rows = [
         (SECOND, "accepted\n"),
         (FIRST, "refused X18\n"),
         (Editions::Best, "accepted\n"),
     ];
-    for (editions, wanted) in editions {
+    for (editions, wanted) in rows {
         let request = Request { editions, ..second };
-        expect_text(&rt, &checked(&rt, request, name), wanted);
+        assert!(rt; is_checked(&rt, request, wanted), "{wanted}");
     }
     fs::remove_file(&rt, NAME)?;
-    fs::remove_file(&rt, name)?;
-    Ok(())
+    Ok(fs::remove_file(&rt, CERTIFICATE)?)
 }
 
-// A macro, and the edition of its certificate by the best one: the first, where that promises
-// something, or where the second promises nothing more.
+// A macro, and the best edition for its certificate: the first, unless that promises nothing and the second more.
 const BEST: &[(&[u8], &[u8])] = &[
     (b"@^UA/J<Sfoo$;I!$>/", b"TECO-CERT 1\nentry A\nneeds -\n"),
     (b"@^UA/J<I> $L.-Z;>/", b"TECO-CERT 1\nentry A\nrules 2\n"),
@@ -141,10 +151,10 @@ const BEST: &[(&[u8], &[u8])] = &[
 fn the_best_edition_is_taken_or_one_that_is_named(rt: HostRuntime) -> Result<(), Fail> {
     for (text, front) in BEST {
         let request = library(&rt, text, editions_for(None, true))?;
-        let (is_accepted, certificate, _) = verified(&rt, request);
-        assert!(rt; is_accepted && certificate.starts_with(front), "{front:?}");
+        assert!(rt; is_certified(&rt, request, front), "{front:?}");
     }
     fs::remove_file(&rt, NAME)?;
+    fs::remove_file(&rt, CERTIFICATE)?;
     let named = editions_for(Some(Rules::Second), false);
     assert!(rt; matches!(named, Editions::Only(Rules::Second)));
     let named = editions_for(Some(Rules::First), true);
@@ -176,24 +186,26 @@ const TOLD: &[(&[u8], &str)] = &[
     ),
 ];
 
+// Is the macro A of a library accepted, and is this said of it?
+fn is_told(rt: &HostRuntime, request: Request<'_>, wanted: &str) -> bool {
+    let (is_accepted, _, said) = verified(rt, request);
+    is_accepted && said.as_slice() == wanted.as_bytes()
+}
+
 #[test]
 fn promises_and_searches_are_told(rt: HostRuntime) -> Result<(), Fail> {
     for (text, wanted) in TOLD {
         let request = library(&rt, text, FIRST)?;
-        let (is_accepted, _, said) = verified(&rt, request);
-        assert!(rt; is_accepted, "{wanted}");
-        expect_text(&rt, &said, wanted);
+        assert!(rt; is_told(&rt, request, wanted), "{wanted}");
     }
-    fs::remove_file(&rt, NAME)?;
-    Ok(())
+    Ok(fs::remove_file(&rt, NAME)?)
 }
 
-// Six nested iterations that read one another's registers, so that the innermost, in which so many
-// elements stand, is searched some hundred times.
-fn nested(alloc: Global, elements: usize) -> Result<String, Fail> {
+// Six nested iterations, of which the innermost, with so many elements, is searched some hundred times.
+fn nested(alloc: Global, elements: usize) -> Result<String, AllocError> {
     let front = "@^UA~2<Ia$HXFGC2<0XEIa$2<^UGa$:^UDa$2<^UGa$^UDa$2<GD:^UGa$2<HXEHXG";
     let inside = "J".repeat(alloc, elements)?;
-    Ok(format!(in alloc; "{front}{inside}>HXC>>>>GE>~")?)
+    format!(in alloc; "{front}{inside}>HXC>>>>GE>~")
 }
 
 const HINT: &[u8] = b"\n  the second edition of the rules accepts it: add --rules 2\n";
@@ -201,23 +213,29 @@ const HINT: &[u8] = b"\n  the second edition of the rules accepts it: add --rule
 const GUESS: &[u8] = b"\n  the second edition of the rules may accept it: try --rules 2\n";
 
 // Is the macro A of a library refused, with a hint of the second edition, or a guess, at the end?
-fn is_hinted(rt: &HostRuntime, text: &[u8], has_hint: bool, has_guess: bool) -> Result<bool, Fail> {
-    let request = library(rt, text, FIRST)?;
+fn is_hinted(rt: &HostRuntime, text: &[u8], has_hint: bool, has_guess: bool) -> bool {
+    let Ok(request) = library(rt, text, FIRST) else {
+        return false;
+    };
     let (is_accepted, _, said) = verified(rt, request);
     let is_so = (said.ends_with(HINT), said.ends_with(GUESS)) == (has_hint, has_guess);
-    fs::remove_file(rt, NAME)?;
-    Ok(!is_accepted && is_so)
+    !is_accepted && is_so
 }
 
-// The hint stands there where that edition accepts the macro, and the guess where the search for the
-// hint takes too long.
+// Is there a guess, or none, where so many elements stand in nested iterations?
+fn is_guessed(rt: &HostRuntime, elements: usize, has_guess: bool) -> bool {
+    match nested(rt.alloc(), elements) {
+        Ok(text) => is_hinted(rt, text.as_bytes(), false, has_guess),
+        Err(_) => false,
+    }
+}
+
+// The hint stands where that edition accepts the macro, and the guess where the search takes too long.
 #[test]
 fn the_second_edition_is_hinted_at(rt: HostRuntime) -> Result<(), Fail> {
-    assert!(rt; is_hinted(&rt, b"@^UA/J<I> $L.-Z;>/", true, false)?);
-    assert!(rt; is_hinted(&rt, b"@^UA/J<LA.-Z;>/", false, false)?);
-    for (elements, has_guess) in [(40, false), (700, true)] {
-        let text = nested(rt.alloc(), elements)?;
-        assert!(rt; is_hinted(&rt, text.as_bytes(), false, has_guess)?);
-    }
-    Ok(())
+    assert!(rt; is_hinted(&rt, b"@^UA/J<I> $L.-Z;>/", true, false));
+    assert!(rt; is_hinted(&rt, b"@^UA/J<LA.-Z;>/", false, false));
+    assert!(rt; is_guessed(&rt, 40, false));
+    assert!(rt; is_guessed(&rt, 700, true));
+    Ok(fs::remove_file(&rt, NAME)?)
 }

@@ -1,5 +1,6 @@
-// Tables of cases, and what the tests share of libraries and reasons.
+// Tables of cases, and what the tests share of libraries and texts.
 use std::alloc::Global;
+use std::fmt;
 use std::process::Abort;
 use std::test::*;
 use teco_base::LIMIT;
@@ -11,25 +12,30 @@ pub trait Case {
     fn holds(&self, alloc: Global) -> Option<bool>;
 }
 
-// Is a row so? It is tried once more where memory was refused, so that tests also hold where one
-// allocation fails.
-fn is_so<C: Case>(case: &C, alloc: Global) -> bool {
+/// Is a row so? It is tried once more where memory was refused, so that tests also hold where one allocation fails.
+pub fn is_so<C: Case>(case: &C, alloc: Global) -> bool {
     match case.holds(alloc) {
         Some(holds) => holds,
         None => case.holds(alloc) == Some(true),
     }
 }
 
-/// Asserts a row.
-pub fn expect<C: Case>(rt: &impl Abort, alloc: Global, case: &C, row: usize) {
-    assert!(rt; is_so(case, alloc), "row {row}");
-}
-
 /// Asserts each row.
 pub fn expect_all<C: Case>(rt: &impl Abort, alloc: Global, rows: &[C]) {
     for (row, case) in rows.iter().enumerate() {
-        expect(rt, alloc, case, row);
+        assert!(rt; is_so(case, alloc), "row {row}");
     }
+}
+
+/// Fails, and says of what, where this is false.
+pub fn expect(rt: &impl Abort, is_so: bool, what: &str) {
+    assert!(rt; is_so, "{what}");
+}
+
+/// Is this printed of a value? None where memory was refused.
+pub fn is_text<D: fmt::Display>(alloc: Global, value: &D, wanted: &str) -> Option<bool> {
+    let printed = format!(in alloc; "{value}").ok()?;
+    Some(printed.as_str() == wanted)
 }
 
 /// The library of a file, if it is one.

@@ -1,5 +1,4 @@
-// Polynomials, worked by hand from sums and products of numbers; and stacks that share: numbers come off
-// as they went on, a packed copy lies elsewhere, and a cleared stack is empty.
+// Polynomials, worked by hand from sums and products of numbers, and stacks that share.
 use crate::subjects::{Case, expect_all};
 use std::alloc::{AllocError, Global};
 use std::test::*;
@@ -11,17 +10,14 @@ struct Worked(&'static str, &'static str, &'static str, &'static str);
 
 const MOST: &str = "18446744073709551615";
 
-const WORKED: [Worked; 47] = [
+const WIDE: &str = "1 + 2*N + N^2 + 9*N^7 + 9*N^8";
+
+const WORKED: &[Worked] = &[
     // sums, differences and products, as long as no coefficient and no degree is too great
     Worked("8 + 4*N", "plus", "1 + N^8", "9 + 4*N + N^8"),
     Worked("0", "plus", "0", "0"),
     Worked("5 + N", "times", "N", "5*N + N^2"),
-    Worked(
-        "1 + N",
-        "times",
-        "1 + N + 9*N^7",
-        "1 + 2*N + N^2 + 9*N^7 + 9*N^8",
-    ),
+    Worked("1 + N", "times", "1 + N + 9*N^7", WIDE),
     Worked(MOST, "plus", "0", MOST),
     Worked(MOST, "plus", "1", "none"),
     Worked("7 + 3*N", "minus", "2 + 3*N", "5"),
@@ -105,16 +101,15 @@ impl Case for Worked {
 
 #[test]
 fn polynomials_are_worked(rt: HostRuntime) {
-    expect_all(&rt, rt.alloc(), &WORKED);
+    expect_all(&rt, rt.alloc(), WORKED);
 }
 
 // How many numbers a stack has.
 struct Height(u32);
 
-const HEIGHTS: [Height; 4] = [Height(0), Height(1), Height(100), Height(50_000)];
+const HEIGHTS: &[Height] = &[Height(0), Height(1), Height(100), Height(50_000)];
 
-// A stack of the numbers below one, the greatest on top. Where a growth is refused, a copy that
-// shares the numbers has them still, and goes on.
+// A stack of the numbers below one. Where a growth is refused, a copy that shares the numbers goes on with them.
 fn numbers(alloc: Global, count: u32) -> Result<Stack<u32>, AllocError> {
     let mut stack = Stack::new(alloc);
     for number in 0..count {
@@ -169,5 +164,5 @@ impl Case for Height {
 
 #[test]
 fn stacks_share_and_packed_ones_lie_elsewhere(rt: HostRuntime) {
-    expect_all(&rt, rt.alloc(), &HEIGHTS);
+    expect_all(&rt, rt.alloc(), HEIGHTS);
 }
