@@ -1,20 +1,20 @@
 //! Which files are chosen of words, folders and lists.
-use crate::trial::{kept, of_words};
+use crate::trial::{expect_text, kept, of_words};
 use std::fs;
 use std::test::Fail;
-use teco_edits::{Choice, Chosen, choose};
+use teco_edits::{Choice, choose};
 
 /// The folder in which files are looked for.
 const FOLDER: &str = "somleut_tools_chosen";
 
 /// Files in it.
 const FILES: &[&str] = &[
-    "somleut_tools_chosen/b.txt",
-    "somleut_tools_chosen/a.txt",
-    "somleut_tools_chosen/c.md",
-    "somleut_tools_chosen/.hidden.txt",
-    "somleut_tools_chosen/in/d.txt",
-    "somleut_tools_chosen/.git/e.txt",
+    "b.txt",
+    "a.txt",
+    "c.md",
+    ".hidden.txt",
+    "in/d.txt",
+    ".git/e.txt",
 ];
 
 // Makes the files.
@@ -22,64 +22,56 @@ fn make(rt: &HostRuntime) -> Result<(), Fail> {
     fs::create_dir(rt, FOLDER)?;
     fs::create_dir(rt, "somleut_tools_chosen/in")?;
     fs::create_dir(rt, "somleut_tools_chosen/.git")?;
-    for path in FILES {
-        fs::write(rt, *path, b"x")?;
+    for name in FILES {
+        let path = format!(in rt.alloc(); "{FOLDER}/{name}")?;
+        fs::write(rt, &path, b"x")?;
     }
     fs::write(rt, "somleut_tools_list", b"one\n\ntwo\n")?;
     Ok(())
 }
 
 /// Patterns of files that are taken, of those that are not, and the files that are chosen.
-const PATTERNS: &[(&[&str], &[&str], &[&[u8]])] = &[
-    (&[], &[], &[b"a.txt", b"b.txt", b"c.md", b"in/d.txt"]),
-    (&["*.txt"], &[], &[b"a.txt", b"b.txt", b"in/d.txt"]),
-    (&["*.md", "d*"], &[], &[b"c.md", b"in/d.txt"]),
-    (&[], &["in"], &[b"a.txt", b"b.txt", b"c.md"]),
-    (&["*.txt"], &["b*"], &[b"a.txt", b"in/d.txt"]),
+const PATTERNS: &[(&[&str], &[&str], &str)] = &[
+    (&[], &[], "a.txt b.txt c.md in/d.txt "),
+    (&["*.txt"], &[], "a.txt b.txt in/d.txt "),
+    (&["*.md", "d*"], &[], "c.md in/d.txt "),
+    (&[], &["in"], "a.txt b.txt c.md "),
+    (&["*.txt"], &["b*"], "a.txt in/d.txt "),
 ];
 
-// Have files these names, but for the folder's, in this order?
-fn are_named(files: &[Chosen], names: &[&[u8]]) -> bool {
-    for (file, name) in files.iter().zip(names) {
-        let found = file.name.as_slice();
-        if found
-            .strip_prefix(b"somleut_tools_chosen/")
-            .unwrap_or(found)
-            != *name
-        {
-            return false;
+// The names that are chosen, in a line, without the folder's.
+fn chosen(rt: &HostRuntime, choice: &Choice<'_>) -> Result<String, Fail> {
+    let mut line = String::from_str(rt.alloc(), "")?;
+    let front = format!(in rt.alloc(); "{FOLDER}/")?;
+    for file in &choose(rt, &mut kept(rt).voice, choice)? {
+        let name = file.name.strip_prefix(front.as_bytes());
+        for byte in name.unwrap_or(&file.name) {
+            line.push(char::from(*byte))?;
         }
+        line.push(' ')?;
     }
-    files.len() == names.len()
-}
-
-// Are these files chosen?
-fn are_chosen(rt: &HostRuntime, choice: &Choice<'_>, names: &[&[u8]]) -> bool {
-    let mut console = kept(rt);
-    match choose(rt, &mut console.voice, choice) {
-        Ok(files) => are_named(&files, names),
-        Err(_) => false,
-    }
+    Ok(line)
 }
 
 #[test]
 fn files_are_chosen(rt: HostRuntime) -> Result<(), Fail> {
     make(&rt)?;
     let folder: [&[u8]; 1] = [FOLDER.as_bytes()];
-    for (number, (included, excluded, names)) in PATTERNS.iter().enumerate() {
+    for (included, excluded, wanted) in PATTERNS {
         let choice = Choice {
             is_recursive: true,
             included: *included,
             excluded: *excluded,
             ..of_words(&folder)
         };
-        assert!(rt; are_chosen(&rt, &choice, names), "row {number}");
+        expect_text(&rt, chosen(&rt, &choice)?.as_bytes(), *wanted);
     }
     let listed = Choice {
         list: Some("somleut_tools_list"),
         ..of_words(&[b"first"])
     };
-    assert!(rt; are_chosen(&rt, &listed, &[b"first", b"one", b"two"]));
+    expect_text(&rt, chosen(&rt, &listed)?.as_bytes(), "first one two ");
     fs::remove_file(&rt, "somleut_tools_list")?;
-    Ok(fs::remove_dir_all(&rt, FOLDER)?)
+    fs::remove_dir_all(&rt, FOLDER)?;
+    Ok(())
 }

@@ -1,9 +1,12 @@
 //! Files that are edited, by pages and in place.
-use crate::trial::{Kept, expect, has_said, kept, library_file, of_words, task};
+use crate::trial::{expect_text, kept, library_file, of_words, task};
 use std::fs;
+use std::process::Abort;
 use std::test::Fail;
 use teco_apply::Pages;
-use teco_edits::*;
+use teco_edits::{
+    Change, Chosen, InPlace, Keeping, Names, Naming, Task, apply_macro, choose, edit_files,
+};
 use teco_pages::FileHost;
 use teco_tools::{INPUT, OUTPUT, Start, Streams, ToolFault};
 use teco_verdicts::{AnswerFault, Escape, Outcome, Request, Setting};
@@ -26,23 +29,31 @@ const NAMES: Names<'static> = Names {
     target: b"somleut_tools_out",
 };
 
-// What came of an edit, and what is typed and said.
-type Came = (Result<Outcome, ToolFault>, Kept);
+// What came of an edit: its outcome, what is typed, and what is said.
+#[derive(Drop)]
+struct Came {
+    outcome: Result<Outcome, ToolFault>,
+    typed: Vec<u8>,
+    said: Vec<u8>,
+}
 
 fn edited(rt: &HostRuntime, task: &Task<'_, '_>, names: Names<'_>) -> Came {
     let mut console = kept(rt);
     let mut host = FileHost::new(rt.alloc(), *rt);
-    (
-        apply_macro(rt, &mut console, task, names, &mut host),
-        console,
-    )
+    let outcome = apply_macro(rt, &mut console, task, names, &mut host);
+    let (typed, said) = console.into_parts();
+    Came {
+        outcome,
+        typed,
+        said,
+    }
 }
 
-// Is this what comes of an edit, and said of it, and nothing typed?
-fn comes_to(rt: &HostRuntime, task: &Task<'_, '_>, wanted: Outcome, said: &str) -> bool {
-    let (outcome, console) = edited(rt, task, NAMES);
-    let is_said = has_said(&console.into_parts(), "", said);
-    is_said && matches!(outcome, Ok(outcome) if outcome == wanted)
+// This came of it, and nothing is typed.
+fn expect_came(abort: &impl Abort, came: &Came, wanted: Outcome, said: &str) {
+    let is_so = matches!(came.outcome, Ok(outcome) if outcome == wanted);
+    assert!(abort; is_so && came.typed.is_empty(), "{said}");
+    expect_text(abort, &came.said, said);
 }
 
 // Has a file these bytes?
@@ -63,11 +74,9 @@ type Row = (Pages, bool, &'static [u8], &'static str);
 
 const ROWS: &[Row] = &[
     (Pages::First, false, b"a bar\x0cfoo\x0c\x0cfoo", COPIED),
-    (Pages::Each, false, EACH, ""),
-    (Pages::Whole, true, EACH, COUNTED),
+    (Pages::Each, false, b"a bar\x0cbar\x0c\x0cbar", ""),
+    (Pages::Whole, true, b"a bar\x0cbar\x0c\x0cbar", COUNTED),
 ];
-
-const EACH: &[u8] = b"a bar\x0cbar\x0c\x0cbar";
 
 const COPIED: &str = "somleut_tools_in: 8 bytes behind the first page were copied unedited; \
                       --pages each or --pages whole edits them too\n";
@@ -86,8 +95,8 @@ fn pages_are_edited(rt: HostRuntime) -> Result<(), Fail> {
             tells_counts: *is_strict,
             ..task(request)
         };
-        expect(&rt, comes_to(&rt, &task, Outcome::Done, said), said);
-        expect(&rt, is_file(&rt, OUT, made), said);
+        expect_came(&rt, &edited(&rt, &task, NAMES), Outcome::Done, said);
+        assert!(rt; is_file(&rt, OUT, made), "{made:?}");
     }
     remove(&rt, &[LIBRARY, IN, OUT])
 }
@@ -95,19 +104,8 @@ fn pages_are_edited(rt: HostRuntime) -> Result<(), Fail> {
 /// Inserts so many characters that the promise holds for no text.
 const INSERTS: &[u8] = b"@^UA/J2147483647U0Q0<I*$>/";
 
-const OUTSIDE: &str = "warning: the promise of A holds for no text: \
-    the count at 1:21 may be up to 2,147,483,647\n\
-    teco: somleut_tools_in: N = 21 (the file's 1 and 20 of the macro) is outside the \
-    promise, which holds for no text\n";
-
-// Is an edit of a file into itself a code?
-fn is_itself_refused(rt: &HostRuntime, request: Request<'static>) -> bool {
-    let (source, target): (&[u8], &[u8]) = (IN.as_bytes(), b"./somleut_tools_in");
-    let (outcome, console) = edited(rt, &task(request), Names { source, target });
-    matches!(outcome, Ok(Outcome::Coded)) && console.out.as_slice() == b"?ARG\r\n".as_slice()
-}
-
-// An edit outside the promise, or of a file into itself by any name, is refused and leaves a file as it was.
+// An edit outside the promise is refused, and leaves a file as it was; and so is an edit of a file into
+// itself, whatever the file is called.
 #[test]
 fn edits_outside_the_promise_or_of_one_file_are_refused(rt: HostRuntime) -> Result<(), Fail> {
     let request = library_file(&rt, LIBRARY, INSERTS)?;
@@ -117,15 +115,20 @@ fn edits_outside_the_promise_or_of_one_file_are_refused(rt: HostRuntime) -> Resu
         is_strict: true,
         ..task(request)
     };
-    expect(
-        &rt,
-        comes_to(&rt, &strict, Outcome::Refused, OUTSIDE),
-        OUTSIDE,
-    );
-    expect(&rt, is_file(&rt, OUT, b"old"), "old");
+    let said = "warning: the promise of A holds for no text: \
+        the count at 1:21 may be up to 2,147,483,647\n\
+        teco: somleut_tools_in: N = 21 (the file's 1 and 20 of the macro) is outside the \
+        promise, which holds for no text\n";
+    expect_came(&rt, &edited(&rt, &strict, NAMES), Outcome::Refused, said);
+    assert!(rt; is_file(&rt, OUT, b"old"));
     let request = library_file(&rt, LIBRARY, REPLACES)?;
-    expect(&rt, is_itself_refused(&rt, request), "into itself");
-    expect(&rt, is_file(&rt, IN, b"a"), "a");
+    let names = Names {
+        source: b"somleut_tools_in",
+        target: b"./somleut_tools_in",
+    };
+    let came = edited(&rt, &task(request), names);
+    assert!(rt; matches!(came.outcome, Ok(Outcome::Coded)) && is_file(&rt, IN, b"a"));
+    expect_text(&rt, &came.typed, "?ARG\r\n");
     remove(&rt, &[LIBRARY, IN, OUT])
 }
 
@@ -134,59 +137,30 @@ const STREAMS: Names<'static> = Names {
     target: OUTPUT,
 };
 
-// What comes of an edit of each page of a stream, and what is written.
-type Streamed = (Result<Outcome, ToolFault>, Vec<u8>);
-
-fn streamed(rt: &HostRuntime, request: Request<'static>, is_strict: bool) -> Streamed {
-    let each = Task {
-        pages: Pages::Each,
-        is_strict,
-        ..task(request)
-    };
-    let files = FileHost::new(rt.alloc(), *rt);
-    let mut host = Streams::new(rt.alloc(), files, THREE, Vec::new(rt.alloc()));
-    let outcome = apply_macro(rt, &mut kept(rt), &each, STREAMS, &mut host);
-    (outcome, host.into_parts().1)
-}
-
-// Is each page edited? A strict edit wants an input whose length is known.
-fn is_streamed(rt: &HostRuntime, request: Request<'static>, is_strict: bool) -> bool {
-    let (outcome, written) = streamed(rt, request, is_strict);
-    match outcome {
-        Ok(Outcome::Done) => !is_strict && written.as_slice() == EACH,
-        Err(ToolFault::Unsized) => is_strict && written.is_empty(),
-        _ => false,
-    }
-}
-
+// Each page of a stream is edited; a strict edit wants an input whose length is known.
 #[test]
 fn streams_are_edited(rt: HostRuntime) -> Result<(), Fail> {
     let request = library_file(&rt, LIBRARY, REPLACES)?;
     for is_strict in [false, true] {
-        assert!(rt; is_streamed(&rt, request, is_strict), "{is_strict}");
+        let each = Task {
+            pages: Pages::Each,
+            is_strict,
+            ..task(request)
+        };
+        let files = FileHost::new(rt.alloc(), rt);
+        let mut host = Streams::new(rt.alloc(), files, THREE, Vec::new(rt.alloc()));
+        let outcome = apply_macro(&rt, &mut kept(&rt), &each, STREAMS, &mut host);
+        assert!(rt; matches!(outcome, Err(ToolFault::Unsized)) == is_strict);
+        assert!(rt; matches!(outcome, Ok(Outcome::Done)) != is_strict);
+        let (_, written) = host.into_parts();
+        let wanted: &[u8] = if is_strict {
+            b""
+        } else {
+            b"a bar\x0cbar\x0c\x0cbar"
+        };
+        assert!(rt; written.as_slice() == wanted);
     }
     remove(&rt, &[LIBRARY])
-}
-
-// Is a register set that the macro gets in front, or the setting refused, since the library sets it?
-fn is_set(rt: &HostRuntime, request: Request<'static>, word: &str, is_taken: bool) -> bool {
-    let Ok(Some(setting)) = Setting::read(rt.alloc(), word, Escape::ByName) else {
-        return false;
-    };
-    let settings = [setting];
-    let start = Start {
-        settings: &settings,
-        ..Start::new()
-    };
-    let task = Task {
-        start,
-        ..task(request)
-    };
-    match edited(rt, &task, NAMES).0 {
-        Ok(_) => !is_taken,
-        Err(ToolFault::Answer(AnswerFault::Taken { register: 'A' })) => is_taken,
-        Err(_) => false,
-    }
 }
 
 // A register that the macro gets in front is set; one of the library is not.
@@ -195,26 +169,44 @@ fn registers_are_set(rt: HostRuntime) -> Result<(), Fail> {
     let request = library_file(&rt, LIBRARY, b"@^UA/JGB/")?;
     fs::write(&rt, IN, b"text")?;
     for (word, is_taken) in [("B=some ", false), ("A=", true)] {
-        expect(&rt, is_set(&rt, request, word, is_taken), word);
-        expect(&rt, is_file(&rt, OUT, b"some text"), word);
+        let setting = Setting::read(rt.alloc(), word, Escape::ByName).expect(&rt, "memory");
+        let settings = [setting.expect(&rt, "a setting")];
+        let start = Start {
+            settings: &settings,
+            ..Start::new()
+        };
+        let task = Task {
+            start,
+            ..task(request)
+        };
+        let came = edited(&rt, &task, NAMES);
+        let is_refused = matches!(
+            came.outcome,
+            Err(ToolFault::Answer(AnswerFault::Taken { register: 'A' }))
+        );
+        let is_so = is_refused == is_taken && came.outcome.is_ok() != is_taken;
+        assert!(rt; is_so && is_file(&rt, OUT, b"some text"), "{word}");
     }
     remove(&rt, &[LIBRARY, IN, OUT])
 }
 
-// What is done with files that would change, and with which suffix they are kept.
-type How = (Change, Option<&'static str>);
-
-// The end of what is said of files of which one would change.
-const IN_PLACE: &[(How, &str)] = &[
-    ((Change::Listed, None), WOULD),
-    ((Change::Checked, OLD), WOULD),
-    ((Change::Made, OLD), "files: 3, changed: 1, failed: 1\n"),
-    ((Change::Made, None), "files: 3, changed: 0, failed: 1\n"),
+// What is done with files that would change, with which suffix they are kept, and the end of what is
+// said.
+const IN_PLACE: &[(Change, Option<&'static str>, &str)] = &[
+    (Change::Listed, None, WOULD),
+    (Change::Checked, OLD, WOULD),
+    (Change::Made, OLD, "files: 3, changed: 1, failed: 1\n"),
+    (Change::Made, None, "files: 3, changed: 0, failed: 1\n"),
 ];
 
 const OLD: Option<&'static str> = Some(".old");
 
 const WOULD: &str = "files: 3, would change: 1, failed: 1\n";
+
+// Files that words name.
+fn chosen(abort: &impl Abort, rt: &HostRuntime, names: &[&[u8]]) -> Vec<Chosen> {
+    choose(rt, &mut kept(rt).voice, &of_words(names)).expect(abort, "memory")
+}
 
 // How files are edited in place; they are kept in the place of no other.
 fn in_place<'a>(files: &'a [Chosen], change: Change, suffix: Option<&'static str>) -> InPlace<'a> {
@@ -233,53 +225,44 @@ fn in_place<'a>(files: &'a [Chosen], change: Change, suffix: Option<&'static str
     }
 }
 
-// What is done with files of these names. None where they are not chosen.
-fn done(rt: &HostRuntime, request: Request<'static>, names: &[&[u8]], how: How) -> Option<Came> {
-    let mut console = kept(rt);
-    let Ok(files) = choose(rt, &mut console.voice, &of_words(names)) else {
-        return None;
-    };
-    let how = in_place(&files, how.0, how.1);
-    Some((edit_files(rt, &mut console, &task(request), &how), console))
-}
-
-const THESE: &[&[u8]] = &[
-    b"somleut_tools_in",
-    b"somleut_tools_none",
-    b"somleut_tools_out",
-];
-
-// Is something made of files, and said; or the name of the one printed that would change?
-fn is_edited(rt: &HostRuntime, request: Request<'static>, how: How, said: &str) -> bool {
-    let is_made = matches!(how.0, Change::Made);
-    let listed: &[u8] = if is_made { b"" } else { b"somleut_tools_in\n" };
-    match done(rt, request, THESE, how) {
-        Some((Ok(Outcome::Coded), console)) => {
-            let (written, messages) = console.into_parts();
-            written.as_slice() == listed && messages.ends_with(said.as_bytes())
-        }
-        _ => false,
-    }
-}
-
-// Are the files as they were, or is one changed, and kept under its other name?
-fn are_left(rt: &HostRuntime, change: Change) -> bool {
+// What is made of files, and said; or the name of the one that would change is printed.
+fn expect_in_place(
+    abort: &impl Abort,
+    rt: &HostRuntime,
+    request: Request<'static>,
+    (change, suffix, said): (Change, Option<&'static str>, &str),
+) {
     let is_made = matches!(change, Change::Made);
+    let names: [&[u8]; 3] = [IN.as_bytes(), b"somleut_tools_none", OUT.as_bytes()];
+    let files = chosen(abort, rt, &names);
+    let mut console = kept(rt);
+    let how = in_place(&files, change, suffix);
+    let outcome = edit_files(rt, &mut console, &task(request), &how);
+    let (written, messages) = console.into_parts();
+    let listed = if is_made { "" } else { "somleut_tools_in\n" };
+    expect_text(abort, &written, listed);
+    let is_said = messages.ends_with(said.as_bytes());
+    assert!(abort; matches!(outcome, Ok(Outcome::Coded)) && is_said, "{said}");
     let left: &[u8] = if is_made { b"a bar" } else { b"a foo" };
-    is_file(rt, "somleut_tools_in.old", b"a foo") == is_made
-        && is_file(rt, IN, left)
-        && is_file(rt, OUT, b"nothing")
+    let is_kept = is_file(rt, "somleut_tools_in.old", b"a foo");
+    assert!(abort; is_kept == is_made && is_file(rt, IN, left), "{said}");
+    assert!(abort; is_file(rt, OUT, b"nothing"), "{said}");
 }
 
-const BOTH: &[&[u8]] = &[b"somleut_tools_in", b"./somleut_tools_in.old"];
-
-// Is nothing edited where a file would be kept under the name of another, or with no suffix?
-fn is_apart(rt: &HostRuntime, request: Request<'static>, suffix: Option<&'static str>) -> bool {
-    match done(rt, request, BOTH, (Change::Made, suffix)) {
-        Some((Err(ToolFault::Kept { .. }), _)) => suffix == OLD,
-        Some((Err(ToolFault::Suffix), _)) => suffix != OLD,
-        _ => false,
+// Nothing is edited where a file would be kept under the name of another, or with no suffix.
+fn expect_apart(abort: &impl Abort, rt: &HostRuntime, request: Request<'static>) {
+    let both: [&[u8]; 2] = [IN.as_bytes(), b"./somleut_tools_in.old"];
+    let files = chosen(abort, rt, &both);
+    for suffix in [OLD, Some("")] {
+        let how = in_place(&files, Change::Made, suffix);
+        let is_refused = match edit_files(rt, &mut kept(rt), &task(request), &how) {
+            Err(ToolFault::Kept { .. }) => suffix == OLD,
+            Err(ToolFault::Suffix) => suffix != OLD,
+            _ => false,
+        };
+        assert!(abort; is_refused, "{suffix:?}");
     }
+    assert!(abort; is_file(rt, IN, b"a bar") && is_file(rt, "somleut_tools_in.old", b"a foo"));
 }
 
 #[test]
@@ -287,13 +270,9 @@ fn files_are_edited_in_place(rt: HostRuntime) -> Result<(), Fail> {
     let request = library_file(&rt, LIBRARY, REPLACES)?;
     fs::write(&rt, IN, b"a foo")?;
     fs::write(&rt, OUT, b"nothing")?;
-    for (how, said) in IN_PLACE {
-        expect(&rt, is_edited(&rt, request, *how, said), said);
-        expect(&rt, are_left(&rt, how.0), said);
+    for row in IN_PLACE {
+        expect_in_place(&rt, &rt, request, *row);
     }
-    for suffix in [OLD, Some("")] {
-        assert!(rt; is_apart(&rt, request, suffix), "{suffix:?}");
-    }
-    assert!(rt; are_left(&rt, Change::Made));
+    expect_apart(&rt, &rt, request);
     remove(&rt, &[LIBRARY, IN, "somleut_tools_in.old", OUT])
 }

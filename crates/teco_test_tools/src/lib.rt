@@ -10,6 +10,8 @@ mod edits;
 #[cfg(test)]
 mod examples;
 #[cfg(test)]
+mod listings;
+#[cfg(test)]
 mod scripts;
 #[cfg(test)]
 mod trial;

@@ -1,4 +1,5 @@
-//! What the tests share: assertions, consoles over memory, and macros of library files in a scratch folder.
+//! What the tests share: assertions, consoles over memory, and macros of library files in a scratch
+//! folder.
 use std::fs;
 use std::process::Abort;
 use std::test::Fail;
@@ -19,17 +20,8 @@ pub fn expect_text(rt: &impl Abort, found: &[u8], wanted: &str) {
 }
 
 /// Writers over memory, in place of standard output and standard error.
-pub type Kept = Console<Vec<u8>, Vec<u8>>;
-
-pub fn kept(rt: &HostRuntime) -> Kept {
+pub fn kept(rt: &HostRuntime) -> Console<Vec<u8>, Vec<u8>> {
     Console::new(rt.alloc(), Vec::new(rt.alloc()), Vec::new(rt.alloc()))
-}
-
-/// What was printed, and what was said.
-pub type Parts = (Vec<u8>, Vec<u8>);
-
-pub fn has_said((written, messages): &Parts, printed: &str, said: &str) -> bool {
-    written.as_slice() == printed.as_bytes() && messages.as_slice() == said.as_bytes()
 }
 
 /// A library in the file of a name.

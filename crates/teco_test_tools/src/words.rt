@@ -5,7 +5,10 @@ use std::convert::AsStr;
 use std::env::{Env, FillError};
 use teco_tools::Script;
 use teco_verdicts::Rules;
-use teco_words::*;
+use teco_words::{
+    Arguments, cap, check_streams, check_texts, command, entry, escape_of, file_name, given, limit,
+    pages, rules_of, scripts, settings,
+};
 
 // The words of a line.
 fn words_of(alloc: Global, line: &'static str) -> Result<Vec<&'static str>, AllocError> {
@@ -45,7 +48,8 @@ fn is_edit(alloc: Global, matches: &ArgMatches<'_>) -> bool {
     }
 }
 
-// What is given for something, as a number, -1 where nothing is given; none where it is refused.
+// What is given for something, as a number: the name of a register, say, and -1 where nothing is given.
+// None where it is refused.
 fn number_of(alloc: Global, what: &str, matches: &ArgMatches<'_>) -> Option<i64> {
     Some(match what {
         "limit" => i64::from(limit(matches)),
@@ -61,58 +65,52 @@ fn number_of(alloc: Global, what: &str, matches: &ArgMatches<'_>) -> Option<i64>
     })
 }
 
-// What is said of something, as a number; -2 where it is refused.
-fn said(alloc: Global, what: &str, matches: &ArgMatches<'_>) -> Option<i64> {
-    let given = given_of(matches)?;
-    Some(number_of(alloc, what, given).unwrap_or(-2))
-}
-
 // What words say of something, as a number; -2 where they are refused.
 fn told(alloc: Global, what: &str, line: &'static str) -> Option<i64> {
     let words = words_of(alloc, line).ok()?;
     match matched(alloc, &words) {
-        Ok(matches) => said(alloc, what, &matches),
+        Ok(matches) => Some(number_of(alloc, what, given_of(&matches)?).unwrap_or(-2)),
         Err(status) => (status == 2).then_some(-2),
     }
 }
 
 /// What is asked for, the number that stands for it, and the words.
-const READ: &[(&str, i64, &str)] = &[
-    ("limit", 100000000, "teco run"),
-    ("limit", 4294967295, "teco run --limit 4294967295"),
-    ("limit", -2, "teco run --limit 0"),
-    ("limit", -2, "teco"),
-    ("limit", -2, "teco check LIB A"),
-    ("limit", -2, "teco apply LIB A IN OUT MORE"),
-    ("cap", 1073741824, "teco run"),
-    ("cap", 0, "teco run --memory 0"),
-    ("cap", 4096, "teco run --limit 7 --memory 4096"),
-    ("entry", 65, "teco verify LIB A"),
-    ("entry", -2, "teco verify LIB *"),
-    ("entry", -2, "teco verify LIB \u{c4}"),
-    ("rules", -1, "teco verify LIB A"),
-    ("rules", 2, "teco check --rules 2 LIB A CERT"),
-    ("rules", -2, "teco verify --rules 3 LIB A"),
-    ("argument", -1, "teco apply LIB A in out"),
-    (
-        "argument",
-        2147483647,
-        "teco apply --arg=2147483647 LIB A in out",
-    ),
-    ("argument", -2, "teco apply --arg=2147483648 LIB A in out"),
-    ("argument", -2, "teco apply --arg=-1 LIB A in out"),
-    ("edit", 1, "teco apply --pages=whole lib A in out"),
-    ("edit", -2, "teco apply --pages=all lib A in out"),
-    ("edit", -2, "teco apply --set=A lib A in out"),
-    ("edit", -2, "teco apply - A - out"),
-    ("edit", -2, "teco apply --strict lib A - out"),
-    ("edit", 1, "teco apply --strict lib A in -"),
+const READ: &[&str] = &[
+    "limit 100000000 teco run",
+    "limit 4294967295 teco run --limit 4294967295",
+    "limit -2 teco run --limit 0",
+    "limit -2 teco",
+    "limit -2 teco check LIB A",
+    "limit -2 teco apply LIB A IN OUT MORE",
+    "cap 1073741824 teco run",
+    "cap 0 teco run --memory 0",
+    "cap 4096 teco run --limit 7 --memory 4096",
+    "entry 65 teco verify LIB A",
+    "entry -2 teco verify LIB *",
+    "entry -2 teco verify LIB \u{c4}",
+    "rules -1 teco verify LIB A",
+    "rules 2 teco check --rules 2 LIB A CERT",
+    "rules -2 teco verify --rules 3 LIB A",
+    "argument -1 teco apply LIB A in out",
+    "argument 2147483647 teco apply --arg=2147483647 LIB A in out",
+    "argument -2 teco apply --arg=2147483648 LIB A in out",
+    "argument -2 teco apply --arg=-1 LIB A in out",
+    "edit 1 teco apply --pages=whole lib A in out",
+    "edit -2 teco apply --pages=all lib A in out",
+    "edit -2 teco apply --set=A lib A in out",
+    "edit -2 teco apply - A - out",
+    "edit -2 teco apply --strict lib A - out",
+    "edit 1 teco apply --strict lib A in -",
 ];
 
 #[test]
 fn words_are_read(rt: HostRuntime) {
-    for (what, number, line) in READ {
-        assert!(rt; told(rt.alloc(), what, *line) == Some(*number), "{line}");
+    for row in READ {
+        let line: &'static str = row;
+        let (what, rest) = line.split_once(" ").unwrap_or((line, ""));
+        let (number, words) = rest.split_once(" ").unwrap_or((rest, ""));
+        let is_so = told(rt.alloc(), what, words) == number.parse().ok();
+        assert!(rt; is_so, "{row}");
     }
 }
 
@@ -125,42 +123,35 @@ fn name_of<'a>(script: &Script<'a>) -> &'a str {
     }
 }
 
-// Are scripts of these names given, in this order?
-fn are_given(alloc: Global, given: &ArgMatches<'_>, names: &[&str]) -> Option<bool> {
-    let scripts = scripts(alloc, given).ok()?;
-    for (script, name) in scripts.iter().zip(names) {
-        if name_of(script) != *name {
-            return Some(false);
-        }
-    }
-    Some(scripts.len() == names.len())
-}
-
 // Do the words of a line name these scripts, in this order?
-fn names_scripts(alloc: Global, line: &'static str, names: &[&str]) -> Option<bool> {
-    let words = words_of(alloc, line).ok()?;
-    match matched(alloc, &words) {
-        Ok(matches) => are_given(alloc, given_of(&matches)?, names),
-        Err(_) => None,
-    }
+fn names_scripts(alloc: Global, line: &'static str, names: &'static str) -> Option<bool> {
+    let (words, names) = (words_of(alloc, line).ok()?, words_of(alloc, names).ok()?);
+    let matches = matched(alloc, &words).ok()?;
+    let scripts = scripts(alloc, given_of(&matches)?).ok()?;
+    let mut pairs = scripts.iter().zip(names.iter());
+    let are_named = pairs.all(|(script, name)| name_of(script) == *name);
+    Some(are_named && scripts.len() == names.len())
 }
 
 /// Words, and the scripts that they name.
-const SCRIPTS: &[(&str, &[&str])] = &[
-    ("teco run", &["stream"]),
-    ("teco run a -e 1= b", &["a", "1=", "b"]),
-    ("teco run -e 1= -e 2=", &["1=", "2="]),
-    ("teco run --stop a b", &["a", "b"]),
+const SCRIPTS: &[(&str, &str)] = &[
+    ("teco run", "stream"),
+    ("teco run a -e 1= b", "a 1= b"),
+    ("teco run -e 1= -e 2=", "1= 2="),
+    ("teco run --stop a b", "a b"),
 ];
 
 #[test]
 fn scripts_come_in_the_order_of_the_words(rt: HostRuntime) {
     for (line, names) in SCRIPTS {
-        assert!(rt;
-            names_scripts(rt.alloc(), *line, names) == Some(true),
-            "{line}"
-        );
+        let is_so = names_scripts(rt.alloc(), *line, *names);
+        assert!(rt; is_so == Some(true), "{line}");
     }
+}
+
+// The byte that one of a word stands for: the byte 255, which no text has, where it is `#`.
+fn byte_of(byte: u8) -> u8 {
+    if byte == b'#' { 0xff } else { byte }
 }
 
 // Words that a test gives in place of those of the process.
@@ -188,80 +179,56 @@ impl Env for Words<'_> {
     }
 }
 
-// The bytes of a word, in which `#` stands for the byte 255, which no text has.
-fn bytes_of(alloc: Global, word: &str) -> Result<Vec<u8>, AllocError> {
-    let mut bytes = word.as_bytes().to_vec(alloc)?;
-    for byte in bytes.iter_mut() {
-        *byte = if *byte == b'#' { 0xff } else { *byte };
-    }
-    Ok(bytes)
-}
-
 // The bytes of the words of a line.
-fn bytes_of_words(alloc: Global, line: &str) -> Result<Vec<Vec<u8>>, AllocError> {
+fn bytes_of(alloc: Global, line: &str) -> Result<Vec<Vec<u8>>, AllocError> {
     let mut words = Vec::new(alloc);
     for word in line.split(" ") {
-        words.push(bytes_of(alloc, word)?)?;
+        let mut bytes = word.as_bytes().to_vec(alloc)?;
+        for byte in bytes.iter_mut() {
+            *byte = byte_of(*byte);
+        }
+        words.push(bytes)?;
     }
     Ok(words)
 }
 
 // The words of a line, as they are given to the program. None where memory was refused.
 fn arguments_of(alloc: Global, line: &str) -> Option<Arguments> {
-    let words = bytes_of_words(alloc, line).ok()?;
+    let words = bytes_of(alloc, line).ok()?;
     Arguments::read(&(Words(&words), alloc)).ok()
 }
 
 // Is a file's name in these words read as it was given? None where it may be no name.
-fn is_read<'a>(given: &ArgMatches<'a>, all: &'a Arguments, id: &str, name: &[u8]) -> Option<bool> {
-    match file_name(given, id, all) {
-        Ok(found) => Some(found == name),
-        Err(_) => None,
-    }
+fn is_read<'a>(given: &ArgMatches<'a>, all: &'a Arguments, id: &str, name: &str) -> Option<bool> {
+    let found = file_name(given, id, all).ok()?;
+    let mut bytes = found.iter().zip(name.as_bytes().iter());
+    Some(found.len() == name.len() && bytes.all(|(byte, given)| *byte == byte_of(*given)))
 }
 
-// Is the name of the file that is made read as it was given, and that of the file that is read?
-type Read = [Option<bool>; 2];
-
-fn are_read<'a>(matches: &ArgMatches<'a>, all: &'a Arguments, name: &[u8]) -> Option<Read> {
-    let given = given_of(matches)?;
-    Some([
-        is_read(given, all, "OUT", b"OUT"),
-        is_read(given, all, "IN", name),
-    ])
-}
-
-// Are the names of files in a line read as they were given?
-fn are_names(alloc: Global, line: &str, name: &[u8]) -> Option<Read> {
+// Is the name of a file in a line read as it was given? And what is said of the one that is read?
+fn are_names(alloc: Global, line: &str, name: &str) -> Option<(bool, Option<bool>)> {
     let arguments = arguments_of(alloc, line)?;
-    match matched(alloc, arguments.texts()) {
-        Ok(matches) => are_read(&matches, &arguments, name),
-        Err(_) => None,
-    }
+    let matches = matched(alloc, arguments.texts()).ok()?;
+    let given = given_of(&matches)?;
+    let is_other_read = is_read(given, &arguments, "OUT", "OUT")?;
+    Some((is_other_read, is_read(given, &arguments, "IN", name)))
 }
 
-// Is a word refused that is no text, and is no name of a file that is edited?
-fn is_refused(alloc: Global, matches: &ArgMatches<'_>, all: &Arguments) -> Option<bool> {
-    let (name, given) = matches.subcommand()?;
-    Some(check_texts(alloc, name, given, all).is_err())
-}
-
-// Is a word of a line refused so?
+// Is a word of a line refused that is no text, and is no name of a file that is edited?
 fn is_text_wanted(alloc: Global, line: &str) -> Option<bool> {
     let arguments = arguments_of(alloc, line)?;
-    match matched(alloc, arguments.texts()) {
-        Ok(matches) => is_refused(alloc, &matches, &arguments),
-        Err(_) => None,
-    }
+    let matches = matched(alloc, arguments.texts()).ok()?;
+    let (name, given) = matches.subcommand()?;
+    Some(check_texts(alloc, name, given, &arguments).is_err())
 }
 
 /// Words with a name of the file that is read, the name, and whether it may be one.
-const NAMES: &[(&str, &[u8], bool)] = &[
-    ("teco apply LIB A in OUT", b"in", true),
-    ("teco apply LIB A  OUT", b"", true),
-    ("teco apply LIB A a\x1bb OUT", b"a\x1bb", false),
-    ("teco apply LIB A in# OUT", b"in\xff", true),
-    ("teco apply LIB A \x1b# OUT", b"\x1b\xff", false),
+const NAMES: &[(&str, &str, bool)] = &[
+    ("teco apply LIB A in OUT", "in", true),
+    ("teco apply LIB A  OUT", "", true),
+    ("teco apply LIB A a\x1bb OUT", "a\x1bb", false),
+    ("teco apply LIB A in# OUT", "in#", true),
+    ("teco apply LIB A \x1b# OUT", "\x1b#", false),
 ];
 
 /// Words, and whether one of them is to be a text and is none.
@@ -281,11 +248,13 @@ const TEXTS: &[(&str, bool)] = &[
 #[test]
 fn names_of_files_and_words_that_are_to_be_texts_are_judged(rt: HostRuntime) {
     for (line, name, is_good) in NAMES {
-        let wanted = [Some(true), is_good.then_some(true)];
+        let wanted = (true, is_good.then_some(true));
         assert!(rt; are_names(rt.alloc(), line, name) == Some(wanted), "{line}");
     }
     for (line, is_wanted) in TEXTS {
-        let is_refused = is_text_wanted(rt.alloc(), line);
-        assert!(rt; is_refused == Some(*is_wanted), "{line}");
+        assert!(rt;
+            is_text_wanted(rt.alloc(), line) == Some(*is_wanted),
+            "{line}"
+        );
     }
 }
