@@ -1,0 +1,437 @@
+// Bounds on the differences of a few symbols.
+use crate::numbers::{floor, plus};
+use crate::units::Units;
+use std::alloc::{AllocError, Global};
+use teco_linear::{Difference, Form, Term};
+
+// No bound.
+pub const NONE: i64 = i64::MAX;
+
+// What symbols are above one another at most: the entry in a row and a column bounds what the row's
+// symbol is above the column's. The first row and column are of the number 0.
+#[derive(Drop)]
+pub struct Bounds {
+    symbols: Vec<u32>,
+    table: Vec<i64>,
+    is_void: bool,
+    is_rough: bool,
+}
+
+// A form taken once or minus once, without the terms of two symbols.
+#[derive(Clone, Copy)]
+struct Part<'a> {
+    form: &'a Form,
+    is_minus: bool,
+    without: [Option<u32>; 2],
+}
+
+// What is added up of a part: a number, units that are added, and units that are taken away.
+#[derive(Clone, Copy)]
+struct Sum {
+    number: i64,
+    plus: Units,
+    minus: Units,
+}
+
+impl Part<'_> {
+    fn leaves_out(&self, term: &Term) -> bool {
+        let [first, second] = self.without;
+        term.symbol.is_some() && (first == term.symbol || second == term.symbol)
+    }
+
+    fn coefficient(&self, term: &Term) -> Option<i64> {
+        let coefficient = i64::try_from(term.coefficient).ok()?;
+        if self.is_minus {
+            coefficient.checked_neg()
+        } else {
+            Some(coefficient)
+        }
+    }
+}
+
+impl Bounds {
+    pub fn none(alloc: Global) -> Result<Bounds, AllocError> {
+        let table = Vec::from_elem(alloc, 0i64, 1)?;
+        Ok(Bounds {
+            symbols: Vec::new(alloc),
+            table,
+            is_void: false,
+            is_rough: false,
+        })
+    }
+
+    pub fn copied(&self, alloc: Global) -> Result<Bounds, AllocError> {
+        Ok(Bounds {
+            symbols: Vec::from_slice(alloc, &self.symbols)?,
+            table: Vec::from_slice(alloc, &self.table)?,
+            is_void: self.is_void,
+            is_rough: self.is_rough,
+        })
+    }
+
+    // Whether nothing is within the bounds.
+    pub fn is_void(&self) -> bool {
+        self.is_void
+    }
+
+    // Whether something was added that is no bound on a difference.
+    pub fn is_rough(&self) -> bool {
+        self.is_rough
+    }
+
+    // Whether these are the same bounds of the same symbols.
+    pub fn is(&self, other: &Bounds) -> bool {
+        self.symbols.as_slice() == other.symbols.as_slice()
+            && self.table.as_slice() == other.table.as_slice()
+    }
+
+    pub fn symbols(&self) -> &[u32] {
+        &self.symbols
+    }
+
+    pub fn size(&self) -> usize {
+        self.symbols.len().saturating_add(1)
+    }
+
+    fn index(&self, row: usize, column: usize) -> usize {
+        row.saturating_mul(self.size()).saturating_add(column)
+    }
+
+    pub fn at(&self, row: usize, column: usize) -> i64 {
+        match self.table.get(self.index(row, column)) {
+            Some(bound) => *bound,
+            None => NONE,
+        }
+    }
+
+    pub fn set(&mut self, row: usize, column: usize, most: i64) {
+        let index = self.index(row, column);
+        if let Some(bound) = self.table.get_mut(index) {
+            *bound = most;
+        }
+    }
+
+    // The row of a symbol, or of 0.
+    pub fn place(&self, symbol: Option<u32>) -> Option<usize> {
+        let Some(symbol) = symbol else {
+            return Some(0);
+        };
+        for at in 0..self.symbols.len() {
+            if self.symbols.get(at) == Some(&symbol) {
+                return Some(at.saturating_add(1));
+            }
+        }
+        None
+    }
+
+    // What one symbol is above another at most.
+    pub fn bound(&self, left: Option<u32>, right: Option<u32>) -> i64 {
+        match (self.place(left), self.place(right)) {
+            (Some(row), Some(column)) => self.at(row, column),
+            _ => NONE,
+        }
+    }
+
+    // The bounds of these symbols, in this order.
+    pub fn of_symbols(&self, symbols: &[u32], alloc: Global) -> Result<Bounds, AllocError> {
+        let mut rows = Vec::new(alloc);
+        rows.push(0usize).map_err(AllocError::from)?;
+        for symbol in symbols {
+            let row = self.place(Some(*symbol)).unwrap_or(usize::MAX);
+            rows.push(row).map_err(AllocError::from)?;
+        }
+        let mut table = Vec::with_capacity(alloc, rows.len().saturating_mul(rows.len()))?;
+        for row in 0..rows.len() {
+            for column in 0..rows.len() {
+                let most = self.between(&rows, row, column);
+                table.push(most).map_err(AllocError::from)?;
+            }
+        }
+        Ok(Bounds {
+            symbols: Vec::from_slice(alloc, symbols)?,
+            table,
+            is_void: self.is_void,
+            is_rough: self.is_rough,
+        })
+    }
+
+    // The bound between two of some rows, some of which there are not.
+    fn between(&self, rows: &[usize], row: usize, column: usize) -> i64 {
+        if row == column {
+            return 0;
+        }
+        match (rows.get(row), rows.get(column)) {
+            (Some(row), Some(column)) if *row < self.size() && *column < self.size() => {
+                self.at(*row, *column)
+            }
+            _ => NONE,
+        }
+    }
+
+    // The row of a symbol, which is made where there is none.
+    fn made(&mut self, symbol: Option<u32>, alloc: Global) -> Result<usize, AllocError> {
+        if let Some(place) = self.place(symbol) {
+            return Ok(place);
+        }
+        let Some(symbol) = symbol else {
+            return Ok(0);
+        };
+        let mut symbols = Vec::from_slice(alloc, &self.symbols)?;
+        symbols.push(symbol).map_err(AllocError::from)?;
+        let place = symbols.len();
+        *self = self.of_symbols(&symbols, alloc)?;
+        Ok(place)
+    }
+
+    // Lowers all bounds by one, in rows that there are.
+    pub fn lower(&mut self, left: usize, right: usize, most: i64) {
+        if self.at(left, right) <= most {
+            return;
+        }
+        let size = self.size();
+        for row in 0..size {
+            let ahead = plus(self.at(row, left), most);
+            if ahead != NONE {
+                self.lower_row(row, right, ahead);
+            }
+        }
+    }
+
+    // Lowers the bounds of a row by way of another.
+    fn lower_row(&mut self, row: usize, other: usize, ahead: i64) {
+        for column in 0..self.size() {
+            let through = plus(ahead, self.at(other, column));
+            if through < self.at(row, column) {
+                self.set(row, column, through);
+                self.is_void = self.is_void || row == column;
+            }
+        }
+    }
+
+    // Lowers each bound by way of all others.
+    pub fn close(&mut self) {
+        for other in 0..self.size() {
+            for row in 0..self.size() {
+                let ahead = self.at(row, other);
+                if ahead != NONE && row != other {
+                    self.lower_row(row, other, ahead);
+                }
+            }
+        }
+    }
+
+    // What a part adds up, if its units are few and are of symbols that are bounded.
+    fn sum(&self, part: &Part<'_>) -> Option<Sum> {
+        let mut sum = Sum {
+            number: 0,
+            plus: Units::none(),
+            minus: Units::none(),
+        };
+        for term in part.form.terms() {
+            if part.leaves_out(term) {
+                continue;
+            }
+            let coefficient = part.coefficient(term)?;
+            match term.symbol {
+                None if term.power == 0 => sum.number = sum.number.checked_add(coefficient)?,
+                None if coefficient >= 0 => {}
+                None => return None,
+                Some(_) if term.power > 0 => return None,
+                Some(_) => {
+                    let place = self.place(term.symbol)?;
+                    let units = if coefficient > 0 {
+                        &mut sum.plus
+                    } else {
+                        &mut sum.minus
+                    };
+                    if !units.add(place, coefficient.unsigned_abs()) {
+                        return None;
+                    }
+                }
+            }
+        }
+        if sum.plus.count().saturating_add(sum.minus.count()) > crate::units::MOST {
+            return None;
+        }
+        Some(sum)
+    }
+
+    // What a part is at the least by the bounds of each symbol alone.
+    fn least_of_each(&self, part: &Part<'_>) -> Option<i64> {
+        let mut least = 0i64;
+        for term in part.form.terms() {
+            if part.leaves_out(term) {
+                continue;
+            }
+            let coefficient = part.coefficient(term)?;
+            if term.symbol.is_none() {
+                if term.power == 0 {
+                    least = least.checked_add(coefficient)?;
+                } else if coefficient < 0 {
+                    return None;
+                }
+                continue;
+            }
+            let place = self.place(term.symbol)?;
+            let bound = if coefficient > 0 {
+                self.at(0, place)
+            } else {
+                self.at(place, 0)
+            };
+            if bound == NONE || term.power > 0 {
+                return None;
+            }
+            let times = i64::try_from(coefficient.unsigned_abs()).ok()?;
+            least = least.checked_sub(times.checked_mul(bound)?)?;
+        }
+        Some(least)
+    }
+
+    // What the units of a sum are at the least where each that is added is set against one that is
+    // taken away, or none, as a number says.
+    fn least_paired(&self, sum: &Sum, pairing: usize) -> i64 {
+        let choices = sum.minus.count().saturating_add(1);
+        let mut is_taken = [false; crate::units::MOST];
+        let mut above = 0i64;
+        let mut rest = pairing;
+        for at in 0..sum.plus.count() {
+            let choice = rest.checked_rem(choices).unwrap_or(0);
+            rest = rest.checked_div(choices).unwrap_or(0);
+            let mut other = 0;
+            if choice < sum.minus.count() {
+                match is_taken.get_mut(choice) {
+                    Some(mark) if !*mark => *mark = true,
+                    _ => return NONE,
+                }
+                other = sum.minus.at(choice);
+            }
+            above = plus(above, self.at(other, sum.plus.at(at)));
+        }
+        for at in 0..sum.minus.count() {
+            if is_taken.get(at) == Some(&false) {
+                above = plus(above, self.at(sum.minus.at(at), 0));
+            }
+        }
+        above
+    }
+
+    // What a part is at the least.
+    fn least_of(&self, part: &Part<'_>) -> Option<i64> {
+        let Some(sum) = self.sum(part) else {
+            return self.least_of_each(part);
+        };
+        let choices = sum.minus.count().saturating_add(1);
+        let mut pairings = 1usize;
+        for _ in 0..sum.plus.count() {
+            pairings = pairings.saturating_mul(choices);
+        }
+        let mut least_above = NONE;
+        for pairing in 0..pairings {
+            least_above = least_above.min(self.least_paired(&sum, pairing));
+        }
+        if least_above == NONE {
+            None
+        } else {
+            sum.number.checked_sub(least_above)
+        }
+    }
+
+    // What a form is at the least.
+    pub fn least(&self, form: &Form) -> Option<i64> {
+        self.least_of(&Part {
+            form,
+            is_minus: false,
+            without: [None, None],
+        })
+    }
+
+    // What it is at the most.
+    pub fn most(&self, form: &Form) -> Option<i64> {
+        self.most_without(form, [None, None])
+    }
+
+    // What it is at the most without the terms of two symbols.
+    fn most_without(&self, form: &Form, without: [Option<u32>; 2]) -> Option<i64> {
+        self.least_of(&Part {
+            form,
+            is_minus: true,
+            without,
+        })?
+        .checked_neg()
+    }
+
+    // Whether a form is at least 0.
+    pub fn shows(&self, form: &Form) -> bool {
+        self.least(form).is_some_and(|least| least >= 0)
+    }
+
+    // Takes it that a form is at least 0.
+    pub fn add(&mut self, form: &Form, alloc: Global) -> Result<(), AllocError> {
+        for term in form.terms() {
+            let _row = self.made(term.symbol, alloc)?;
+        }
+        if self.is_void || self.shows(form) {
+            return Ok(());
+        }
+        if self.most(form).is_some_and(|most| most < 0) {
+            self.is_void = true;
+            return Ok(());
+        }
+        match Difference::of(form) {
+            Some(difference) => self.add_difference(&difference),
+            None => self.add_rough(form),
+        }
+        Ok(())
+    }
+
+    fn add_difference(&mut self, difference: &Difference) {
+        let (Some(left), Some(right), Ok(most)) = (
+            self.place(difference.left),
+            self.place(difference.right),
+            i64::try_from(difference.most),
+        ) else {
+            return;
+        };
+        if left != right {
+            self.lower(left, right, most);
+        }
+    }
+
+    // Takes of a form that is no difference what it says of each symbol and of pairs.
+    fn add_rough(&mut self, form: &Form) {
+        self.is_rough = true;
+        for term in form.terms() {
+            let (Some(_), Some(place)) = (term.symbol, self.place(term.symbol)) else {
+                continue;
+            };
+            if let (Some(most), Ok(times)) = (
+                self.most_without(form, [term.symbol, None]),
+                i64::try_from(term.coefficient),
+            ) {
+                if times > 0 {
+                    self.lower(0, place, floor(most, times));
+                } else if times < 0 {
+                    self.lower(place, 0, floor(most, times.saturating_neg()));
+                }
+            }
+            if term.coefficient == 1 {
+                self.add_pairs(form, term.symbol, place);
+            }
+        }
+    }
+
+    // Takes what it says of pairs with a symbol.
+    fn add_pairs(&mut self, form: &Form, symbol: Option<u32>, place: usize) {
+        for other in form.terms() {
+            if other.coefficient != -1 || other.symbol.is_none() {
+                continue;
+            }
+            if let (Some(most), Some(above)) = (
+                self.most_without(form, [symbol, other.symbol]),
+                self.place(other.symbol),
+            ) {
+                self.lower(above, place, most);
+            }
+        }
+    }
+}

@@ -1,0 +1,610 @@
+// Potentials: what is promised of a measure, or of the steps, by sums of measures at each key.
+use crate::fault::Stop;
+use crate::keys::{least_forms, power_of};
+use crate::legs::{Leg, Start, Web};
+use crate::numbers::common;
+use crate::programs::{Draft, Entry, add_form};
+use crate::reduced::{Demand, bounded, is_large, reduced};
+use crate::rounds::at_forms;
+use std::alloc::Global;
+use teco_linear::{Form, Scale, Term};
+use teco_rows::applied::{copied, copied_constraints, form_at};
+use teco_simplex::{Sign, Values};
+
+// An unknown coefficient: of a form over the places of measures, times a power of N.
+#[derive(Drop)]
+struct Unknown {
+    form: Form,
+    power: u32,
+    variable: usize,
+}
+
+// What is promised: that the steps, or a measure, are no more than a polynomial, by coefficients of a
+// degree in N.
+#[derive(Clone, Copy)]
+pub struct Wanted {
+    // 0 are the steps.
+    pub place: u32,
+    pub degree: u32,
+    pub is_loose: bool,
+    pub scope: Scope,
+    // The most pivots of the program.
+    pub pivots: usize,
+    // The node whose turns alone count, if not all do.
+    pub only: Option<usize>,
+}
+
+// Of which measures there are coefficients.
+#[derive(Clone, Copy, PartialEq, Eq)]
+pub enum Scope {
+    // Of the pointer, of lengths of the buffer, and of turns.
+    Few,
+    // Of registers too.
+    More,
+    // Of all.
+    All,
+}
+
+impl Scope {
+    fn has(self, place: u32) -> bool {
+        match self {
+            Scope::Few => place < 4 || place >= 7 && (place - 7) % 7 == 2,
+            Scope::More => place != 4 && place != 5,
+            Scope::All => true,
+        }
+    }
+}
+
+// A promise: the coefficients of the polynomial and their divisor, and what is claimed at each key: a
+// form over the places of measures.
+#[derive(Drop)]
+pub struct Promise {
+    pub place: u32,
+    pub numerators: Vec<i128>,
+    pub divisor: i128,
+    pub claims: Vec<Form>,
+}
+
+// Claims with coefficients above this are not used to find others.
+const PLAIN: u128 = 100;
+
+// What is claimed at keys besides facts, and what of it is used to find more: forms over the places
+// of measures, by the key.
+#[derive(Drop)]
+pub struct Known {
+    pub claims: Vec<(usize, Form)>,
+    pub told: Vec<(usize, Form)>,
+}
+
+// Whether all coefficients of a form are small.
+fn is_plain(form: &Form) -> bool {
+    form.terms().iter().all(|term| term.symbol.is_none()
+        || term.coefficient.unsigned_abs() <= PLAIN)
+}
+
+impl Known {
+    // What is used at a key, where measures are given by forms.
+    pub fn at(&self, key: usize, forms: &[Option<Form>], alloc: Global) -> Result<Vec<Form>, Stop> {
+        let mut all = Vec::new(alloc);
+        for (place, claim) in &self.told {
+            if *place == key {
+                all.push(at_forms(claim, forms, alloc)?)?;
+            }
+        }
+        Ok(all)
+    }
+
+    // Takes what is claimed at each key besides. In the stead of a claim that is not plain a bound is
+    // used.
+    pub fn add(&mut self, claims: Vec<Form>, bounds: &[Form], alloc: Global) -> Result<(), Stop> {
+        for (key, claim) in claims.into_iter().enumerate() {
+            if key == 0 || claim.is_harmless() {
+                continue;
+            }
+            if is_plain(&claim) {
+                self.told.push((key, copied(&claim, alloc)?))?;
+            } else if let Some(bound) = bounds.get(key) {
+                if !bound.is_harmless() {
+                    self.told.push((key, copied(bound, alloc)?))?;
+                }
+            }
+            self.claims.push((key, claim))?;
+        }
+        Ok(())
+    }
+}
+
+// The unknown coefficients of each key.
+#[derive(Drop)]
+pub struct Unknowns {
+    of: Vec<Vec<Unknown>>,
+}
+
+// Adds an unknown for each power of N below a degree.
+fn add_unknowns(
+    unknowns: &mut Vec<Unknown>,
+    draft: &mut Draft,
+    form: &Form,
+    sign: Sign,
+    powers: u32,
+) -> Result<(), Stop> {
+    for power in 0..powers {
+        unknowns.push(Unknown {
+            form: copied(form, draft.alloc)?,
+            power,
+            variable: draft.variable(sign)?,
+        })?;
+    }
+    Ok(())
+}
+
+// Whether a form speaks of measures of a scope alone.
+fn is_within(form: &Form, scope: Scope) -> bool {
+    form.terms().iter().all(|term| match term.symbol {
+        Some(place) => scope.has(place),
+        None => true,
+    })
+}
+
+// What is known at a key of the measures of a scope.
+fn generators(
+    start: &Start,
+    key: usize,
+    known: &Known,
+    scope: Scope,
+    alloc: Global,
+) -> Result<Vec<Form>, Stop> {
+    let mut symbols: Vec<u32> = Vec::new(alloc);
+    for place in &start.own {
+        if scope.has(*place) {
+            symbols.push(*place)?;
+        }
+    }
+    let mut forms = Vec::new(alloc);
+    for form in least_forms(&start.bounds.of_symbols(&symbols, alloc)?, alloc)? {
+        if !is_large(&form) {
+            forms.push(form)?;
+        }
+    }
+    for form in known.at(key, &start.forms, alloc)? {
+        if is_within(&form, scope) {
+            forms.push(form)?;
+        }
+    }
+    Ok(forms)
+}
+
+impl Unknowns {
+    // Of each measure of each key, of either sign, and at the entry of the polynomial.
+    pub fn of_measures(web: &Web, draft: &mut Draft, degree: u32) -> Result<Unknowns, Stop> {
+        let alloc = draft.alloc;
+        let one = Form::constant(1, alloc)?;
+        let mut of = Vec::new(alloc);
+        for start in &web.starts {
+            let mut unknowns = Vec::new(alloc);
+            add_unknowns(
+                &mut unknowns,
+                draft,
+                &one,
+                Sign::Free,
+                degree.saturating_add(1),
+            )?;
+            for measure in &start.own {
+                let form = Form::symbol(*measure, alloc)?;
+                add_unknowns(&mut unknowns, draft, &form, Sign::Free, degree)?;
+            }
+            of.push(unknowns)?;
+        }
+        Ok(Unknowns { of })
+    }
+
+    // Of what is known at each key to be at least 0, and at the entry of the polynomial.
+    pub fn of_facts(
+        web: &Web,
+        known: &Known,
+        draft: &mut Draft,
+        wanted: &Wanted,
+    ) -> Result<Unknowns, Stop> {
+        let alloc = draft.alloc;
+        let degree = wanted.degree;
+        let one = Form::constant(1, alloc)?;
+        let mut of = Vec::new(alloc);
+        for place in 0..web.starts.len() {
+            let mut unknowns = Vec::new(alloc);
+            add_unknowns(
+                &mut unknowns,
+                draft,
+                &one,
+                Sign::NonNegative,
+                degree.saturating_add(1),
+            )?;
+            if let Some(start) = web.starts.get(place) {
+                if place > 0 {
+                    for form in generators(start, place, known, wanted.scope, alloc)? {
+                        add_unknowns(&mut unknowns, draft, &form, Sign::NonNegative, degree)?;
+                    }
+                }
+            }
+            of.push(unknowns)?;
+        }
+        Ok(Unknowns { of })
+    }
+
+    // Adds the sum of a key's measures, which are given by forms, times its unknowns.
+    pub fn add(
+        &self,
+        entries: &mut Vec<Entry>,
+        key: usize,
+        forms: &[Option<Form>],
+        times: i128,
+        alloc: Global,
+    ) -> Result<(), Stop> {
+        let Some(unknowns) = self.of.get(key) else {
+            return Ok(());
+        };
+        for unknown in unknowns {
+            let form = at_forms(&unknown.form, forms, alloc)?;
+            add_form(entries, &form, unknown.power, Some(unknown.variable), times)?;
+        }
+        Ok(())
+    }
+
+    // The polynomial is to be least, its highest coefficient first, and then the sum of all others, so
+    // that there are few; of a higher degree only the highest coefficient comes first.
+    fn minimise(&self, draft: &mut Draft, degree: u32) -> Result<(), Stop> {
+        let Some(unknowns) = self.of.first() else {
+            return Ok(());
+        };
+        let mut others: Vec<usize> = Vec::new(draft.alloc);
+        for unknown in unknowns.iter().rev() {
+            if degree == 1 || unknown.power == degree {
+                draft.minimise(&[unknown.variable])?;
+            } else {
+                others.push(unknown.variable)?;
+            }
+        }
+        for unknowns in self.of.get(1..).unwrap_or(&[]) {
+            for unknown in unknowns {
+                others.push(unknown.variable)?;
+            }
+        }
+        draft.minimise(&others)
+    }
+
+    // The sum at a key, as a form over the places of measures.
+    pub fn form(&self, key: usize, values: &Values, alloc: Global) -> Result<Form, Stop> {
+        let mut sum = Form::zero(alloc);
+        let Some(unknowns) = self.of.get(key) else {
+            return Ok(sum);
+        };
+        for unknown in unknowns {
+            let scale = Scale {
+                factor: values
+                    .numerators
+                    .get(unknown.variable)
+                    .copied()
+                    .unwrap_or(0),
+                power: unknown.power,
+            };
+            sum = sum.add(&unknown.form.scaled(&scale, alloc)?, alloc)?;
+        }
+        Ok(sum)
+    }
+
+    // The numerators of the polynomial.
+    fn polynomial(&self, values: &Values, alloc: Global) -> Result<Vec<i128>, Stop> {
+        let mut numerators = Vec::new(alloc);
+        if let Some(unknowns) = self.of.first() {
+            for unknown in unknowns {
+                numerators.push(
+                    values
+                        .numerators
+                        .get(unknown.variable)
+                        .copied()
+                        .unwrap_or(0),
+                )?;
+            }
+        }
+        Ok(numerators)
+    }
+}
+
+// A form divided by what divides all its coefficients.
+pub fn lowest(form: &Form, alloc: Global) -> Result<Form, Stop> {
+    let mut shared = 0u128;
+    for term in form.terms() {
+        shared = common(shared, term.coefficient.unsigned_abs());
+    }
+    let Ok(divisor) = i128::try_from(shared.max(1)) else {
+        return Ok(copied(form, alloc)?);
+    };
+    let mut sum = Form::zero(alloc);
+    for term in form.terms() {
+        let less = Term {
+            coefficient: term.coefficient.checked_div(divisor).unwrap_or(0),
+            ..*term
+        };
+        sum = sum.add(&Form::term(less, alloc)?, alloc)?;
+    }
+    Ok(sum)
+}
+
+// Whether a form is no greater than another, by the differences that a path tells of.
+fn is_below(form: &Form, above: &Option<Form>, leg: &Leg, alloc: Global) -> Result<bool, Stop> {
+    let Some(above) = above else {
+        return Ok(false);
+    };
+    let more = above.sub(form, alloc)?;
+    if more.is_harmless() {
+        return Ok(true);
+    }
+    let (bounds, _rough) = bounded(&leg.constraints, false, alloc)?;
+    Ok(bounds.shows(&more))
+}
+
+// A program with its unknowns, for what is wanted.
+#[derive(Drop)]
+pub struct Sought<'a> {
+    pub web: &'a Web,
+    pub known: &'a Known,
+    pub draft: Draft,
+    pub unknowns: Unknowns,
+    pub degree: u32,
+    demands: Vec<Demand>,
+}
+
+impl<'a> Sought<'a> {
+    // With coefficients of measures.
+    pub fn of_measures(web: &'a Web, known: &'a Known, alloc: Global) -> Result<Sought<'a>, Stop> {
+        let mut draft = Draft::new(alloc);
+        let unknowns = Unknowns::of_measures(web, &mut draft, 1)?;
+        Ok(Sought {
+            web,
+            known,
+            draft,
+            unknowns,
+            degree: 1,
+            demands: Vec::new(alloc),
+        })
+    }
+
+    // With coefficients of facts.
+    pub fn of_facts(
+        web: &'a Web,
+        known: &'a Known,
+        wanted: &Wanted,
+        alloc: Global,
+    ) -> Result<Sought<'a>, Stop> {
+        let mut draft = Draft::new(alloc);
+        let unknowns = Unknowns::of_facts(web, known, &mut draft, wanted)?;
+        let degree = wanted.degree;
+        Ok(Sought {
+            web,
+            known,
+            draft,
+            unknowns,
+            degree,
+            demands: Vec::new(alloc),
+        })
+    }
+
+    // That entries are implied by the constraints of a path from a key, and what is known there.
+    pub fn imply(
+        &mut self,
+        source: usize,
+        constraints: &[Form],
+        entries: Vec<Entry>,
+    ) -> Result<(), Stop> {
+        let alloc = self.draft.alloc;
+        let mut all = copied_constraints(constraints, alloc)?;
+        if let Some(start) = self.web.starts.get(source) {
+            let mut known = self.known.at(source, &start.forms, alloc)?;
+            all.append(&mut known)?;
+        }
+        if let Some(demand) = reduced(&entries, &all, alloc)? {
+            self.demand(demand)?;
+        }
+        Ok(())
+    }
+
+    // Adds a demand, unless one that is there is enough; it stands in for those that follow from it.
+    fn demand(&mut self, demand: Demand) -> Result<(), Stop> {
+        if self.demands.iter().any(|other| demand.follows(other)) {
+            return Ok(());
+        }
+        self.demands.retain(|other| !other.follows(&demand));
+        self.demands.push(demand)?;
+        Ok(())
+    }
+
+    // The values of the unknowns, if they are found.
+    pub fn solved(&mut self, pivots: usize) -> Result<Option<Values>, Stop> {
+        let demands = std::mem::replace(&mut self.demands, Vec::new(self.draft.alloc));
+        for demand in demands {
+            let Demand {
+                entries,
+                constraints,
+            } = demand;
+            self.draft.imply(entries, &constraints, self.degree)?;
+        }
+        self.draft.solved(pivots)
+    }
+
+    // The sum where measures are given by forms, and the measure itself, if one is promised.
+    fn add_sum(
+        &self,
+        entries: &mut Vec<Entry>,
+        key: usize,
+        forms: &[Option<Form>],
+        part: (&Wanted, i128),
+    ) -> Result<(), Stop> {
+        let alloc = self.draft.alloc;
+        let (wanted, times) = part;
+        self.unknowns.add(entries, key, forms, times, alloc)?;
+        if wanted.place != 0 && key != 0 {
+            if let Some(form) = form_at(forms, wanted.place as usize, alloc)? {
+                add_form(entries, &form, 0, None, times)?;
+            }
+        }
+        Ok(())
+    }
+
+    // The sum at the start of a path.
+    fn begin(&self, source: usize, wanted: &Wanted) -> Result<Vec<Entry>, Stop> {
+        let mut entries = Vec::new(self.draft.alloc);
+        if let Some(start) = self.web.starts.get(source) {
+            self.add_sum(&mut entries, source, &start.forms, (wanted, 1))?;
+        }
+        Ok(entries)
+    }
+
+    // That the sum does not grow on a path, even with its steps, if they count.
+    fn add_leg(&mut self, leg: &Leg, wanted: &Wanted) -> Result<(), Stop> {
+        let alloc = self.draft.alloc;
+        if leg.target.is_none() && wanted.place != 0 {
+            return Ok(());
+        }
+        let mut entries = self.begin(leg.source, wanted)?;
+        if wanted.place == 0 {
+            if let Some(steps) = form_at(&leg.forms, 0, alloc)? {
+                add_form(&mut entries, &steps, 0, None, -1)?;
+            }
+        }
+        if let Some(target) = leg.target {
+            self.add_sum(&mut entries, target, &leg.forms, (wanted, -1))?;
+        }
+        self.imply(leg.source, &leg.constraints, entries)
+    }
+
+    // That the sum is no less than the measure where it was raised, unless it is so behind that.
+    fn add_peaks(&mut self, leg: &Leg, wanted: &Wanted, is_done: &mut [bool]) -> Result<(), Stop> {
+        let alloc = self.draft.alloc;
+        let mut at = leg.peak;
+        let web = self.web;
+        let mut above = match leg.target {
+            Some(_) => form_at(&leg.forms, wanted.place as usize, alloc)?,
+            None => None,
+        };
+        for _ in 0..web.record.peaks.len() {
+            let Some(place) = at else {
+                break;
+            };
+            let Some(peak) = web.record.peaks.get(place) else {
+                break;
+            };
+            at = peak.before;
+            if peak.place != wanted.place || is_below(&peak.form, &above, leg, alloc)? {
+                continue;
+            }
+            above = Some(copied(&peak.form, alloc)?);
+            if is_done.get(place) == Some(&false) {
+                if let Some(mark) = is_done.get_mut(place) {
+                    *mark = true;
+                }
+                let mut entries = self.begin(leg.source, wanted)?;
+                add_form(&mut entries, &peak.form, 0, None, -1)?;
+                self.imply(leg.source, &peak.constraints, entries)?;
+            }
+        }
+        Ok(())
+    }
+
+    // That the polynomial is no less than the measure at the entry.
+    fn add_entry(&mut self, wanted: &Wanted) -> Result<(), Stop> {
+        let alloc = self.draft.alloc;
+        let web = self.web;
+        let Some(start) = web.starts.first() else {
+            return Ok(());
+        };
+        if wanted.place == 0 || wanted.is_loose {
+            return Ok(());
+        }
+        let mut entries = self.begin(0, wanted)?;
+        if let Some(form) = form_at(&start.forms, wanted.place as usize, alloc)? {
+            add_form(&mut entries, &form, 0, None, -1)?;
+        }
+        self.imply(0, &start.constraints, entries)
+    }
+
+    // What is claimed at a key: the polynomial, less the sum and the steps.
+    fn claim(
+        &self,
+        key: usize,
+        most: &Form,
+        values: &Values,
+        wanted: &Wanted,
+    ) -> Result<Form, Stop> {
+        let alloc = self.draft.alloc;
+        let sum = self.unknowns.form(key, values, alloc)?;
+        let start = self.web.starts.get(key);
+        let is_there = match start {
+            Some(start) => form_at(&start.forms, wanted.place as usize, alloc)?.is_some(),
+            None => false,
+        };
+        if !is_there {
+            return lowest(&most.sub(&sum, alloc)?, alloc);
+        }
+        let measure = Form::symbol(wanted.place, alloc)?.scaled(
+            &Scale {
+                factor: values.denominator,
+                power: 0,
+            },
+            alloc,
+        )?;
+        let claim = most.sub(&sum, alloc)?.sub(&measure, alloc)?;
+        lowest(&claim, alloc)
+    }
+
+    // What the values of a program promise.
+    fn promise(&self, values: &Values, wanted: &Wanted) -> Result<Promise, Stop> {
+        let alloc = self.draft.alloc;
+        let numerators = self.unknowns.polynomial(values, alloc)?;
+        let mut claims = Vec::new(alloc);
+        let mut most = Form::zero(alloc);
+        for power in 0..numerators.len() {
+            let coefficient = numerators.get(power).copied().unwrap_or(0);
+            most = most.add(
+                &power_of(u32::try_from(power).unwrap_or(0), coefficient, alloc)?,
+                alloc,
+            )?;
+        }
+        for key in 0..self.web.starts.len() {
+            claims.push(self.claim(key, &most, values, wanted)?)?;
+        }
+        Ok(Promise {
+            place: wanted.place,
+            numerators,
+            divisor: values.denominator,
+            claims,
+        })
+    }
+}
+
+// A promise of what is wanted, if one is found.
+pub fn promised<'a>(
+    web: &'a Web,
+    known: &'a Known,
+    wanted: &Wanted,
+    alloc: Global,
+) -> Result<Option<Promise>, Stop> {
+    let mut sought = Sought::of_facts(web, known, wanted, alloc)?;
+    let mut is_done = Vec::from_elem(alloc, false, web.record.peaks.len())?;
+    for leg in &web.legs {
+        if wanted.only.is_some_and(|number| !web.is_round(leg, number)) {
+            continue;
+        }
+        sought.add_leg(leg, wanted)?;
+        if wanted.place != 0 && !wanted.is_loose {
+            sought.add_peaks(leg, wanted, &mut is_done)?;
+        }
+    }
+    sought.add_entry(wanted)?;
+    let program = &mut sought;
+    program
+        .unknowns
+        .minimise(&mut program.draft, wanted.degree)?;
+    match sought.solved(wanted.pivots)? {
+        Some(values) => Ok(Some(sought.promise(&values, wanted)?)),
+        None => Ok(None),
+    }
+}
