@@ -117,6 +117,11 @@ impl Search<'_> {
         }
     }
 
+    // The number behind that of the last node.
+    fn end(&self) -> usize {
+        self.course.nodes.len().saturating_add(1)
+    }
+
     // Whether a path ends where a trail is.
     fn is_arrived(&self, trail: &Trail) -> bool {
         trail.number > self.course.nodes.len() || self.is_cut.get(trail.number) == Some(&true)
@@ -178,6 +183,20 @@ impl Search<'_> {
         Ok(first)
     }
 
+    // Takes the trails of the least node a step further; answers those that are ahead then.
+    fn turn(
+        &mut self,
+        ahead: Vec<Trail>,
+        arrived: &mut Vec<Trail>,
+        record: &mut Record,
+        is_first: bool,
+    ) -> Result<Vec<Trail>, Stop> {
+        let (here, mut rest) = of_least(ahead, self.alloc)?;
+        self.check_count(&here, is_first)?;
+        self.advance(&here, &mut rest, arrived, record)?;
+        Ok(rest)
+    }
+
     // All trails that paths from a key end with.
     pub fn explore(
         &mut self,
@@ -188,14 +207,11 @@ impl Search<'_> {
         let mut arrived = Vec::new(self.alloc);
         let mut ahead = Vec::new(self.alloc);
         ahead.push(self.first(keys, place, record)?)?;
-        for step in 0..self.course.nodes.len().saturating_add(1) {
+        for step in 0..self.end() {
             if ahead.is_empty() {
                 return Ok(arrived);
             }
-            let (here, mut rest) = of_least(ahead, self.alloc)?;
-            self.check_count(&here, step == 0)?;
-            self.advance(&here, &mut rest, &mut arrived, record)?;
-            ahead = rest;
+            ahead = self.turn(ahead, &mut arrived, record, step == 0)?;
         }
         Err(Stop::Refused(Refusal::TooMuch))
     }
