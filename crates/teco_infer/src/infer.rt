@@ -21,7 +21,7 @@ use teco_paths::fault::PathFault;
 const FUEL: usize = 80_000;
 
 // How many cases a node may have, try by try, before it becomes a cut point.
-const MOST_CASES: [usize; 3] = [12, 8, 24];
+const MOST_CASES: [usize; ATTEMPTS] = [12, 8, 24];
 
 // How often facts are narrowed.
 const NARROWINGS: usize = 2;
@@ -288,4 +288,21 @@ pub fn infer_checked(called: &Called<'_>, alloc: Global) -> Result<Claims, Refus
         }
     }
     Err(first.unwrap_or(Refusal::TooMuch))
+}
+
+/// How many ways there are to look for claims.
+pub const ATTEMPTS: usize = 3;
+
+/// Looks for claims of a macro as `infer_claims` does, in one of several ways, the quickest first. They
+/// are not checked here.
+pub fn infer_by(called: &Called<'_>, attempt: usize, alloc: Global) -> Result<Claims, Refusal> {
+    match MOST_CASES.get(attempt) {
+        Some(most_cases) => found(called, *most_cases, alloc),
+        None => Err(Refusal::TooMuch),
+    }
+}
+
+/// Whether another way may find what this one did not.
+pub fn is_worth_another(refusal: Refusal) -> bool {
+    may_differ(refusal)
 }

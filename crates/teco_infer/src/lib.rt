@@ -23,4 +23,4 @@ mod units;
 mod written;
 
 pub use fault::Refusal;
-pub use infer::{infer_checked, infer_claims};
+pub use infer::{ATTEMPTS, infer_by, infer_checked, infer_claims, is_worth_another};
