@@ -13,7 +13,7 @@ use Rattle.teco_rows.specs.declared.measure.Measure.{Measure}
 use Rattle.teco_rows.specs.declared.measure.Measure.TheVariants.{One, Each}
 use Rattle.teco_rows.specs.declared.measure.Single.{Single}
 use Rattle.teco_rows.specs.declared.measure.Single.TheVariants.{Steps, Pointer, Size, Held, LineEnd, LineStart}
-use Rattle.teco_rows.specs.declared.measure.Single.TheVariants.{LastLength}
+use Rattle.teco_rows.specs.declared.measure.Single.TheVariants.{LastLength, CodeHere, CodeBefore}
 use Rattle.teco_rows.specs.declared.row.Clause.{Clause}
 use Rattle.teco_rows.specs.declared.row.Places.{Places}
 use Rattle.teco_rows.specs.declared.row.Step.{Step}
@@ -111,6 +111,8 @@ module _ (s : Point) (here : Places) (given unknown : ℕ → ℤ) where
   stays answer LineEnd = refl
   stays answer LineStart = refl
   stays answer LastLength = refl
+  stays answer CodeHere = refl
+  stays answer CodeBefore = refl
 
   leads_to_answer : (answer : Option ℤ) → here.level ≡ length s.arguments.outer
       → Leads (answer_row answer) (read_at s here given unknown) s s.kept answer

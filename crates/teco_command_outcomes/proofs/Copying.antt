@@ -34,7 +34,7 @@ use Rattle.teco_rows.specs.declared.measure.Family.TheVariants.{First, Value}
 use Rattle.teco_rows.specs.declared.measure.Measure.TheVariants.{Each}
 use Rattle.teco_rows.specs.declared.measure.Single.{Single}
 use Rattle.teco_rows.specs.declared.measure.Single.TheVariants.{Steps, Pointer, Size, Held, LineEnd, LineStart}
-use Rattle.teco_rows.specs.declared.measure.Single.TheVariants.{LastLength}
+use Rattle.teco_rows.specs.declared.measure.Single.TheVariants.{LastLength, CodeHere, CodeBefore}
 use Rattle.teco_rows.specs.declared.outcomes.Outcomes.{Outcomes}
 use Rattle.teco_rows.specs.declared.row.Clause.{Clause}
 use Rattle.teco_rows.specs.declared.row.Places.{Places}
@@ -75,6 +75,8 @@ module _ (row : List Clause) (s : Point) (here : Places) (given unknown : ℕ �
   same LineEnd = refl
   same LineStart = refl
   same LastLength = refl
+  same CodeHere = refl
+  same CodeBefore = refl
 
   pub text_leads : leaves Turns row ≡ true → leaves PushedNumber row ≡ true → leaves PushedLength row ≡ true
       → leaves First row ≡ true → leaves Number row ≡ true → leaves Value row ≡ true → leaves_singles row ≡ true

@@ -30,7 +30,7 @@ use Rattle.teco_command_outcomes.specs.declared.deletions.TheConstants.{CUTS_LIN
 use Rattle.teco_command_outcomes.specs.declared.deletions.TheConstants.{LINES, LINES_BACK, PART, PART_BACK}
 use Rattle.teco_rows.specs.declared.measure.Single.{Single}
 use Rattle.teco_rows.specs.declared.measure.Single.TheVariants.{Steps, Pointer, Size, Held, LineEnd, LineStart}
-use Rattle.teco_rows.specs.declared.measure.Single.TheVariants.{LastLength}
+use Rattle.teco_rows.specs.declared.measure.Single.TheVariants.{LastLength, CodeHere, CodeBefore}
 use Rattle.teco_rows.specs.declared.measure.Measure.TheVariants.{One}
 use Rattle.teco_rows.specs.declared.outcomes.Outcomes.{Outcomes}
 use Rattle.teco_rows.specs.declared.row.Clause.{Clause}
@@ -44,12 +44,14 @@ use Rattle.teco_command_outcomes.specs.Deletions.{kept_without}
 use Rattle.teco_rows.specs.Foretold.{Begins, Describe}
 use Rattle.teco_command_outcomes.specs.Motions.{IsPlace}
 use Rattle.teco_rows.specs.Rows.{AreMet, Before, changed}
-use Rattle.teco_rows.specs.States.{Point, IsTrueOf, single}
+use Rattle.teco_rows.specs.States.{Point, IsTrueOf, single, code_here, code_before}
 use Rattle.teco_rows.proofs.Commanding.{read_at}
 use Rattle.teco_rows.proofs.Leading.{is_of_singles, leads_singles, performed}
 use Rattle.teco_rows.proofs.Lines.{IsEnd, IsBegin, line_end, line_begin, one_end, one_begin, end_before}
 use Rattle.teco_rows.proofs.Lines.{begin_before}
 use Rattle.teco_rows.proofs.Lines.{above_or, end_inside, top_line}
+use Rattle.teco_rows.proofs.Characters.{with_codes}
+use Rattle.teco_command_outcomes.proofs.Codes.{left_before, left_here}
 use Rattle.teco_command_outcomes.proofs.Lining.{Counted, LiesAbove, above_within, ahead_within, back_within}
 use Rattle.teco_command_outcomes.proofs.Moving.{place_there}
 use Rattle.teco_rows.proofs.Texts.{begin_kept, end_behind, length_after}
@@ -82,10 +84,13 @@ module _ (text : List ℕ) (a b : ℕ) (ordered : a ≤ b) (inside : b ≤ lengt
       (λ i h. absurd (omega arith)))
 
 -- what is not known of the state behind
-abbrev unknown_of : Kept → ℕ → ℤ
-unknown_of kept zero = pos (line_place kept.text kept.pointer (pos 1))
-unknown_of kept (suc zero) = pos (line_place kept.text kept.pointer (pos 0))
-unknown_of kept (suc (suc i)) = pos (length kept.text)
+abbrev lines_of : Kept → ℕ → ℤ
+lines_of kept zero = pos (line_place kept.text kept.pointer (pos 1))
+lines_of kept (suc zero) = pos (line_place kept.text kept.pointer (pos 0))
+lines_of kept (suc (suc i)) = pos (length kept.text)
+
+abbrev pub unknown_of : Kept → ℕ → ℤ
+unknown_of kept = with_codes kept.text kept.pointer (lines_of kept)
 
 module _ (s : Point) (here : Places) (given : ℕ → ℤ) (a b : ℕ) (ordered : a ≤ b) (inside : b ≤ length s.kept.text)
   where
@@ -103,6 +108,12 @@ module _ (s : Point) (here : Places) (given : ℕ → ℤ) (a b : ℕ) (ordered 
 
     begin_is : line_place (text_after_deletion s.kept.text a b) a (pos 0) ≡ line_place s.kept.text a (pos 0)
     begin_is = left_begin s.kept.text a b ordered inside
+
+    here_is : code_here (text_after_deletion s.kept.text a b) a ≡ code_here s.kept.text b
+    here_is = left_here s.kept.text a b (omega arith)
+
+    before_is : code_before (text_after_deletion s.kept.text a b) a ≡ code_before s.kept.text a
+    before_is = left_before s.kept.text a b (omega arith)
 
     cut : (row : List Clause) → is_of_singles row ≡ true → AreMet row before
         → ((which : Single) → Some (pos (single (commanded s kept None) which))
@@ -133,6 +144,8 @@ module _ (s : Point) (here : Places) (given : ℕ → ℤ) (a b : ℕ) (ordered 
           singles LineEnd = ap Some (omega (arith, ints))
           singles LineStart = ap (λ x. Some (pos x)) (begin_is ∙ ap (λ x. line_place s.kept.text x (pos 0)) at)
           singles LastLength = refl
+          singles CodeHere = ap Some (omega (arith, ints))
+          singles CodeBefore = ap (λ x. Some (pos x)) (before_is ∙ ap (code_before s.kept.text) at)
 
     pub lines_back : given 0 ≤ℤ pos 0 → b ≡ s.kept.pointer → a ≤ line_place s.kept.text s.kept.pointer (pos 0)
         → line_place s.kept.text a (pos 0) ≡ a → Leads LINES_BACK before s kept None
@@ -158,6 +171,8 @@ module _ (s : Point) (here : Places) (given : ℕ → ℤ) (a b : ℕ) (ordered 
               ap Some (omega (arith, ints, end_is, ap (λ x. line_place s.kept.text x (pos 1)) at, begin_is))
           singles LineStart = ap Some (omega (arith, ints))
           singles LastLength = refl
+          singles CodeHere = ap (λ x. Some (pos x)) (here_is ∙ ap (code_here s.kept.text) at)
+          singles CodeBefore = ap Some (omega (arith, ints))
 
     -- the line to its end
     pub keeps : a ≡ s.kept.pointer → b ≡ a → length s.kept.text ≤ a → Leads KEEPS before s kept None
@@ -173,6 +188,8 @@ module _ (s : Point) (here : Places) (given : ℕ → ℤ) (a b : ℕ) (ordered 
           (omega (arith, end_is, ap (λ x. line_place s.kept.text x (pos 1)) (same ∙ at)))
       singles LineStart = ap (λ x. Some (pos x)) (begin_is ∙ ap (λ x. line_place s.kept.text x (pos 0)) at)
       singles LastLength = refl
+      singles CodeHere = ap (λ x. Some (pos x)) (here_is ∙ ap (code_here s.kept.text) (same ∙ at))
+      singles CodeBefore = ap (λ x. Some (pos x)) (before_is ∙ ap (code_before s.kept.text) at)
 
     pub cuts_line : a ≡ s.kept.pointer → b ≡ line_place s.kept.text s.kept.pointer (pos 1) → a + 1 ≤ b
         → Leads CUTS_LINE before s kept None
@@ -193,6 +210,8 @@ module _ (s : Point) (here : Places) (given : ℕ → ℤ) (a b : ℕ) (ordered 
           singles LineEnd = ap Some (omega (arith, ints))
           singles LineStart = ap (λ x. Some (pos x)) (begin_is ∙ ap (λ x. line_place s.kept.text x (pos 0)) at)
           singles LastLength = refl
+          singles CodeHere = ap Some (omega (arith, ints))
+          singles CodeBefore = ap (λ x. Some (pos x)) (before_is ∙ ap (code_before s.kept.text) at)
 
     -- lines back, in the first line and in another
     pub cuts_top : b ≡ s.kept.pointer → a ≡ 0 → line_place s.kept.text s.kept.pointer (pos 0) ≡ 0
@@ -210,6 +229,8 @@ module _ (s : Point) (here : Places) (given : ℕ → ℤ) (a b : ℕ) (ordered 
       singles LineEnd = ap Some (omega (arith, ints, end_is, ap (λ x. line_place s.kept.text x (pos 1)) at))
       singles LineStart = ap (λ x. Some (pos x)) (omega (arith, begin_is, t.before))
       singles LastLength = refl
+      singles CodeHere = ap (λ x. Some (pos x)) (here_is ∙ ap (code_here s.kept.text) at)
+      singles CodeBefore = ap Some (omega (arith, ints))
 
     pub cuts_up : b ≡ s.kept.pointer → LiesAbove s.kept.text s.kept.pointer a → Leads CUTS_UP before s kept None
     cuts_up at lies =
@@ -226,6 +247,8 @@ module _ (s : Point) (here : Places) (given : ℕ → ℤ) (a b : ℕ) (ordered 
             (omega (arith, ints, end_is, ap (λ x. line_place s.kept.text x (pos 1)) at, begin_is, lies.starts))
         singles LineStart = ap Some (omega (arith, ints))
         singles LastLength = refl
+        singles CodeHere = ap (λ x. Some (pos x)) (here_is ∙ ap (code_here s.kept.text) at)
+        singles CodeBefore = ap Some (omega (arith, ints))
 
     -- in the order of the places
     module _ (from : given 0 ≡ pos a) (to : given 1 ≡ pos b) where
@@ -251,6 +274,8 @@ module _ (s : Point) (here : Places) (given : ℕ → ℤ) (a b : ℕ) (ordered 
         singles LineEnd = ap Some (omega (arith, ints, end_is, same))
         singles LineStart = ap (λ x. Some (pos x)) (begin_is ∙ ap (λ x. line_place s.kept.text x (pos 0)) at)
         singles LastLength = refl
+        singles CodeHere = ap Some (omega (arith, ints))
+        singles CodeBefore = ap (λ x. Some (pos x)) (before_is ∙ ap (code_before s.kept.text) at)
 
       pub cuts_past : a ≡ s.kept.pointer → line_place s.kept.text s.kept.pointer (pos 1) ≤ b
           → Leads CUTS_PAST before s kept None
@@ -271,6 +296,8 @@ module _ (s : Point) (here : Places) (given : ℕ → ℤ) (a b : ℕ) (ordered 
             singles LineEnd = ap Some (omega (arith, ints))
             singles LineStart = ap (λ x. Some (pos x)) (begin_is ∙ ap (λ x. line_place s.kept.text x (pos 0)) at)
             singles LastLength = refl
+            singles CodeHere = ap Some (omega (arith, ints))
+            singles CodeBefore = ap (λ x. Some (pos x)) (before_is ∙ ap (code_before s.kept.text) at)
 
       pub parts : Leads PART before s kept None
       parts = cut PART refl (
@@ -299,6 +326,8 @@ module _ (s : Point) (here : Places) (given : ℕ → ℤ) (a b : ℕ) (ordered 
             singles LineEnd = ap Some (omega (arith, ints))
             singles LineStart = ap Some (omega (arith, ints))
             singles LastLength = refl
+            singles CodeHere = ap Some (omega (arith, ints))
+            singles CodeBefore = ap Some (omega (arith, ints))
 
     -- in the other order
     module _ (from : given 0 ≡ pos b) (to : given 1 ≡ pos a) where
@@ -331,6 +360,8 @@ module _ (s : Point) (here : Places) (given : ℕ → ℤ) (a b : ℕ) (ordered 
             singles LineEnd = ap Some (omega (arith, ints, nearer at))
             singles LineStart = ap (λ x. Some (pos x)) (begin_is ∙ same)
             singles LastLength = refl
+            singles CodeHere = ap (λ x. Some (pos x)) (here_is ∙ ap (code_here s.kept.text) at)
+            singles CodeBefore = ap Some (omega (arith, ints))
 
       pub cuts_back_past : b ≡ s.kept.pointer → a + 1 ≤ line_place s.kept.text s.kept.pointer (pos 0)
           → Leads CUTS_BACK_PAST before s kept None
@@ -348,6 +379,8 @@ module _ (s : Point) (here : Places) (given : ℕ → ℤ) (a b : ℕ) (ordered 
             singles LineEnd = ap Some (omega (arith, ints, nearer at))
             singles LineStart = ap Some (omega (arith, ints))
             singles LastLength = refl
+            singles CodeHere = ap (λ x. Some (pos x)) (here_is ∙ ap (code_here s.kept.text) at)
+            singles CodeBefore = ap Some (omega (arith, ints))
 
       pub parts_back : a + 1 ≤ b → Leads PART_BACK before s kept None
       parts_back apart = cut PART_BACK refl (
@@ -376,9 +409,11 @@ module _ (s : Point) (here : Places) (given : ℕ → ℤ) (a b : ℕ) (ordered 
             singles LineEnd = ap Some (omega (arith, ints))
             singles LineStart = ap Some (omega (arith, ints))
             singles LastLength = refl
+            singles CodeHere = ap Some (omega (arith, ints))
+            singles CodeBefore = ap Some (omega (arith, ints))
 
 -- ---- the part between two places, in either order
-ordered_part : (a b : ℕ) (kept : Kept) → a ≤ b → kept_without a b kept ≡ (deletion_between a b kept).kept
+pub ordered_part : (a b : ℕ) (kept : Kept) → a ≤ b → kept_without a b kept ≡ (deletion_between a b kept).kept
 ordered_part a b kept h =
     ap (λ x. (deletion_between x (max a b) kept).kept) (min-eq_left h)
     ∙ ap (λ x. (deletion_between a x kept).kept) (max-eq_right h)

@@ -1,7 +1,8 @@
 -- I and TAB.
 use Rattle.std.proofs.Common.{◌≡◌, ℕ, ◌+◌, ◌<◌, ◌≤◌, ◌⊎◌, inl, inr, ℤ, pos, ◌-ℤ◌, ◌≤ℤ◌, List}
 use Rattle.std.proofs.Common.{◌++◌}
-use Rattle.std.proofs.Common.{[], ◌∷◌, length, true, false, Some, None, Ok, Err, if◌then◌else◌, nat_le}
+use Rattle.std.proofs.Common.{[], ◌∷◌, zero, suc, ◌-◌, slice_get, length, true, false, Some, None, Ok, Err}
+use Rattle.std.proofs.Common.{if◌then◌else◌, nat_le}
 use Rattle.std.proofs.Common.{take}
 use Rattle.std.proofs.Common.{drop, slice_index_or, refl, sym, ap, subst, ◌∙◌, arith}
 use Rattle.std.proofs.lemmas.Bool.Decides.{nat_tests}
@@ -33,7 +34,7 @@ use Rattle.teco_rows.specs.declared.commands.Way as command
 use Rattle.teco_command_outcomes.specs.declared.insertions.TheConstants.{GOES_ON, PUTS, STARTS}
 use Rattle.teco_rows.specs.declared.measure.Single.{Single}
 use Rattle.teco_rows.specs.declared.measure.Single.TheVariants.{Steps, Pointer, Size, Held, LineEnd, LineStart}
-use Rattle.teco_rows.specs.declared.measure.Single.TheVariants.{LastLength}
+use Rattle.teco_rows.specs.declared.measure.Single.TheVariants.{LastLength, CodeHere, CodeBefore}
 use Rattle.teco_rows.specs.declared.measure.Measure.TheVariants.{One}
 use Rattle.teco_rows.specs.declared.outcomes.Outcomes.{Outcomes}
 use Rattle.teco_rows.specs.declared.row.Places.{Places}
@@ -41,9 +42,12 @@ use Rattle.teco_rows.specs.Cases.{value_if}
 use Rattle.teco_rows.specs.Commands.{AreCommanded, Leads, Performs, commanded}
 use Rattle.teco_command_outcomes.specs.Deletions.{IsDone}
 use Rattle.teco_rows.specs.Foretold.{Describe}
-use Rattle.teco_command_outcomes.specs.Insertions.{HasRoom, Inserts, InsertsAny, InsertsByte}
+use Rattle.teco_command_outcomes.specs.Insertions.{HasRoom, Inserts, InsertsAny, InsertsByte, IsEndCode}
+use Rattle.teco_command_outcomes.specs.Insertions.{end_code}
 use Rattle.teco_rows.specs.Rows.{Before, changed}
-use Rattle.teco_rows.specs.States.{Point, IsTrueOf, single}
+use Rattle.teco_rows.specs.States.{Point, IsTrueOf, single, code_before, code_here, code_if}
+use Rattle.teco_rows.proofs.Characters.{with_codes}
+use Rattle.teco_command_outcomes.proofs.Codes.{grown_before, grown_here}
 use Rattle.teco_rows.proofs.Commanding.{read_at}
 use Rattle.teco_rows.proofs.Leading.{leads_singles, performed}
 use Rattle.teco_rows.proofs.Lines.{ends, IsEnd, IsBegin, line_end, line_begin, one_end, one_begin, above_or}
@@ -130,7 +134,8 @@ kept_with new kept = record kept {
 
 module _ (s : Point) (here : Places) (given unknown : ℕ → ℤ) (new : List ℕ)
     (inside : s.kept.pointer ≤ length s.kept.text) (long_is : given 0 ≡ pos (length new))
-    (start_is : given 1 ≡ pos (line_place new (length new) (pos 0))) where
+    (start_is : given 1 ≡ pos (line_place new (length new) (pos 0)))
+    (code_is : given 2 ≡ pos (end_code new (code_before s.kept.text s.kept.pointer))) where
   abbrev before : Before
   before = read_at s here given unknown
 
@@ -149,6 +154,8 @@ module _ (s : Point) (here : Places) (given unknown : ℕ → ℤ) (new : List �
         singles LineEnd = ap Some (omega (arith, ints, grown_end s.kept.text new s.kept.pointer inside))
         singles LineStart = ap (λ x. Some (pos x)) (grown_kept s.kept.text new s.kept.pointer inside none)
         singles LastLength = ap Some (omega (arith, ints))
+        singles CodeHere = ap (λ x. Some (pos x)) (grown_here s.kept.text new s.kept.pointer inside)
+        singles CodeBefore = ap Some (omega (arith, ints, grown_before s.kept.text new s.kept.pointer inside))
 
   pub starts : 1 ≤ line_place new (length new) (pos 0) → Leads STARTS before s (kept_with new s.kept) None
   starts one =
@@ -165,10 +172,12 @@ module _ (s : Point) (here : Places) (given unknown : ℕ → ℤ) (new : List �
         singles LineEnd = ap Some (omega (arith, ints, grown_end s.kept.text new s.kept.pointer inside))
         singles LineStart = ap Some (omega (arith, ints, grown_new s.kept.text new s.kept.pointer inside one))
         singles LastLength = ap Some (omega (arith, ints))
+        singles CodeHere = ap (λ x. Some (pos x)) (grown_here s.kept.text new s.kept.pointer inside)
+        singles CodeBefore = ap Some (omega (arith, ints, grown_before s.kept.text new s.kept.pointer inside))
 
 -- ---- what is inserted
-abbrev read_by : List Term → List Term → ℕ → Valuation → ℕ → ℤ
-read_by long start n v i = value (slice_index_or (long ∷ start ∷ []) i []) n v
+abbrev read_by : List Term → List Term → List Term → ℕ → Valuation → ℕ → ℤ
+read_by long start end n v i = value (slice_index_or (long ∷ start ∷ end ∷ []) i []) n v
 
 pub inserted : (new : List ℕ) (kept : Kept) → length (text_after_insertion kept.text kept.pointer new) ≤ LIMIT
     → insertion_of new kept ≡ Ok (no_answer (kept_with new kept))
@@ -177,13 +186,13 @@ inserted new kept h =
     grind (arith, nat_tests) in
     ap (λ b. if b then Ok (no_answer (kept_with new kept)) else Err code.Ful) fits
 
-pub inserts : (case : Case) (ways : List command.Way) (new : List ℕ) (long start : List Term) (here : Places)
-    (all : Outcomes) → AreCommanded case ways (long ∷ start ∷ []) here all.cases.items → IsWay ways 0 GOES_ON
+pub inserts : (case : Case) (ways : List command.Way) (new : List ℕ) (long start end : List Term) (here : Places)
+    (all : Outcomes) → AreCommanded case ways (long ∷ start ∷ end ∷ []) here all.cases.items → IsWay ways 0 GOES_ON
     → IsWay ways 1 STARTS
     → ((n : ℕ) (v : Valuation) → value long n v ≡ pos (length new))
     → ((n : ℕ) (v : Valuation) → value start n v ≡ pos (line_place new (length new) (pos 0)))
-    → HasRoom long case all.conditions.items → Inserts new case all
-inserts case ways new long start here all are w0 w1 long_is start_is room n v s begins =
+    → IsEndCode new case end → HasRoom long case all.conditions.items → Inserts new case all
+inserts case ways new long start end here all are w0 w1 long_is start_is code_is room n v s begins =
     performed n all s _ (no_answer (kept_with new s.kept)) (inserted new s.kept fits)
     (by_start (above_or (line_place new (length new) (pos 0)) 0)) where
       whole : s.kept.pointer ≤ length s.kept.text
@@ -201,13 +210,15 @@ inserts case ways new long start here all are w0 w1 long_is start_is room n v s 
       by_start : ((line_place new (length new) (pos 0) ≤ 0) ⊎ (0 < line_place new (length new) (pos 0)))
           → Describe n all (commanded s (kept_with new s.kept) None)
       by_start (inl h) =
-          by n v case ways (long ∷ start ∷ []) here all 0 GOES_ON s (kept_with new s.kept) None
+          by n v case ways (long ∷ start ∷ end ∷ []) here all 0 GOES_ON s (kept_with new s.kept) None
           (λ i. pos 0) are w0 begins.true_of
-          (goes_on s here (read_by long start n v) (λ i. pos 0) new whole (long_is n v) (start_is n v) (omega arith))
+          (goes_on s here (read_by long start end n v) (λ i. pos 0) new whole (long_is n v) (start_is n v)
+          (code_is n v s begins.true_of) (omega arith))
       by_start (inr h) =
-          by n v case ways (long ∷ start ∷ []) here all 1 STARTS s (kept_with new s.kept) None
+          by n v case ways (long ∷ start ∷ end ∷ []) here all 1 STARTS s (kept_with new s.kept) None
           (λ i. pos 0) are w1 begins.true_of
-          (starts s here (read_by long start n v) (λ i. pos 0) new whole (long_is n v) (start_is n v) (omega arith))
+          (starts s here (read_by long start end n v) (λ i. pos 0) new whole (long_is n v) (start_is n v)
+          (code_is n v s begins.true_of) (omega arith))
 
 pub has_room : (case : Case) (long size most free left : List Term) (conditions : List (List Term))
     → conditions ≡ left ∷ []
@@ -255,7 +266,9 @@ inserts_tab case kind taken text all k value_is told e same n v s begins =
 module _ (s : Point) (here : Places) (given unknown : ℕ → ℤ) (new : List ℕ)
     (inside : s.kept.pointer ≤ length s.kept.text) (long_is : given 0 ≡ pos (length new))
     (begin_is : unknown 0 ≡ pos (line_place (text_after_insertion s.kept.text s.kept.pointer new)
-    (s.kept.pointer + length new) (pos 0))) where
+    (s.kept.pointer + length new) (pos 0)))
+    (before_is : unknown 5 ≡ pos (code_before (text_after_insertion s.kept.text s.kept.pointer new)
+    (s.kept.pointer + length new))) where
   pub puts : Leads PUTS (read_at s here given unknown) s (kept_with new s.kept) None
   puts =
       leads_singles PUTS (read_at s here given unknown) s (kept_with new s.kept) refl refl
@@ -288,6 +301,14 @@ module _ (s : Point) (here : Places) (given unknown : ℕ → ℤ) (new : List �
         singles LineEnd = ap Some (omega (arith, ints, grown_end s.kept.text new s.kept.pointer inside))
         singles LineStart = ap Some (omega (arith, ints))
         singles LastLength = ap Some (omega (arith, ints))
+        singles CodeHere = ap (λ x. Some (pos x)) (grown_here s.kept.text new s.kept.pointer inside)
+        singles CodeBefore = ap Some (omega (arith, ints, before_is))
+
+-- what is not known of the state behind
+abbrev unknown_behind : Kept → List ℕ → ℕ → ℤ
+unknown_behind kept new =
+    with_codes (text_after_insertion kept.text kept.pointer new) (kept.pointer + length new)
+    (λ i. pos (line_place (text_after_insertion kept.text kept.pointer new) (kept.pointer + length new) (pos 0)))
 
 abbrev read_one : List Term → ℕ → Valuation → ℕ → ℤ
 read_one long n v i = value (slice_index_or (long ∷ []) i []) n v
@@ -304,10 +325,9 @@ gets case ways taken register colons long here all are w0 none long_is room e sa
     (performed n all s _ (no_answer (kept_with (text_in register s.kept) s.kept))
     (inserted (text_in register s.kept) s.kept fits)
     (by n v case ways (long ∷ []) here all 0 PUTS s (kept_with (text_in register s.kept) s.kept) None
-    (λ i. pos (line_place (text_after_insertion s.kept.text s.kept.pointer (text_in register s.kept))
-    (s.kept.pointer + length (text_in register s.kept)) (pos 0))) are w0 begins.true_of
+    (unknown_behind s.kept (text_in register s.kept)) are w0 begins.true_of
     (puts s here (read_one long n v) _ (text_in register s.kept) begins.whole.inside
-    (long_is n v s begins.true_of begins.whole) refl))) where
+    (long_is n v s begins.true_of begins.whole) refl refl))) where
       fits : length (text_after_insertion s.kept.text s.kept.pointer (text_in register s.kept)) ≤ LIMIT
       fits = omega (
         arith,
@@ -324,9 +344,8 @@ pub inserts_any : (case : Case) (ways : List command.Way) (long : List Term) (he
 inserts_any case ways long here all are w0 long_is room n v s new begins one =
     performed n all s _ (no_answer (kept_with new s.kept)) (inserted new s.kept fits)
     (by n v case ways (long ∷ []) here all 0 PUTS s (kept_with new s.kept) None
-    (λ i. pos (line_place (text_after_insertion s.kept.text s.kept.pointer new) (s.kept.pointer + length new) (pos 0)))
-    are w0 begins.true_of
-    (puts s here (read_one long n v) _ new begins.whole.inside (long_is n v ∙ ap pos (sym one)) refl)) where
+    (unknown_behind s.kept new) are w0 begins.true_of
+    (puts s here (read_one long n v) _ new begins.whole.inside (long_is n v ∙ ap pos (sym one)) refl refl)) where
       fits : length (text_after_insertion s.kept.text s.kept.pointer new) ≤ LIMIT
       fits = omega (
         arith,
@@ -360,3 +379,17 @@ inserts_number case kind taken form text all k value_is none told e same n v s b
     (subst (λ x. IsDone n all s (insertion_with Text e.text (value_if x n v) s.kept)) (sym value_is)
     (subst (λ t. IsDone n all s (insertion_with Text t (Some (value form n v)) s.kept)) (sym (same ∙ no_text text none))
     (told n v s begins)))
+
+-- ---- the character before the pointer behind a text
+end_last : (text : List ℕ) (k before : ℕ) → suc k ≡ length text → end_code text before ≡ code_here text k
+end_last [] k before e = absurd (omega (arith, e))
+end_last (b ∷ []) zero before e = refl
+end_last (b ∷ []) (suc k) before e = absurd (omega (arith, e))
+end_last (b ∷ c ∷ text) zero before e = absurd (omega (arith, e))
+end_last (b ∷ c ∷ text) (suc k) before e = end_last (c ∷ text) k before (omega (arith, e))
+
+pub end_given : (text : List ℕ) (last before : ℕ) → Some last ≡ slice_get text (length text - 1)
+    → end_code text before ≡ last + 1
+end_given [] last before h = absurd (cc)
+end_given (b ∷ text) last before h =
+    end_last (b ∷ text) (length (b ∷ text) - 1) before (omega arith) ∙ sym (ap code_if h)

@@ -21,7 +21,7 @@ use Rattle.teco_command_outcomes.specs.declared.line_motions.TheConstants.{STAYS
 use Rattle.teco_command_outcomes.specs.declared.line_motions.TheConstants.{TOP, UP, UP_ONE}
 use Rattle.teco_rows.specs.declared.measure.Single.{Single}
 use Rattle.teco_rows.specs.declared.measure.Single.TheVariants.{Steps, Pointer, Size, Held, LineEnd, LineStart}
-use Rattle.teco_rows.specs.declared.measure.Single.TheVariants.{LastLength}
+use Rattle.teco_rows.specs.declared.measure.Single.TheVariants.{LastLength, CodeHere, CodeBefore}
 use Rattle.teco_rows.specs.declared.measure.Measure.TheVariants.{One}
 use Rattle.teco_rows.specs.declared.outcomes.Outcomes.{Outcomes}
 use Rattle.teco_rows.specs.declared.row.Clause.{Clause}
@@ -31,7 +31,8 @@ use Rattle.teco_rows.specs.Commands.{AreCommanded, Leads, Performs, commanded}
 use Rattle.teco_rows.specs.Foretold.{Describe}
 use Rattle.teco_command_outcomes.specs.LineMotions.{GoesBy, GoesLines, gone_by}
 use Rattle.teco_rows.specs.Rows.{Before, changed}
-use Rattle.teco_rows.specs.States.{IsTrueOf, Point, single}
+use Rattle.teco_rows.specs.States.{IsTrueOf, Point, single, code_here, code_before}
+use Rattle.teco_rows.proofs.Characters.{with_codes}
 use Rattle.teco_rows.proofs.Commanding.{read_at}
 use Rattle.teco_rows.proofs.Leading.{leads_singles}
 use Rattle.teco_rows.proofs.Lines.{ends, IsEnd, IsBegin, line_end, line_begin, one_begin, end_before}
@@ -162,10 +163,13 @@ above_ends text p inside one = at (line_place text p (pos 0) - 1) (line_place te
           })
 
 -- what is not known of the state at a place
+abbrev lines_at : List ℕ → ℕ → ℕ → ℤ
+lines_at text k zero = pos (line_place text k (pos 1))
+lines_at text k (suc zero) = pos k
+lines_at text k (suc (suc i)) = pos (line_place text k (pos 0))
+
 abbrev unknown_at : List ℕ → ℕ → ℕ → ℤ
-unknown_at text k zero = pos (line_place text k (pos 1))
-unknown_at text k (suc zero) = pos k
-unknown_at text k (suc (suc i)) = pos (line_place text k (pos 0))
+unknown_at text k = with_codes text k (lines_at text k)
 
 module _ (s : Point) (here : Places) (given : ℕ → ℤ) (k : ℕ) (whole : s.kept.pointer ≤ length s.kept.text)
     (inside : k ≤ length s.kept.text) where
@@ -198,6 +202,8 @@ module _ (s : Point) (here : Places) (given : ℕ → ℤ) (k : ℕ) (whole : s.
     singles LineEnd = ap (λ x. Some (pos x)) (ap (λ x. line_place s.kept.text x (pos 1)) at)
     singles LineStart = ap (λ x. Some (pos x)) (ap (λ x. line_place s.kept.text x (pos 0)) at)
     singles LastLength = refl
+    singles CodeHere = ap (λ x. Some (pos x)) (ap (code_here s.kept.text) at)
+    singles CodeBefore = ap (λ x. Some (pos x)) (ap (code_before s.kept.text) at)
 
   -- a line end stands before the place
   pub steps : s.kept.pointer + 1 ≤ k → k ≡ line_place s.kept.text s.kept.pointer (pos 1)
@@ -221,6 +227,8 @@ module _ (s : Point) (here : Places) (given : ℕ → ℤ) (k : ℕ) (whole : s.
         singles LineEnd = ap Some (omega (arith, ints))
         singles LineStart = ap Some (omega (arith, ints, same))
         singles LastLength = refl
+        singles CodeHere = ap Some (omega (arith, ints))
+        singles CodeBefore = ap Some (omega (arith, ints))
 
   -- none does
   pub last : s.kept.pointer + 1 ≤ k → k ≡ line_place s.kept.text s.kept.pointer (pos 1) → k ≡ length s.kept.text
@@ -249,6 +257,8 @@ module _ (s : Point) (here : Places) (given : ℕ → ℤ) (k : ℕ) (whole : s.
         singles LineEnd = ap (λ x. Some (pos x)) (omega (arith, end_there.after, end_there.within))
         singles LineStart = ap (λ x. Some (pos x)) same
         singles LastLength = refl
+        singles CodeHere = ap Some (omega (arith, ints))
+        singles CodeBefore = ap Some (omega (arith, ints))
 
   pub starts : k ≡ line_place s.kept.text s.kept.pointer (pos 0) → Leads STARTS before s kept None
   starts at = leads_singles STARTS before s kept refl refl tt singles where
@@ -276,6 +286,8 @@ module _ (s : Point) (here : Places) (given : ℕ → ℤ) (k : ℕ) (whole : s.
     singles LineEnd = ap (λ x. Some (pos x)) same_end
     singles LineStart = ap (λ x. Some (pos x)) (same ∙ at)
     singles LastLength = refl
+    singles CodeHere = ap Some (omega (arith, ints))
+    singles CodeBefore = ap Some (omega (arith, ints))
 
   pub ahead : pos 1 ≤ℤ given 0 → line_place s.kept.text s.kept.pointer (pos 1) ≤ k → Leads AHEAD before s kept None
   ahead h far =
@@ -305,6 +317,8 @@ module _ (s : Point) (here : Places) (given : ℕ → ℤ) (k : ℕ) (whole : s.
         singles LineEnd = ap Some (omega (arith, ints))
         singles LineStart = ap Some (omega (arith, ints))
         singles LastLength = refl
+        singles CodeHere = ap Some (omega (arith, ints))
+        singles CodeBefore = ap Some (omega (arith, ints))
 
   pub back : given 0 ≤ℤ pos 0 → k ≤ line_place s.kept.text s.kept.pointer (pos 0)
       → line_place s.kept.text k (pos 0) ≡ k → Leads BACK before s kept None
@@ -330,6 +344,8 @@ module _ (s : Point) (here : Places) (given : ℕ → ℤ) (k : ℕ) (whole : s.
         singles LineEnd = ap Some (omega (arith, ints))
         singles LineStart = ap Some (omega (arith, ints, same))
         singles LastLength = refl
+        singles CodeHere = ap Some (omega (arith, ints))
+        singles CodeBefore = ap Some (omega (arith, ints))
 
   -- to the first line, and to one before
   pub top : line_place s.kept.text s.kept.pointer (pos 0) ≡ 0 → k ≡ 0 → Leads TOP before s kept None
@@ -351,6 +367,8 @@ module _ (s : Point) (here : Places) (given : ℕ → ℤ) (k : ℕ) (whole : s.
     singles LineEnd = ap (λ x. Some (pos x)) same_end
     singles LineStart = ap (λ x. Some (pos x)) (omega (arith, begin_there.before))
     singles LastLength = refl
+    singles CodeHere = ap Some (omega (arith, ints))
+    singles CodeBefore = ap Some (omega (arith, ints))
 
   pub up_one : LiesAbove s.kept.text s.kept.pointer k
       → line_place s.kept.text k (pos 1) ≡ line_place s.kept.text s.kept.pointer (pos 0)
@@ -367,6 +385,8 @@ module _ (s : Point) (here : Places) (given : ℕ → ℤ) (k : ℕ) (whole : s.
       singles LineEnd = ap Some (omega (arith, ints, ends_there))
       singles LineStart = ap Some (omega (arith, ints, lies.starts))
       singles LastLength = refl
+      singles CodeHere = ap Some (omega (arith, ints))
+      singles CodeBefore = ap Some (omega (arith, ints))
 
   pub up : LiesAbove s.kept.text s.kept.pointer k → Leads UP before s kept None
   up lies =
@@ -401,6 +421,8 @@ module _ (s : Point) (here : Places) (given : ℕ → ℤ) (k : ℕ) (whole : s.
         singles LineEnd = ap Some (omega (arith, ints))
         singles LineStart = ap Some (omega (arith, ints, lies.starts))
         singles LastLength = refl
+        singles CodeHere = ap Some (omega (arith, ints))
+        singles CodeBefore = ap Some (omega (arith, ints))
 
 -- ---- what is gone to
 module _ (case : Case) (ways : List command.Way) (given : List (List Term)) (here : Places) (all : Outcomes)

@@ -1,7 +1,7 @@
 -- C, R and J.
 use Rattle.std.proofs.Common.{◌≡◌, ℕ, zero, suc, ◌+◌, ◌<◌, ◌≤◌, ◌⊎◌, inl, inr, ℤ, pos, negsuc, List, [], ◌∷◌, ◌++◌}
 use Rattle.std.proofs.Common.{length, true, false, Option, Some, None, Ok, if◌then◌else◌, nat_le, slice_index_or, refl}
-use Rattle.std.proofs.Common.{sym, ap, subst, ◌∙◌, arith}
+use Rattle.std.proofs.Common.{sym, ap, subst, ◌∙◌, ◌+ℤ◌, arith}
 use Rattle.std.proofs.lemmas.Bool.Decides.{nat_tests}
 use Rattle.std.proofs.lemmas.Int.{ints}
 use Rattle.std.specs.List.{All}
@@ -20,7 +20,7 @@ use Rattle.teco_model.specs.laws.Whole.{IsWhole}
 use Rattle.teco_rows.specs.declared.case.Case.{Case}
 use Rattle.teco_rows.specs.declared.measure.Single.{Single}
 use Rattle.teco_rows.specs.declared.measure.Single.TheVariants.{Steps, Pointer, Size, Held, LineEnd, LineStart}
-use Rattle.teco_rows.specs.declared.measure.Single.TheVariants.{LastLength}
+use Rattle.teco_rows.specs.declared.measure.Single.TheVariants.{LastLength, CodeHere, CodeBefore}
 use Rattle.teco_rows.specs.declared.measure.Measure.TheVariants.{One, Each}
 use Rattle.teco_rows.specs.declared.measure.Family.TheVariants.{Number, Length, Turns, PushedNumber, PushedLength}
 use Rattle.teco_rows.specs.declared.measure.Family.TheVariants.{First, Value}
@@ -28,19 +28,22 @@ use Rattle.teco_rows.specs.Cases.{value_if}
 use Rattle.teco_rows.specs.declared.commands.Taken.{Taken}
 use Rattle.teco_rows.specs.declared.commands.Way as command
 use Rattle.teco_command_outcomes.specs.declared.motions.TheConstants.{AHEAD, WITHIN, BACK, FOUND, BEFORE, BEHIND}
+use Rattle.teco_command_outcomes.specs.declared.motions.TheConstants.{PASSES_END, PASSES_LOW, PASSES_HIGH}
+use Rattle.teco_command_outcomes.specs.declared.motions.TheConstants.{RETURNS_END, RETURNS_LOW, RETURNS_HIGH}
 use Rattle.teco_rows.specs.declared.outcomes.Outcomes.{Outcomes}
 use Rattle.teco_rows.specs.declared.row.Clause.{Clause}
 use Rattle.teco_rows.specs.declared.row.Places.{Places}
 use Rattle.teco_rows.specs.Rows.{Before, AreMet, changed}
-use Rattle.teco_rows.specs.States.{Point, IsTrueOf, each, single}
-use Rattle.teco_rows.specs.Foretold.{Describe, Succeeds}
+use Rattle.teco_rows.specs.States.{Point, IsTrueOf, each, single, code_here, code_before}
+use Rattle.teco_rows.specs.Foretold.{Begins, Describe, Succeeds}
 use Rattle.teco_rows.specs.Commands.{AreCommanded, IsAtLevel, Leads, Performs, commanded, taken_by}
-use Rattle.teco_command_outcomes.specs.Motions.{GoesTo, IsPlace, IsToPlace}
+use Rattle.teco_command_outcomes.specs.Motions.{GoesFar, GoesTo, IsPlace, IsToPlace, Passes, Returns}
 use Rattle.teco_rows.proofs.Commanding.{read_at}
 use Rattle.teco_rows.proofs.Leading.{leads, leaves, left_alone, answers, performed}
 use Rattle.teco_rows.proofs.Ways.{IsWay, by, answering}
 use Rattle.teco_rows.proofs.Lines.{IsEnd, IsBegin, line_end, line_begin, end_before, begin_before, end_inside}
-use Rattle.teco_rows.proofs.Lines.{end_least, above_or}
+use Rattle.teco_rows.proofs.Lines.{end_least, above_or, begin_most, clash, ends}
+use Rattle.teco_rows.proofs.Characters.{Sort, ends_one, is_low, is_high, sort_at, before_next, with_codes}
 
 -- what the line places are at another place
 pub record IsMoved (text : List ℕ) (p x e s f t : ℕ) : Type 0 where
@@ -89,7 +92,8 @@ way_of text p x e s f t h m = elim (above_or x p) [
 
 module _ (s : Point) (here : Places) (given unknown : ℕ → ℤ) (k : ℕ) (whole : IsWhole s.kept)
     (in' : k ≤ length s.kept.text) (e : given 0 ≡ pos k) (end : unknown 0 ≡ pos (line_place s.kept.text k (pos 1)))
-    (start : unknown 1 ≡ pos (line_place s.kept.text k (pos 0))) where
+    (start : unknown 1 ≡ pos (line_place s.kept.text k (pos 0))) (at_it : unknown 4 ≡ pos (code_here s.kept.text k))
+    (before_it : unknown 5 ≡ pos (code_before s.kept.text k)) where
   abbrev kept : Kept
   kept = record s.kept { pointer = k }
 
@@ -175,6 +179,8 @@ module _ (s : Point) (here : Places) (given unknown : ℕ → ℤ) (k : ℕ) (wh
     ahead LineEnd = ap Some (omega (arith, ints))
     ahead LineStart = ap Some (omega (arith, ints))
     ahead LastLength = refl
+    ahead CodeHere = ap Some (omega (arith, ints, at_it))
+    ahead CodeBefore = ap Some (omega (arith, ints, before_it))
 
     within : line_place s.kept.text k (pos 1) ≡ line_place s.kept.text s.kept.pointer (pos 1)
         → line_place s.kept.text k (pos 0) ≡ line_place s.kept.text s.kept.pointer (pos 0)
@@ -187,6 +193,8 @@ module _ (s : Point) (here : Places) (given unknown : ℕ → ℤ) (k : ℕ) (wh
     within d f LineEnd = ap (λ x. Some (pos x)) d
     within d f LineStart = ap (λ x. Some (pos x)) f
     within d f LastLength = refl
+    within d f CodeHere = ap Some (omega (arith, ints, at_it))
+    within d f CodeBefore = ap Some (omega (arith, ints, before_it))
 
     back : (which : Single) → Some (pos (single (commanded s kept None) which))
         ≡ changed BACK b (One which) (Some (pos (single (commanded s s.kept None) which)))
@@ -197,6 +205,202 @@ module _ (s : Point) (here : Places) (given unknown : ℕ → ℤ) (k : ℕ) (wh
     back LineEnd = ap Some (omega (arith, ints))
     back LineStart = ap Some (omega (arith, ints))
     back LastLength = refl
+    back CodeHere = ap Some (omega (arith, ints, at_it))
+    back CodeBefore = ap Some (omega (arith, ints, before_it))
+
+  -- to the next character
+  there : IsEnd s.kept.text k (line_place s.kept.text k (pos 1))
+  there = line_end s.kept.text k in'
+
+  begun : IsBegin s.kept.text k (line_place s.kept.text k (pos 0))
+  begun = line_begin s.kept.text k
+
+  now : IsEnd s.kept.text s.kept.pointer (line_place s.kept.text s.kept.pointer (pos 1))
+  now = line_end s.kept.text s.kept.pointer whole.inside
+
+  from_there : Way k s.kept.pointer (line_place s.kept.text k (pos 1)) (line_place s.kept.text k (pos 0))
+      (line_place s.kept.text s.kept.pointer (pos 1)) (line_place s.kept.text s.kept.pointer (pos 0))
+      (length s.kept.text)
+  from_there = way_of s.kept.text k s.kept.pointer _ _ _ _ in' (record {
+    end = there;
+    begin = begun;
+    end_there = now;
+    begin_there = line_begin s.kept.text s.kept.pointer;
+  })
+
+  later : s.kept.pointer < length s.kept.text
+      → s.kept.pointer + 1 ≤ line_place s.kept.text s.kept.pointer (pos 1)
+  later h = elim (above_or (length s.kept.text) (line_place s.kept.text s.kept.pointer (pos 1))) [
+    | inl w ↦ omega arith
+    | inr w ↦ omega (arith, now.more w)
+  ]
+
+  later_there : k < length s.kept.text → k + 1 ≤ line_place s.kept.text k (pos 1)
+  later_there h = elim (above_or (length s.kept.text) (line_place s.kept.text k (pos 1))) [
+    | inl w ↦ omega arith
+    | inr w ↦ omega (arith, there.more w)
+  ]
+
+  -- where a character that ends no line is passed, the line goes on
+  record IsSame : Type 0 where
+    end_same : line_place s.kept.text k (pos 1) ≡ line_place s.kept.text s.kept.pointer (pos 1)
+    start_same : line_place s.kept.text k (pos 0) ≡ line_place s.kept.text s.kept.pointer (pos 0)
+
+  goes_on : k ≡ s.kept.pointer + 1 → ends s.kept.text s.kept.pointer ≡ false → IsSame
+  goes_on next e = elim from_there [
+    | Ahead a c d f g h ↦ absurd (omega (arith, next))
+    | Within a c d f ↦ record { end_same = sym d; start_same = sym f }
+    | Back a c d f ↦ absurd (clash _ (begun.one s.kept.pointer (omega (arith, next, begun.before, a))) e)
+  ]
+
+  came : k + 1 ≡ s.kept.pointer → ends s.kept.text k ≡ false → IsSame
+  came last e = elim way [
+    | Ahead a c d f g h ↦ absurd (omega (arith, last))
+    | Within a c d f ↦ record { end_same = d; start_same = f }
+    | Back a c d f ↦ absurd (clash _ ((line_begin s.kept.text s.kept.pointer).one k (omega
+        (arith, last, (line_begin s.kept.text s.kept.pointer).before, a))) e)
+  ]
+
+  pub passed : k ≡ s.kept.pointer + 1
+      → Leads PASSES_END b s kept None ⊎ (Leads PASSES_LOW b s kept None ⊎ Leads PASSES_HIGH b s kept None)
+  passed next = by_sort (sort_at s.kept.text s.kept.pointer (omega (arith, next, in')) whole.bytes) where
+    before : code_before s.kept.text k ≡ code_here s.kept.text s.kept.pointer
+    before = before_next s.kept.text s.kept.pointer k next
+
+    ahead : s.kept.pointer + 1 ≤ line_place s.kept.text s.kept.pointer (pos 1)
+    ahead = later (omega (arith, next, in'))
+
+    by_sort : Sort s.kept.text s.kept.pointer
+        → Leads PASSES_END b s kept None ⊎ (Leads PASSES_LOW b s kept None ⊎ Leads PASSES_HIGH b s kept None)
+    by_sort (ends_one ended low high) = inl (moved PASSES_END None refl refl refl refl refl refl (
+      omega (arith, ints, low),
+      (
+        omega (arith, ints, high),
+        (
+          omega (arith, ints, near, next),
+          (omega (arith, ints, there.after), (omega (arith, ints, there.within), tt)),
+        ),
+      ),
+    )
+        singles (λ i. refl)) where
+          near : line_place s.kept.text s.kept.pointer (pos 1) ≤ s.kept.pointer + 1
+          near = end_least s.kept.text s.kept.pointer _ s.kept.pointer now (omega arith) ended
+
+          new : line_place s.kept.text k (pos 0) ≡ k
+          new = omega (
+            arith,
+            next,
+            begun.before,
+            begin_most s.kept.text k _ s.kept.pointer begun (omega (arith, next)) ended,
+          )
+
+          singles : (which : Single) → Some (pos (single (commanded s kept None) which))
+              ≡ changed PASSES_END b (One which) (Some (pos (single (commanded s s.kept None) which)))
+          singles Steps = refl
+          singles Pointer = ap Some (omega (arith, ints))
+          singles Size = refl
+          singles Held = refl
+          singles LineEnd = ap Some (omega (arith, ints))
+          singles LineStart = ap Some (omega (arith, ints, new))
+          singles LastLength = refl
+          singles CodeHere = ap Some (omega (arith, ints, at_it))
+          singles CodeBefore = ap Some (omega (arith, ints, before))
+    by_sort (is_low going low high) = inr (inl (moved PASSES_LOW None refl refl refl refl refl refl
+        (omega (arith, ints, next, ahead), (omega (arith, ints, low), (omega (arith, ints, high), tt)))
+        (singles (goes_on next going)) (λ i. refl))) where
+          singles : IsSame → (which : Single) → Some (pos (single (commanded s kept None) which))
+              ≡ changed PASSES_LOW b (One which) (Some (pos (single (commanded s s.kept None) which)))
+          singles same Steps = refl
+          singles same Pointer = ap Some (omega (arith, ints))
+          singles same Size = refl
+          singles same Held = refl
+          singles same LineEnd = ap (λ x. Some (pos x)) same.end_same
+          singles same LineStart = ap (λ x. Some (pos x)) same.start_same
+          singles same LastLength = refl
+          singles same CodeHere = ap Some (omega (arith, ints, at_it))
+          singles same CodeBefore = ap Some (omega (arith, ints, before))
+    by_sort (is_high going low high) = inr (inr (moved PASSES_HIGH None refl refl refl refl refl refl
+        (omega (arith, ints, next, ahead), (omega (arith, ints, low), (omega (arith, ints, high), tt)))
+        (singles (goes_on next going)) (λ i. refl))) where
+          singles : IsSame → (which : Single) → Some (pos (single (commanded s kept None) which))
+              ≡ changed PASSES_HIGH b (One which) (Some (pos (single (commanded s s.kept None) which)))
+          singles same Steps = refl
+          singles same Pointer = ap Some (omega (arith, ints))
+          singles same Size = refl
+          singles same Held = refl
+          singles same LineEnd = ap (λ x. Some (pos x)) same.end_same
+          singles same LineStart = ap (λ x. Some (pos x)) same.start_same
+          singles same LastLength = refl
+          singles same CodeHere = ap Some (omega (arith, ints, at_it))
+          singles same CodeBefore = ap Some (omega (arith, ints, before))
+
+  pub returned : k + 1 ≡ s.kept.pointer
+      → Leads RETURNS_END b s kept None ⊎ (Leads RETURNS_LOW b s kept None ⊎ Leads RETURNS_HIGH b s kept None)
+  returned last = by_sort (sort_at s.kept.text k (omega (arith, last, whole.inside)) whole.bytes) where
+    before : code_before s.kept.text s.kept.pointer ≡ code_here s.kept.text k
+    before = before_next s.kept.text k s.kept.pointer (sym last)
+
+    by_sort : Sort s.kept.text k
+        → Leads RETURNS_END b s kept None ⊎ (Leads RETURNS_LOW b s kept None ⊎ Leads RETURNS_HIGH b s kept None)
+    by_sort (ends_one ended low high) = inl (moved RETURNS_END None refl refl refl refl refl refl (
+      omega (arith, ints, low, before),
+      (
+        omega (arith, ints, high, before),
+        (omega (arith, ints), (omega (arith, ints, begun.before), tt)),
+      ),
+    )
+        singles (λ i. refl)) where
+          near : line_place s.kept.text k (pos 1) ≡ s.kept.pointer
+          near = omega (
+            arith,
+            last,
+            later_there (omega (arith, last, whole.inside)),
+            end_least s.kept.text k _ k there (omega arith) ended,
+          )
+
+          singles : (which : Single) → Some (pos (single (commanded s kept None) which))
+              ≡ changed RETURNS_END b (One which) (Some (pos (single (commanded s s.kept None) which)))
+          singles Steps = refl
+          singles Pointer = ap Some (omega (arith, ints))
+          singles Size = refl
+          singles Held = refl
+          singles LineEnd = ap Some (omega (arith, ints, near))
+          singles LineStart = ap Some (omega (arith, ints))
+          singles LastLength = refl
+          singles CodeHere = ap Some (omega (arith, ints, before))
+          singles CodeBefore = ap Some (omega (arith, ints, before_it))
+    by_sort (is_low going low high) = inr (inl (moved RETURNS_LOW None refl refl refl refl refl refl (
+      omega (arith, ints, begun.before, (came last going).start_same),
+      (omega (arith, ints, low, before), (omega (arith, ints, high, before), tt)),
+    )
+        (singles (came last going)) (λ i. refl))) where
+          singles : IsSame → (which : Single) → Some (pos (single (commanded s kept None) which))
+              ≡ changed RETURNS_LOW b (One which) (Some (pos (single (commanded s s.kept None) which)))
+          singles same Steps = refl
+          singles same Pointer = ap Some (omega (arith, ints))
+          singles same Size = refl
+          singles same Held = refl
+          singles same LineEnd = ap (λ x. Some (pos x)) same.end_same
+          singles same LineStart = ap (λ x. Some (pos x)) same.start_same
+          singles same LastLength = refl
+          singles same CodeHere = ap Some (omega (arith, ints, before))
+          singles same CodeBefore = ap Some (omega (arith, ints, before_it))
+    by_sort (is_high going low high) = inr (inr (moved RETURNS_HIGH None refl refl refl refl refl refl (
+      omega (arith, ints, begun.before, (came last going).start_same),
+      (omega (arith, ints, low, before), (omega (arith, ints, high, before), tt)),
+    )
+        (singles (came last going)) (λ i. refl))) where
+          singles : IsSame → (which : Single) → Some (pos (single (commanded s kept None) which))
+              ≡ changed RETURNS_HIGH b (One which) (Some (pos (single (commanded s s.kept None) which)))
+          singles same Steps = refl
+          singles same Pointer = ap Some (omega (arith, ints))
+          singles same Size = refl
+          singles same Held = refl
+          singles same LineEnd = ap (λ x. Some (pos x)) same.end_same
+          singles same LineStart = ap (λ x. Some (pos x)) same.start_same
+          singles same LastLength = refl
+          singles same CodeHere = ap Some (omega (arith, ints, before))
+          singles same CodeBefore = ap Some (omega (arith, ints, before_it))
 
 -- ---- to a place that a number names, or off the buffer
 pub place_there : (text : List ℕ) (k : ℕ) → k ≤ length text → place_in text (pos k) ≡ Some k
@@ -208,41 +412,47 @@ off text k h = let e : nat_le k (length text) ≡ false =
     grind (arith, nat_tests) in ap (λ b. if b then Some k else None) e
 
 -- what is not known of a place that is gone to
+abbrev lines_at : Point → ℕ → ℕ → ℤ
+lines_at s k zero = pos (line_place s.kept.text k (pos 1))
+lines_at s k (suc i) = pos (line_place s.kept.text k (pos 0))
+
 abbrev places_at : Point → ℕ → ℕ → ℤ
-places_at s k zero = pos (line_place s.kept.text k (pos 1))
-places_at s k (suc i) = pos (line_place s.kept.text k (pos 0))
+places_at s k = with_codes s.kept.text k (lines_at s k)
 
 module _ (case : Case) (ways : List command.Way) (place : List Term) (here : Places) (level : IsAtLevel here case)
     (all : Outcomes) (are : AreCommanded case ways (place ∷ []) here all.cases.items) where
   abbrev read : ℕ → Valuation → Point → (ℕ → ℤ) → Before
   read n v s unknown = read_at s here (λ i. value (slice_index_or (place ∷ []) i []) n v) unknown
 
-  pub goes : IsWay ways 0 AHEAD → IsWay ways 1 WITHIN → IsWay ways 2 BACK
-      → ((n : ℕ) (v : Valuation) (s : Point) → IsTrueOf n v case s
-      → All (linear.Holds n v) all.conditions.items → IsPlace s.kept.text (value place n v))
-      → GoesTo 0 place case all
-  goes w0 w1 w2 placed n v s begins =
-      let k = placed n v s begins.true_of begins.conditions in
-      let e : motion_to 0 (place_in s.kept.text (value place n v)) s.kept ≡ Ok (no_answer (record s.kept {
-        pointer =
-            k.0;
-      })) =
-      ap (λ x. motion_to 0 (place_in s.kept.text x) s.kept) k.1
-      ∙ ap (λ o. motion_to 0 o s.kept) (place_there s.kept.text k.0 k.2) in
-      performed n all s _ (no_answer (record s.kept { pointer = k.0 })) e
-      (chosen k (lead s here _ (places_at s k.0) k.0 begins.whole k.2 k.1 refl refl
-      (level s begins.true_of.shape))) where
-        chosen : (k : IsPlace s.kept.text (value place n v))
-            → (Leads AHEAD (read n v s (places_at s k.0)) s (record s.kept { pointer = k.0 }) None
-            ⊎ (Leads WITHIN (read n v s (places_at s k.0)) s (record s.kept { pointer = k.0 }) None
-            ⊎ Leads BACK (read n v s (places_at s k.0)) s (record s.kept { pointer = k.0 }) None))
-            → Describe n all (commanded s (record s.kept { pointer = k.0 }) None)
-        chosen k (inl h) =
-            by n v case ways (place ∷ []) here all 0 AHEAD s _ None (places_at s k.0) are w0 begins.true_of h
-        chosen k (inr (inl h)) =
-            by n v case ways (place ∷ []) here all 1 WITHIN s _ None (places_at s k.0) are w1 begins.true_of h
-        chosen k (inr (inr h)) =
-            by n v case ways (place ∷ []) here all 2 BACK s _ None (places_at s k.0) are w2 begins.true_of h
+  -- one of three rows
+  one_of : (first second third : List Clause) → IsWay ways 0 first → IsWay ways 1 second → IsWay ways 2 third
+      → (n : ℕ) (v : Valuation) (s : Point) (k : ℕ) → IsTrueOf n v case s
+      → (Leads first (read n v s (places_at s k)) s (record s.kept { pointer = k }) None
+      ⊎ (Leads second (read n v s (places_at s k)) s (record s.kept { pointer = k }) None
+      ⊎ Leads third (read n v s (places_at s k)) s (record s.kept { pointer = k }) None))
+      → Describe n all (commanded s (record s.kept { pointer = k }) None)
+  one_of first second third w0 w1 w2 n v s k true_of (inl h) =
+      by n v case ways (place ∷ []) here all 0 first s _ None (places_at s k) are w0 true_of h
+  one_of first second third w0 w1 w2 n v s k true_of (inr (inl h)) =
+      by n v case ways (place ∷ []) here all 1 second s _ None (places_at s k) are w1 true_of h
+  one_of first second third w0 w1 w2 n v s k true_of (inr (inr h)) =
+      by n v case ways (place ∷ []) here all 2 third s _ None (places_at s k) are w2 true_of h
+
+  pub goes_far : IsWay ways 0 AHEAD → IsWay ways 1 WITHIN → IsWay ways 2 BACK → GoesFar place case all
+  goes_far w0 w1 w2 n v s k begins e inside =
+      one_of AHEAD WITHIN BACK w0 w1 w2 n v s k begins.true_of
+      (lead s here _ (places_at s k) k begins.whole inside e refl refl refl refl (level s begins.true_of.shape))
+
+  pub passes : IsWay ways 0 PASSES_END → IsWay ways 1 PASSES_LOW → IsWay ways 2 PASSES_HIGH → Passes place case all
+  passes w0 w1 w2 n v s k begins e inside next =
+      one_of PASSES_END PASSES_LOW PASSES_HIGH w0 w1 w2 n v s k begins.true_of
+      (passed s here _ (places_at s k) k begins.whole inside e refl refl refl refl next)
+
+  pub returns_by_one : IsWay ways 0 RETURNS_END → IsWay ways 1 RETURNS_LOW → IsWay ways 2 RETURNS_HIGH
+      → Returns place case all
+  returns_by_one w0 w1 w2 n v s k begins e inside last =
+      one_of RETURNS_END RETURNS_LOW RETURNS_HIGH w0 w1 w2 n v s k begins.true_of
+      (returned s here _ (places_at s k) k begins.whole inside e refl refl refl refl last)
 
   pub tries : IsWay ways 0 (FOUND ++ AHEAD) → IsWay ways 1 (FOUND ++ WITHIN) → IsWay ways 2 (FOUND ++ BACK)
       → IsWay ways 3 BEFORE → IsWay ways 4 BEHIND → GoesTo 1 place case all
@@ -281,6 +491,8 @@ module _ (case : Case) (ways : List command.Way) (place : List Term) (here : Pla
     stays LineEnd = refl
     stays LineStart = refl
     stays LastLength = refl
+    stays CodeHere = refl
+    stays CodeBefore = refl
 
     -- nothing moves, and 0 is answered
     nothing : Succeeds (λ effect. Describe n all (commanded s effect.kept effect.answer)) (Ok (with_answer
@@ -310,7 +522,7 @@ module _ (case : Case) (ways : List command.Way) (place : List Term) (here : Pla
       | inl h ↦ performed n all s _ (with_answer (negsuc 0) (record s.kept { pointer = k }))
           (ap (λ x. motion_to 1 (place_in s.kept.text x) s.kept) e
           ∙ ap (λ o. motion_to 1 o s.kept) (place_there s.kept.text k h))
-          (found k e h (lead s here _ (places_at s k) k begins.whole h e refl refl at))
+          (found k e h (lead s here _ (places_at s k) k begins.whole h e refl refl refl refl at))
       | inr h ↦ nothing
           (by n v case ways (place ∷ []) here all 4 BEHIND s s.kept (Some (pos 0)) (λ i. pos 0) are w4 begins.true_of
           (leads BEHIND (read n v s (λ i. pos 0)) s s.kept (Some (pos 0)) refl refl refl refl (record {
@@ -323,6 +535,49 @@ module _ (case : Case) (ways : List command.Way) (place : List Term) (here : Pla
           })))
           (ap (place_in s.kept.text) e ∙ off s.kept.text k h)
     ]
+
+-- where it is known how a place is described that a number names, no code comes of going there
+pub goes : (case : Case) (place : List Term) (all : Outcomes)
+    → ((n : ℕ) (v : Valuation) (s : Point) → IsTrueOf n v case s
+    → All (linear.Holds n v) all.conditions.items → IsPlace s.kept.text (value place n v))
+    → ((n : ℕ) (v : Valuation) (s : Point) (k : ℕ) → Begins n v case all s → value place n v ≡ pos k
+    → k ≤ length s.kept.text → Describe n all (commanded s (record s.kept { pointer = k }) None))
+    → GoesTo 0 place case all
+goes case place all placed described n v s begins =
+    let k = placed n v s begins.true_of begins.conditions in
+    let e : motion_to 0 (place_in s.kept.text (value place n v)) s.kept ≡ Ok (no_answer (record s.kept {
+      pointer =
+          k.0;
+    })) =
+    ap (λ x. motion_to 0 (place_in s.kept.text x) s.kept) k.1
+    ∙ ap (λ o. motion_to 0 o s.kept) (place_there s.kept.text k.0 k.2) in
+    performed n all s _ (no_answer (record s.kept { pointer = k.0 })) e (described n v s k.0 begins k.1 k.2)
+
+-- by the conditions that are asked
+pub placed_in : (case : Case) (place : List Term) (wanted : List (List Term)) (all : Outcomes)
+    → all.conditions.items ≡ wanted
+    → ((n : ℕ) (v : Valuation) (s : Point) → IsTrueOf n v case s → All (linear.Holds n v) wanted
+    → IsPlace s.kept.text (value place n v))
+    → (n : ℕ) (v : Valuation) (s : Point) → IsTrueOf n v case s → All (linear.Holds n v) all.conditions.items
+    → IsPlace s.kept.text (value place n v)
+placed_in case place wanted all e placed n v s true_of h = placed n v s true_of (subst (All (linear.Holds n v)) e h)
+
+-- by one character
+pub by_one : (case : Case) (place : List Term) (all : Outcomes)
+    → ((n : ℕ) (v : Valuation) (s : Point) → IsTrueOf n v case s → value place n v ≡ pos s.kept.pointer +ℤ pos 1)
+    → Passes place case all
+    → (n : ℕ) (v : Valuation) (s : Point) (k : ℕ) → Begins n v case all s → value place n v ≡ pos k
+    → k ≤ length s.kept.text → Describe n all (commanded s (record s.kept { pointer = k }) None)
+by_one case place all near passes n v s k begins e inside =
+    passes n v s k begins e inside (omega (arith, ints, near n v s begins.true_of, e))
+
+pub back_by_one : (case : Case) (place : List Term) (all : Outcomes)
+    → ((n : ℕ) (v : Valuation) (s : Point) → IsTrueOf n v case s → value place n v ≡ pos s.kept.pointer +ℤ negsuc 0)
+    → Returns place case all
+    → (n : ℕ) (v : Valuation) (s : Point) (k : ℕ) → Begins n v case all s → value place n v ≡ pos k
+    → k ≤ length s.kept.text → Describe n all (commanded s (record s.kept { pointer = k }) None)
+back_by_one case place all near returns n v s k begins e inside =
+    returns n v s k begins e inside (omega (arith, ints, near n v s begins.true_of, e))
 
 -- the motions that name a place are those
 pub moves : (case : Case) (kind : Motion) (taken : Taken) (place : List Term) (all : Outcomes) (colons : ℕ)

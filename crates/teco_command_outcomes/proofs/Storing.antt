@@ -17,7 +17,7 @@ use Rattle.teco_model.specs.declared.kind.Storage.TheVariants.{SetNumber, Add}
 use Rattle.teco_model.specs.laws.Whole.{IsWhole}
 use Rattle.teco_rows.specs.declared.measure.Single.{Single}
 use Rattle.teco_rows.specs.declared.measure.Single.TheVariants.{Steps, Pointer, Size, Held, LineEnd, LineStart}
-use Rattle.teco_rows.specs.declared.measure.Single.TheVariants.{LastLength}
+use Rattle.teco_rows.specs.declared.measure.Single.TheVariants.{LastLength, CodeHere, CodeBefore}
 use Rattle.teco_rows.specs.declared.case.Case.{Case}
 use Rattle.teco_rows.specs.declared.commands.Taken.{Taken}
 use Rattle.teco_rows.specs.declared.outcomes.Outcomes.{Outcomes}
@@ -51,6 +51,8 @@ module _ (s : Point) (here : Places) (given unknown : ℕ → ℤ) (x : ℤ) (wh
   singles answer LineEnd = refl
   singles answer LineStart = refl
   singles answer LastLength = refl
+  singles answer CodeHere = refl
+  singles answer CodeBefore = refl
 
   lengths : (i : ℕ)
       → length_of (slice_get kept.registers.pairs i) ≡ length_of (slice_get s.kept.registers.pairs i)

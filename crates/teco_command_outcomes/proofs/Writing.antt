@@ -21,7 +21,7 @@ use Rattle.teco_rows.specs.declared.case.Case.{Case}
 use Rattle.teco_rows.specs.declared.commands.Taken.{Taken}
 use Rattle.teco_rows.specs.declared.measure.Single.{Single}
 use Rattle.teco_rows.specs.declared.measure.Single.TheVariants.{Steps, Pointer, Size, Held, LineEnd, LineStart}
-use Rattle.teco_rows.specs.declared.measure.Single.TheVariants.{LastLength}
+use Rattle.teco_rows.specs.declared.measure.Single.TheVariants.{LastLength, CodeHere, CodeBefore}
 use Rattle.teco_rows.specs.declared.outcomes.Outcomes.{Outcomes}
 use Rattle.teco_rows.specs.declared.row.Places.{Places}
 use Rattle.teco_rows.specs.Cases.{value_if}
@@ -44,6 +44,8 @@ typed s bytes Held = refl
 typed s bytes LineEnd = refl
 typed s bytes LineStart = refl
 typed s bytes LastLength = refl
+typed s bytes CodeHere = refl
+typed s bytes CodeBefore = refl
 
 pub types : (case after : Case) (given : List (List Term)) (here : Places) (wanted : List (List Term)) (all : Outcomes)
     → IsCommanded case [] given here after → IsOne wanted after all → Types case all

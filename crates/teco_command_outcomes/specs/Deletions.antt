@@ -1,5 +1,5 @@
 -- What is asked of deletions.
-use Rattle.std.specs.Prelude.{◌≡◌, ℕ, ℤ, pos, ◌≤◌, List, length, Option, Some, None, Result, unwrap_or}
+use Rattle.std.specs.Prelude.{◌≡◌, ℕ, ◌+◌, ℤ, pos, ◌≤◌, List, length, Option, Some, None, Result, unwrap_or}
 use Rattle.teco_base.specs.declared.code.Code.{Code}
 use Rattle.teco_base.specs.Lines.{line_place}
 use Rattle.teco_linear.specs.declared.term.Term.{Term}
@@ -25,6 +25,13 @@ abbrev pub CutsTo : List Term → Case → Outcomes → Type 0
 CutsTo place case all =
     (n : ℕ) (v : Valuation) (s : Point) (k : ℕ)
     → Begins n v case all s → value place n v ≡ pos k → k ≤ length s.kept.text
+    → Describe n all (commanded s (kept_without s.kept.pointer k s.kept) None)
+
+-- or that is so of the place behind the pointer
+abbrev pub CutsNext : List Term → Case → Outcomes → Type 0
+CutsNext place case all =
+    (n : ℕ) (v : Valuation) (s : Point) (k : ℕ)
+    → Begins n v case all s → value place n v ≡ pos k → k ≤ length s.kept.text → k ≡ s.kept.pointer + 1
     → Describe n all (commanded s (kept_without s.kept.pointer k s.kept) None)
 
 -- where it begins so, one of the cases describes the state without the lines up to the line place of a number,

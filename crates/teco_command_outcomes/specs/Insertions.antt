@@ -1,5 +1,5 @@
 -- What is asked of insertions.
-use Rattle.std.specs.Prelude.{◌≡◌, ℕ, ◌+ℤ◌, ◌≤ℤ◌, pos, List, [], ◌∷◌, length}
+use Rattle.std.specs.Prelude.{◌≡◌, ℕ, ◌+◌, ◌+ℤ◌, ◌≤ℤ◌, pos, List, [], ◌∷◌, length}
 use Rattle.std.specs.List.{All}
 use Rattle.teco_base.specs.Arithmetic.{byte_of}
 use Rattle.teco_base.specs.declared.TheConstants.{LIMIT}
@@ -11,7 +11,7 @@ use Rattle.teco_rows.specs.declared.case.Case.{Case}
 use Rattle.teco_rows.specs.declared.outcomes.Outcomes.{Outcomes}
 use Rattle.teco_command_outcomes.specs.Deletions.{IsDone}
 use Rattle.teco_rows.specs.Foretold.{Begins}
-use Rattle.teco_rows.specs.States.{Point, IsTrueOf}
+use Rattle.teco_rows.specs.States.{Point, IsTrueOf, code_before}
 
 -- where conditions hold, as many characters more as a form says fit the buffer
 abbrev pub HasRoom : List Term → Case → List (List Term) → Type 0
@@ -36,3 +36,15 @@ abbrev pub InsertsByte : List Term → Case → Outcomes → Type 0
 InsertsByte form case all =
     (n : ℕ) (v : Valuation) (s : Point)
     → Begins n v case all s → IsDone n all s (insertion_of (byte_of (value form n v) ∷ []) s.kept)
+
+-- one more than the code of the last character of a text, or what is there without it
+abbrev pub end_code : List ℕ → ℕ → ℕ
+end_code [] before = before
+end_code (b ∷ []) before = b + 1
+end_code (b ∷ c ∷ text) before = end_code (c ∷ text) before
+
+-- a form is one more than the code of the character before the pointer behind a text
+abbrev pub IsEndCode : List ℕ → Case → List Term → Type 0
+IsEndCode text case form =
+    (n : ℕ) (v : Valuation) (s : Point)
+    → IsTrueOf n v case s → value form n v ≡ pos (end_code text (code_before s.kept.text s.kept.pointer))

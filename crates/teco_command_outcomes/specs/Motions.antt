@@ -1,5 +1,5 @@
 -- What is asked of motions to a place.
-use Rattle.std.specs.Prelude.{◌≡◌, ℕ, ℤ, pos, ◌≤◌, List, length, ⊤}
+use Rattle.std.specs.Prelude.{◌≡◌, ℕ, ◌+◌, ℤ, pos, ◌≤◌, List, length, ⊤, None}
 use Rattle.teco_linear.specs.declared.term.Term.{Term}
 use Rattle.teco_linear.specs.Form.{Valuation, value}
 use Rattle.teco_model.specs.Motion.{motion_to}
@@ -29,3 +29,24 @@ GoesTo colons place case all =
     → Begins n v case all s
     → Succeeds (λ effect. Describe n all (commanded s effect.kept effect.answer))
     (motion_to colons (place_in s.kept.text (value place n v)) s.kept)
+
+-- where it begins so, and a form is a place, one of the cases describes the state with the pointer there,
+abbrev pub GoesFar : List Term → Case → Outcomes → Type 0
+GoesFar place case all =
+    (n : ℕ) (v : Valuation) (s : Point) (k : ℕ)
+    → Begins n v case all s → value place n v ≡ pos k → k ≤ length s.kept.text
+    → Describe n all (commanded s (record s.kept { pointer = k }) None)
+
+-- or that is so of the next place,
+abbrev pub Passes : List Term → Case → Outcomes → Type 0
+Passes place case all =
+    (n : ℕ) (v : Valuation) (s : Point) (k : ℕ)
+    → Begins n v case all s → value place n v ≡ pos k → k ≤ length s.kept.text → k ≡ s.kept.pointer + 1
+    → Describe n all (commanded s (record s.kept { pointer = k }) None)
+
+-- or of the one before
+abbrev pub Returns : List Term → Case → Outcomes → Type 0
+Returns place case all =
+    (n : ℕ) (v : Valuation) (s : Point) (k : ℕ)
+    → Begins n v case all s → value place n v ≡ pos k → k ≤ length s.kept.text → k + 1 ≡ s.kept.pointer
+    → Describe n all (commanded s (record s.kept { pointer = k }) None)

@@ -18,7 +18,7 @@ pub fn changed(case: &Case, row: &[Clause], given: &[Form], alloc: Global) -> Re
         clauses: row,
         here: at_level(case)?,
         given,
-        unknowns: 4,
+        unknowns: 6,
     };
     led(case, &step, waiting(case), alloc)
 }

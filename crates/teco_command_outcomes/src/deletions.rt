@@ -5,13 +5,16 @@ ghost use Rattle.teco_linear.specs.Form.{Valuation, value};
 ghost use Rattle.teco_linear.specs.Implied.{Holds};
 ghost use Rattle.teco_model.specs.Deletion.{deletion};
 ghost use Rattle.teco_rows.specs.Commands.{Performs};
-ghost use Rattle.teco_command_outcomes.specs.Deletions.{CutsBy, CutsLines, CutsTo, DeletesCharacters, DeletesLines};
+ghost use Rattle.teco_command_outcomes.specs.Deletions.{CutsBy, CutsLines, CutsNext, CutsTo};
+ghost use Rattle.teco_command_outcomes.specs.Deletions.{DeletesCharacters, DeletesLines};
 ghost use Rattle.teco_command_outcomes.specs.Deletions.{DeletesPart};
 ghost use Rattle.teco_command_outcomes.specs.Motions.{IsPlace};
 ghost use Rattle.teco_rows.specs.States.{Point, IsTrueOf};
 
 use crate::line_motions::is_negative;
-use crate::motions::{LINE_END, LINE_START, POINTER, SIZE, in_buffer};
+use crate::motions::{
+    ANY_BEFORE, ANY_HERE, CODE_HERE, LINE_END, LINE_START, POINTER, SIZE, in_buffer, is_by,
+};
 use std::alloc::Global;
 use teco_linear::Form;
 use teco_model::kind::Unit;
@@ -67,7 +70,8 @@ const ENDS: Clause = Clause::Sets(LINE_END, 0, [(1, END), NO, NO, NO]);
 const STARTS: Clause = Clause::Sets(LINE_START, 0, [(1, OTHER), NO, NO, NO]);
 
 // From the pointer on, within the line: its end comes nearer.
-const CUTS: [Clause; 6] = [
+const CUTS: [Clause; 7] = [
+    ANY_HERE,
     AT_FIRST,
     SHORTER,
     LESS,
@@ -80,8 +84,54 @@ const CUTS: [Clause; 6] = [
     Clause::Wants(-1, [(1, Of::Was(LINE_END)), (-1, TO), NO, NO]),
 ];
 
+// One character that ends no line: its end comes nearer.
+const CUTS_LOW: [Clause; 8] = [
+    ANY_HERE,
+    AT_FIRST,
+    SHORTER,
+    LESS,
+    Clause::Sets(
+        LINE_END,
+        0,
+        [(1, Of::Was(LINE_END)), (1, FROM), (-1, TO), NO],
+    ),
+    Clause::Wants(0, [(1, Of::Was(LINE_END)), (-1, TO), NO, NO]),
+    Clause::Wants(-1, [(1, Of::Was(CODE_HERE)), NO, NO, NO]),
+    Clause::Wants(10, [(-1, Of::Was(CODE_HERE)), NO, NO, NO]),
+];
+
+const CUTS_HIGH: [Clause; 8] = [
+    ANY_HERE,
+    AT_FIRST,
+    SHORTER,
+    LESS,
+    Clause::Sets(
+        LINE_END,
+        0,
+        [(1, Of::Was(LINE_END)), (1, FROM), (-1, TO), NO],
+    ),
+    Clause::Wants(0, [(1, Of::Was(LINE_END)), (-1, TO), NO, NO]),
+    Clause::Wants(-14, [(1, Of::Was(CODE_HERE)), NO, NO, NO]),
+    Clause::Wants(256, [(-1, Of::Was(CODE_HERE)), NO, NO, NO]),
+];
+
+// One that ends a line.
+const CUTS_END: [Clause; 10] = [
+    ANY_HERE,
+    AT_FIRST,
+    SHORTER,
+    LESS,
+    ENDS,
+    Clause::Wants(0, [(1, TO), (-1, Of::Was(LINE_END)), NO, NO]),
+    Clause::Wants(0, [(1, END), (-1, FROM), NO, NO]),
+    Clause::Wants(0, [(1, Of::Was(SIZE)), (1, FROM), (-1, TO), (-1, END)]),
+    Clause::Wants(-11, [(1, Of::Was(CODE_HERE)), NO, NO, NO]),
+    Clause::Wants(13, [(-1, Of::Was(CODE_HERE)), NO, NO, NO]),
+];
+
 // Past its end: what is behind it follows.
-const CUTS_PAST: [Clause; 7] = [
+const CUTS_PAST: [Clause; 8] = [
+    ANY_HERE,
     AT_FIRST,
     SHORTER,
     LESS,
@@ -92,7 +142,8 @@ const CUTS_PAST: [Clause; 7] = [
 ];
 
 // Back from the pointer within the line: its start stays.
-const CUTS_BACK: [Clause; 6] = [
+const CUTS_BACK: [Clause; 7] = [
+    ANY_BEFORE,
     AT_SECOND,
     SHORTER_BACK,
     LESS_BACK,
@@ -102,7 +153,8 @@ const CUTS_BACK: [Clause; 6] = [
 ];
 
 // Past its start: the line starts further back.
-const CUTS_BACK_PAST: [Clause; 8] = [
+const CUTS_BACK_PAST: [Clause; 9] = [
+    ANY_BEFORE,
     AT_SECOND,
     SHORTER_BACK,
     LESS_BACK,
@@ -114,7 +166,9 @@ const CUTS_BACK_PAST: [Clause; 8] = [
 ];
 
 // Anywhere, in the order of the places or not.
-const PART: [Clause; 10] = [
+const PART: [Clause; 12] = [
+    ANY_HERE,
+    ANY_BEFORE,
     AT_FIRST,
     SHORTER,
     LESS,
@@ -127,7 +181,9 @@ const PART: [Clause; 10] = [
     Clause::Wants(0, [(1, FROM), (-1, OTHER), NO, NO]),
 ];
 
-const PART_BACK: [Clause; 10] = [
+const PART_BACK: [Clause; 12] = [
+    ANY_HERE,
+    ANY_BEFORE,
     AT_SECOND,
     SHORTER_BACK,
     LESS_BACK,
@@ -141,7 +197,8 @@ const PART_BACK: [Clause; 10] = [
 ];
 
 // Lines ahead, from the pointer up to the end of its own at least.
-const LINES: [Clause; 7] = [
+const LINES: [Clause; 8] = [
+    ANY_HERE,
     Clause::Sets(SIZE, 0, [(1, REST), NO, NO, NO]),
     Clause::Sets(
         HELD,
@@ -164,7 +221,8 @@ const LINES: [Clause; 7] = [
 ];
 
 // Lines back, from the pointer to the start of its own at least.
-const LINES_BACK: [Clause; 8] = [
+const LINES_BACK: [Clause; 9] = [
+    ANY_BEFORE,
     Clause::Sets(POINTER, 0, [(1, OTHER), NO, NO, NO]),
     Clause::Sets(
         SIZE,
@@ -195,7 +253,8 @@ const LINES_BACK: [Clause; 8] = [
 // The pointer's line to its end. At the end of the buffer there is none.
 const KEEPS: [Clause; 1] = [Clause::Wants(0, [(1, Of::Was(POINTER)), (-1, Of::Was(SIZE)), NO, NO])];
 
-const CUTS_LINE: [Clause; 6] = [
+const CUTS_LINE: [Clause; 7] = [
+    ANY_HERE,
     Clause::Sets(
         SIZE,
         0,
@@ -231,7 +290,8 @@ const CUTS_LINE: [Clause; 6] = [
 ];
 
 // Lines back: in the first line to its start, and else up to where some line before starts.
-const CUTS_TOP: [Clause; 5] = [
+const CUTS_TOP: [Clause; 6] = [
+    ANY_BEFORE,
     Clause::Sets(POINTER, 0, [NO, NO, NO, NO]),
     Clause::Sets(
         SIZE,
@@ -251,7 +311,8 @@ const CUTS_TOP: [Clause; 5] = [
     Clause::Wants(0, [(-1, Of::Was(LINE_START)), NO, NO, NO]),
 ];
 
-const CUTS_UP: [Clause; 7] = [
+const CUTS_UP: [Clause; 8] = [
+    ANY_BEFORE,
     Clause::Sets(POINTER, 0, [(1, OTHER), NO, NO, NO]),
     Clause::Sets(
         SIZE,
@@ -277,6 +338,41 @@ const CUTS_UP: [Clause; 7] = [
     Clause::Wants(0, [(1, OTHER), NO, NO, NO]),
     Clause::Wants(-1, [(1, Of::Was(LINE_START)), (-1, OTHER), NO, NO]),
 ];
+
+// The ways of one character ahead.
+fn cut_next(
+    case: &Case,
+    place: Form,
+    conditions: Vec<Form>,
+    alloc: Global,
+) -> Result<Outcomes, Fault>
+    ensures conditions { IfOk result (λ all. all.conditions.items ≡ conditions.items) }
+    ensures cuts { IfOk result (λ all. CutsNext place case.now all) }
+{
+    let here = at_level(case)?;
+    let pointer = single(case, Single::Pointer, alloc)?;
+    let ways = [
+        Way {
+            answers: &[],
+            does: &CUTS_END,
+        },
+        Way {
+            answers: &[],
+            does: &CUTS_LOW,
+        },
+        Way {
+            answers: &[],
+            does: &CUTS_HIGH,
+        },
+    ];
+    let cases = commands(case, &ways, &[pointer, place], here, alloc)?;
+    Ok(Outcomes {
+        conditions,
+        guarded: Vec::new(alloc),
+        cases,
+        away: Vec::new(alloc),
+    })
+}
 
 // The ways of a part that begins or ends at the pointer, and the cases behind them.
 fn cut_to(case: &Case, place: Form, conditions: Vec<Form>, alloc: Global) -> Result<Outcomes, Fault>
@@ -320,6 +416,10 @@ fn delete_characters(case: &Case, value: Option<Form>, alloc: Global) -> Result<
     let pointer = single(case, Single::Pointer, alloc)?;
     let place = pointer.add(&by, alloc)?;
     let conditions = in_buffer(case, &place, alloc)?;
+    if is_by(case, &place, 1, Single::CodeHere, alloc)? {
+        let all = cut_next(case, place, conditions, alloc)?;
+        return Ok(all);
+    }
     let all = cut_to(case, place, conditions, alloc)?;
     Ok(all)
 }

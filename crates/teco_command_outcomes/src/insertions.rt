@@ -9,10 +9,10 @@ ghost use Rattle.teco_model.specs.Insertion.{insertion};
 ghost use Rattle.teco_model.specs.Storage.{storage};
 ghost use Rattle.teco_model.specs.declared.kind.Storage.TheVariants.{Get};
 ghost use Rattle.teco_rows.specs.Commands.{Performs};
-ghost use Rattle.teco_command_outcomes.specs.Insertions.{HasRoom, Inserts, InsertsAny, InsertsByte};
+ghost use Rattle.teco_command_outcomes.specs.Insertions.{HasRoom, Inserts, InsertsAny, InsertsByte, IsEndCode};
 
 use crate::deletions::HELD;
-use crate::motions::{LINE_END, LINE_START, POINTER, SIZE};
+use crate::motions::{ANY_BEFORE, CODE_BEFORE, LINE_END, LINE_START, POINTER, SIZE};
 use std::alloc::Global;
 use teco_base::arithmetic::byte_of;
 use teco_base::bytes::{TAB, is_line_end};
@@ -33,6 +33,11 @@ const LONG: Of = Of::Given(0);
 
 const START: Of = Of::Given(1);
 
+// One more than the code of its last character.
+const END_CODE: Of = Of::Given(2);
+
+const ENDS_WITH: Clause = Clause::Sets(CODE_BEFORE, 0, [(1, END_CODE), NO, NO, NO]);
+
 // Where the line starts behind it, if that is not known.
 const BEGIN: Of = Of::Unknown(0);
 
@@ -47,7 +52,8 @@ const FURTHER: Clause = Clause::Sets(LINE_END, 0, [(1, Of::Was(LINE_END)), (1, L
 const LAST: Clause = Clause::Sets(Mark::One(Single::LastLength), 0, [(1, LONG), NO, NO, NO]);
 
 // The text ends no line, and the line goes on.
-const GOES_ON: [Clause; 6] = [
+const GOES_ON: [Clause; 7] = [
+    ENDS_WITH,
     MOVES,
     LONGER,
     MORE,
@@ -57,7 +63,8 @@ const GOES_ON: [Clause; 6] = [
 ];
 
 // The text ends a line, and its last line goes on.
-const STARTS: [Clause; 7] = [
+const STARTS: [Clause; 8] = [
+    ENDS_WITH,
     MOVES,
     LONGER,
     MORE,
@@ -68,7 +75,8 @@ const STARTS: [Clause; 7] = [
 ];
 
 // A text that is not known: its last line starts somewhere behind the start of the line.
-const PUTS: [Clause; 8] = [
+const PUTS: [Clause; 9] = [
+    ANY_BEFORE,
     MOVES,
     LONGER,
     MORE,
@@ -129,6 +137,16 @@ fn room(case: &Case, long: &Form, alloc: Global) -> Result<Vec<Form>, Fault>
     Ok(conditions)
 }
 
+// One more than the code of the character before the pointer behind a text.
+fn end_code(case: &Case, text: &[u8], alloc: Global) -> Result<Form, Fault>
+    ensures { IfOk result (λ form. IsEndCode text.now case.now form) }
+{
+    match text.last() {
+        Some(code) => counted(usize::from(*code) + 1, alloc),
+        None => single(case, Single::CodeBefore, alloc),
+    }
+}
+
 // A text is inserted.
 fn insert_text(case: &Case, text: &[u8], alloc: Global) -> Result<Outcomes, Fault>
     ensures { IfOk result (λ all. Inserts text.now case.now all) }
@@ -136,6 +154,7 @@ fn insert_text(case: &Case, text: &[u8], alloc: Global) -> Result<Outcomes, Faul
     let here = at_level(case)?;
     let long = counted(text.len(), alloc)?;
     let start = counted(last_start(text), alloc)?;
+    let end = end_code(case, text, alloc)?;
     let conditions = room(case, &long, alloc)?;
     let ways = [
         Way {
@@ -147,7 +166,7 @@ fn insert_text(case: &Case, text: &[u8], alloc: Global) -> Result<Outcomes, Faul
             does: &STARTS,
         },
     ];
-    let cases = commands(case, &ways, &[long, start], here, alloc)?;
+    let cases = commands(case, &ways, &[long, start, end], here, alloc)?;
     Ok(Outcomes {
         conditions,
         guarded: Vec::new(alloc),

@@ -7,7 +7,7 @@ ghost use Rattle.teco_model.specs.declared.kind.Motion.TheVariants.{Lines};
 ghost use Rattle.teco_rows.specs.Commands.{Performs};
 ghost use Rattle.teco_command_outcomes.specs.LineMotions.{GoesBy, GoesLines};
 
-use crate::motions::{LINE_END, LINE_START, POINTER, SIZE};
+use crate::motions::{ANY_BEFORE, ANY_HERE, LINE_END, LINE_START, POINTER, SIZE};
 use std::alloc::Global;
 use teco_linear::Form;
 use teco_rows::case::Case;
@@ -34,7 +34,9 @@ const ENDS: Clause = Clause::Sets(LINE_END, 0, [(1, END), NO, NO, NO]);
 const STAYS: [Clause; 1] = [Clause::Wants(0, [(1, Of::Was(POINTER)), (-1, Of::Was(SIZE)), NO, NO])];
 
 // To the start of the next line.
-const STEPS: [Clause; 6] = [
+const STEPS: [Clause; 8] = [
+    ANY_HERE,
+    ANY_BEFORE,
     Clause::Sets(POINTER, 0, [(1, Of::Was(LINE_END)), NO, NO, NO]),
     ENDS,
     Clause::Sets(LINE_START, 0, [(1, Of::Was(LINE_END)), NO, NO, NO]),
@@ -44,17 +46,25 @@ const STEPS: [Clause; 6] = [
 ];
 
 // To the end of the buffer, which ends no line.
-const LAST: [Clause; 3] = [
+const LAST: [Clause; 5] = [
+    ANY_HERE,
+    ANY_BEFORE,
     Clause::Sets(POINTER, 0, [(1, Of::Was(SIZE)), NO, NO, NO]),
     Clause::Wants(-1, [(1, Of::Was(SIZE)), (-1, Of::Was(POINTER)), NO, NO]),
     Clause::Wants(0, [(1, Of::Was(LINE_END)), (-1, Of::Was(SIZE)), NO, NO]),
 ];
 
 // To the start of the line.
-const STARTS: [Clause; 1] = [Clause::Sets(POINTER, 0, [(1, Of::Was(LINE_START)), NO, NO, NO])];
+const STARTS: [Clause; 3] = [
+    ANY_HERE,
+    ANY_BEFORE,
+    Clause::Sets(POINTER, 0, [(1, Of::Was(LINE_START)), NO, NO, NO]),
+];
 
 // To some line ahead, or back.
-const AHEAD: [Clause; 9] = [
+const AHEAD: [Clause; 11] = [
+    ANY_HERE,
+    ANY_BEFORE,
     Clause::Sets(POINTER, 0, [(1, PLACE), NO, NO, NO]),
     ENDS,
     Clause::Sets(LINE_START, 0, [(1, START), NO, NO, NO]),
@@ -66,7 +76,9 @@ const AHEAD: [Clause; 9] = [
     Clause::Wants(0, [(1, PLACE), (-1, START), NO, NO]),
 ];
 
-const BACK: [Clause; 8] = [
+const BACK: [Clause; 10] = [
+    ANY_HERE,
+    ANY_BEFORE,
     Clause::Sets(POINTER, 0, [(1, PLACE), NO, NO, NO]),
     ENDS,
     Clause::Sets(LINE_START, 0, [(1, PLACE), NO, NO, NO]),
@@ -78,13 +90,17 @@ const BACK: [Clause; 8] = [
 ];
 
 // From the first line to its start.
-const TOP: [Clause; 2] = [
+const TOP: [Clause; 4] = [
+    ANY_HERE,
+    ANY_BEFORE,
     Clause::Sets(POINTER, 0, [NO, NO, NO, NO]),
     Clause::Wants(0, [(-1, Of::Was(LINE_START)), NO, NO, NO]),
 ];
 
 // To the line before, which ends where this one starts.
-const UP_ONE: [Clause; 5] = [
+const UP_ONE: [Clause; 7] = [
+    ANY_HERE,
+    ANY_BEFORE,
     Clause::Sets(POINTER, 0, [(1, PLACE), NO, NO, NO]),
     Clause::Sets(LINE_END, 0, [(1, Of::Was(LINE_START)), NO, NO, NO]),
     Clause::Sets(LINE_START, 0, [(1, PLACE), NO, NO, NO]),
@@ -93,7 +109,9 @@ const UP_ONE: [Clause; 5] = [
 ];
 
 // To some line before.
-const UP: [Clause; 7] = [
+const UP: [Clause; 9] = [
+    ANY_HERE,
+    ANY_BEFORE,
     Clause::Sets(POINTER, 0, [(1, PLACE), NO, NO, NO]),
     ENDS,
     Clause::Sets(LINE_START, 0, [(1, PLACE), NO, NO, NO]),

@@ -31,7 +31,7 @@ use Rattle.teco_rows.specs.declared.measure.Measure.{Measure}
 use Rattle.teco_rows.specs.declared.measure.Measure.TheVariants.{One, Each}
 use Rattle.teco_rows.specs.declared.measure.Single.{Single}
 use Rattle.teco_rows.specs.declared.measure.Single.TheVariants.{Steps, Pointer, Size, Held, LineEnd, LineStart}
-use Rattle.teco_rows.specs.declared.measure.Single.TheVariants.{LastLength}
+use Rattle.teco_rows.specs.declared.measure.Single.TheVariants.{LastLength, CodeHere, CodeBefore}
 use Rattle.teco_rows.specs.declared.outcomes.Outcomes.{Outcomes}
 use Rattle.teco_flow_outcomes.specs.declared.pairs.TheConstants.{PAIRS}
 use Rattle.teco_rows.specs.declared.row.Clause.{Clause}
@@ -90,6 +90,8 @@ module _ (row : List Clause) (of : IsOfLevels row) (s : Point) (here : Places) (
     becomes (One LineEnd) = single_left row b LineEnd _ _ of.singles refl
     becomes (One LineStart) = single_left row b LineStart _ _ of.singles refl
     becomes (One LastLength) = single_left row b LastLength _ _ of.singles refl
+    becomes (One CodeHere) = single_left row b CodeHere _ _ of.singles refl
+    becomes (One CodeBefore) = single_left row b CodeBefore _ _ of.singles refl
     becomes (Each Number i) = left_alone row b Number i _ of.numbers
     becomes (Each Length i) = left_alone row b Length i _ of.lengths
     becomes (Each Turns i) = left_alone row b Turns i _ of.turns

@@ -19,7 +19,7 @@ use Rattle.teco_rows.specs.declared.measure.Family.TheVariants.{First, Value}
 use Rattle.teco_rows.specs.declared.measure.Measure.{Measure}
 use Rattle.teco_rows.specs.declared.measure.Measure.TheVariants.{One, Each}
 use Rattle.teco_rows.specs.declared.measure.Single.TheVariants.{Steps, Pointer, Size, Held, LineEnd, LineStart}
-use Rattle.teco_rows.specs.declared.measure.Single.TheVariants.{LastLength}
+use Rattle.teco_rows.specs.declared.measure.Single.TheVariants.{LastLength, CodeHere, CodeBefore}
 use Rattle.teco_flow_outcomes.specs.declared.ranges.Range.{Range}
 use Rattle.teco_flow_outcomes.specs.declared.ranges.Ranges.{Ranges}
 use Rattle.teco_rows.specs.declared.row.Clause.{Clause}
@@ -129,6 +129,8 @@ module _ (row : List Clause) (b : Before) (of : IsOfTurns row) (s : Point) (loop
   turns_become turns (One LineEnd) = sym (single_alone row b LineEnd _ of.singles)
   turns_become turns (One LineStart) = sym (single_alone row b LineStart _ of.singles)
   turns_become turns (One LastLength) = sym (single_alone row b LastLength _ of.singles)
+  turns_become turns (One CodeHere) = sym (single_alone row b CodeHere _ of.singles)
+  turns_become turns (One CodeBefore) = sym (single_alone row b CodeBefore _ of.singles)
   turns_become turns (Each Number i) = left_alone row b Number i _ of.numbers
   turns_become turns (Each Length i) = left_alone row b Length i _ of.lengths
   turns_become turns (Each Turns i) = turns i

@@ -320,11 +320,12 @@ module _ (run : Run) (facts : Facts) (unread : ℕ) (kept : Kept) (whole : IsWho
             (omega (arith, h.position.end, o, whole.inside)) (λ u. in_line v n) (λ u. refl) tt,
         tt,
       )
-  lined_moves rules false false true r v e f g i = let w = line_within v in let o = line_back v (omega (arith, ints)) in (
-    moved_by (record facts.position.distances { back = 0 }) None None _ (omega arith)
-        (omega (arith, h.position.end, o, whole.inside)) tt tt,
-    tt,
-  )
+  lined_moves rules false false true r v e f g i = let w = line_within v in
+      let o = line_back v (omega (arith, ints)) in (
+        moved_by (record facts.position.distances { back = 0 }) None None _ (omega arith)
+            (omega (arith, h.position.end, o, whole.inside)) tt tt,
+        tt,
+      )
   lined_moves rules false false false r v e f g i = let w = line_within v in
       (moved_by nowhere None None _ (omega arith) (omega (arith, w)) tt tt, tt)
 

@@ -18,7 +18,7 @@ use Rattle.teco_model.specs.laws.Whole.{AreBytes, IsWhole, IsWholePair}
 use Rattle.teco_rows.specs.declared.case.Case.{Case}
 use Rattle.teco_rows.specs.declared.measure.Single.{Single}
 use Rattle.teco_rows.specs.declared.measure.Single.TheVariants.{Steps, Pointer, Size, Held, LineEnd, LineStart}
-use Rattle.teco_rows.specs.declared.measure.Single.TheVariants.{LastLength}
+use Rattle.teco_rows.specs.declared.measure.Single.TheVariants.{LastLength, CodeHere, CodeBefore}
 use Rattle.teco_rows.specs.declared.outcomes.Outcomes.{Outcomes}
 use Rattle.teco_outcomes.specs.declared.queries.TheConstants.{CHARACTER}
 use Rattle.teco_rows.specs.declared.row.Places.{Places}
@@ -141,6 +141,8 @@ module _ (s : Point) (here : Places) (given : ℕ → ℤ) where
   stays answer LineEnd = refl
   stays answer LineStart = refl
   stays answer LastLength = refl
+  stays answer CodeHere = refl
+  stays answer CodeBefore = refl
 
   set_mode : (mode : ℤ) (which : Single)
       → Some (pos (single (commanded s (record s.kept { mode = mode }) None) which))
@@ -152,6 +154,8 @@ module _ (s : Point) (here : Places) (given : ℕ → ℤ) where
   set_mode mode LineEnd = refl
   set_mode mode LineStart = refl
   set_mode mode LastLength = refl
+  set_mode mode CodeHere = refl
+  set_mode mode CodeBefore = refl
 
   pub mode_leads : (mode : ℤ) (unknown : ℕ → ℤ)
       → Leads [] (read_at s here given unknown) s (record s.kept { mode = mode }) None

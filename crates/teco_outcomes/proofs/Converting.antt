@@ -3,16 +3,16 @@ use Rattle.std.proofs.Common.{◌≡◌, ℕ, zero, suc, ◌+◌, ◌-◌, ◌^�
 use Rattle.std.proofs.Common.{List, [], ◌∷◌, ◌++◌, length, Bool, true, false, Option, Some, None, Result, Ok, Err}
 use Rattle.std.proofs.Common.{if◌then◌else◌}
 use Rattle.std.proofs.Common.{get_or, take, drop, codes, slice_index_or, refl, sym, ap, subst, ◌∙◌, arith}
-use Rattle.std.proofs.Common.{length-drop, FitsSigned, w32, neg_ℤ, ◌-ℤ◌, ◌≤ℤ◌}
+use Rattle.std.proofs.Common.{◌⊎◌, length-append, length-drop, length-take, FitsSigned, w32, neg_ℤ, ◌-ℤ◌, ◌≤ℤ◌}
 use Rattle.std.proofs.lemmas.List.Elements.{All-pop, All-push}
 use Rattle.std.proofs.lemmas.Bool.Decides.{nat_tests}
 use Rattle.std.proofs.lemmas.Fmt.{decimal_by_steps, decimal_nonempty, length-decimal-le}
 use Rattle.std.proofs.lemmas.Int.{ints, SFits-int_wrap}
-use Rattle.std.proofs.lemmas.List.{get_or-drop}
+use Rattle.std.proofs.lemmas.List.{get_or-append_right, get_or-drop, get_or_append_left}
 use Rattle.std.proofs.lemmas.List.Folds.{length-prefix_len}
 use Rattle.std.proofs.lemmas.List.Sums.{prefix_len_passes, prefix_len-le-length}
 use Rattle.std.specs.Fmt as fmt
-use Rattle.std.specs.List.{All, prefix_len}
+use Rattle.std.specs.List.{All, Any, prefix_len}
 use Rattle.teco_base.specs.Bytes.{is_among, is_digit, is_line_end}
 use Rattle.teco_base.specs.Lines.{line_place}
 use Rattle.teco_base.specs.NumberText.{decimal}
@@ -30,7 +30,9 @@ use Rattle.teco_model.specs.Going.{after}
 use Rattle.teco_model.specs.Insertion.{insertion_of}
 use Rattle.teco_model.specs.State.{Kept}
 use Rattle.teco_model.specs.Step.{after_query_with}
+use Rattle.teco_model.specs.declared.arguments.Level.{Level}
 use Rattle.teco_model.specs.declared.arguments.Operator.{Operator}
+use Rattle.teco_model.specs.laws.Whole.{IsWhole}
 use Rattle.teco_model.specs.declared.kind.Query.TheVariants.{Conversion}
 use Rattle.teco_rows.specs.declared.case.Case.{Case}
 use Rattle.teco_rows.specs.declared.commands.Way as command
@@ -38,7 +40,7 @@ use Rattle.teco_rows.specs.declared.measure.Family.TheVariants.{Value}
 use Rattle.teco_rows.specs.declared.measure.Measure.TheVariants.{One}
 use Rattle.teco_rows.specs.declared.measure.Single.{Single}
 use Rattle.teco_rows.specs.declared.measure.Single.TheVariants.{Steps, Pointer, Size, Held, LineEnd, LineStart}
-use Rattle.teco_rows.specs.declared.measure.Single.TheVariants.{LastLength}
+use Rattle.teco_rows.specs.declared.measure.Single.TheVariants.{LastLength, CodeHere, CodeBefore}
 use Rattle.teco_rows.specs.declared.levels.TheConstants.{NO}
 use Rattle.teco_rows.specs.declared.outcomes.Guarded.{Guarded}
 use Rattle.teco_rows.specs.declared.outcomes.Outcomes.{Outcomes}
@@ -47,9 +49,10 @@ use Rattle.teco_rows.specs.declared.row.Clause.TheVariants.{Wants}
 use Rattle.teco_rows.specs.declared.row.Places.{Places}
 use Rattle.teco_rows.specs.Cases.{value_if}
 use Rattle.teco_rows.specs.Commands.{AreCommanded, Leads, commanded}
-use Rattle.teco_rows.specs.Foretold.{Describe, GivesAny, IsGuarded, Succeeds}
+use Rattle.teco_rows.specs.Foretold.{Describe, GivesAny, IsGuarded, Succeeds, with_level}
 use Rattle.teco_rows.specs.Rows.{AreMet, Before, changed}
-use Rattle.teco_rows.specs.States.{Point, IsShape, IsTrueOf, behind, each, single}
+use Rattle.teco_rows.specs.States.{Point, IsShape, IsTrueOf, Describes, behind, code_here, each, single}
+use Rattle.teco_rows.proofs.Characters.{with_codes}
 use Rattle.teco_rows.proofs.Commanding.{read_at}
 use Rattle.teco_rows.proofs.Leading.{leads_singles, performed}
 use Rattle.teco_rows.proofs.Lines.{IsEnd, above_or, clash, ends, line_begin, line_end, one_begin, one_end}
@@ -58,12 +61,15 @@ use Rattle.teco_rows.proofs.Ways.{IsWay, by}
 use Rattle.teco_outcomes.specs.declared.conversions.Span.{Span}
 use Rattle.teco_outcomes.specs.declared.conversions.TheConstants.{ALL, BELOW, FEW, FURTHER, LAST, LONG, LONGER, MANY}
 use Rattle.teco_outcomes.specs.declared.conversions.TheConstants.{MORE, MOVES, NUMBER, ONE, READS}
+use Rattle.teco_outcomes.specs.declared.conversions.TheConstants.{READS_DIGIT, READS_HIGH, READS_LOW}
+use Rattle.teco_command_outcomes.specs.declared.motions.TheConstants.{ANY_BEFORE}
 use Rattle.teco_command_outcomes.specs.Changes.{IsChangedFrom, read_given, with_kept}
 use Rattle.teco_outcomes.specs.Conversions.{AddsRoom, FitsIn, HasRoomFor, IsBehindNumber, IsStanding, ReadsNumber}
 use Rattle.teco_outcomes.specs.Conversions.{WritesNumber, kept_behind_number}
 use Rattle.teco_command_outcomes.specs.Deletions.{IsDone}
 use Rattle.teco_outcomes.specs.Queries.{Asks}
 use Rattle.teco_command_outcomes.proofs.Changing.{changes_plainly, changes_singles}
+use Rattle.teco_command_outcomes.proofs.Codes.{grown_here, here_dropped}
 use Rattle.teco_command_outcomes.proofs.Inserting.{grown_end, grown_kept, grown_long, inserted, kept_with}
 use Rattle.teco_outcomes.proofs.Valuing.{levels_succeed}
 
@@ -180,47 +186,94 @@ number_fits text =
     read_fits (is_minus text) (sign_len text) (take (prefix_len is_digit behind) behind)
 
 -- ---- the pointer goes behind it
+module _ (s : Point) (whole : IsWhole s.kept) where
+  abbrev kept : Kept
+  kept = kept_behind_number s.kept
+
+  abbrev behind_it : ℕ → ℤ
+  behind_it = with_codes kept.text kept.pointer (λ i. pos kept.pointer)
+
+  short : (number_here s.kept).len ≤ length (drop s.kept.pointer s.kept.text)
+  short = number_short (drop s.kept.pointer s.kept.text)
+
+  order : s.kept.pointer ≤ kept.pointer
+  order = omega arith
+
+  inside : kept.pointer ≤ length s.kept.text
+  inside = omega (arith, short, length-drop s.kept.pointer s.kept.text, whole.inside)
+
+  plain : (i : ℕ) → s.kept.pointer ≤ i → i < kept.pointer → ends s.kept.text i ≡ false
+  plain i a b =
+      ap is_line_end (sym (get_or-drop s.kept.pointer s.kept.text (i - s.kept.pointer) 0
+      ∙ ap (λ j. get_or s.kept.text j 0) (omega arith)))
+      ∙ number_plain (drop s.kept.pointer s.kept.text) (i - s.kept.pointer) (omega arith)
+
+  in_line : kept.pointer ≤ line_place s.kept.text s.kept.pointer (pos 1)
+  in_line = reached s.kept.text s.kept.pointer kept.pointer order inside plain
+
+  end_is : line_place s.kept.text kept.pointer (pos 1) ≡ line_place s.kept.text s.kept.pointer (pos 1)
+  end_is = same_end s.kept.text s.kept.pointer kept.pointer order inside plain
+
+  start_is : line_place s.kept.text kept.pointer (pos 0) ≡ line_place s.kept.text s.kept.pointer (pos 0)
+  start_is = same_start s.kept.text s.kept.pointer kept.pointer order inside plain
+
+  any_singles : (n : ℕ) (v : Valuation) (here : Places) (which : Single)
+      → Some (pos (single (record s { kept = kept; unread = s.unread }) which))
+      ≡ changed READS (read_given [] n v s behind_it here) (One which) (Some (pos (single s which)))
+  any_singles n v here Steps = refl
+  any_singles n v here Pointer = ap Some (omega (arith, ints))
+  any_singles n v here Size = refl
+  any_singles n v here Held = refl
+  any_singles n v here LineEnd = ap (λ x. Some (pos x)) end_is
+  any_singles n v here LineStart = ap (λ x. Some (pos x)) start_is
+  any_singles n v here LastLength = refl
+  any_singles n v here CodeHere = ap Some (omega (arith, ints))
+  any_singles n v here CodeBefore = ap Some (omega (arith, ints))
+
+  digit_singles : (n : ℕ) (v : Valuation) (here : Places) (which : Single)
+      → Some (pos (single (record s { kept = kept; unread = s.unread }) which))
+      ≡ changed READS_DIGIT (read_given [] n v s behind_it here) (One which) (Some (pos (single s which)))
+  digit_singles n v here Steps = refl
+  digit_singles n v here Pointer = ap Some (omega (arith, ints))
+  digit_singles n v here Size = refl
+  digit_singles n v here Held = refl
+  digit_singles n v here LineEnd = ap (λ x. Some (pos x)) end_is
+  digit_singles n v here LineStart = ap (λ x. Some (pos x)) start_is
+  digit_singles n v here LastLength = refl
+  digit_singles n v here CodeHere = ap Some (omega (arith, ints))
+  digit_singles n v here CodeBefore = ap Some (omega (arith, ints))
+
+  low_singles : (n : ℕ) (v : Valuation) (here : Places) (which : Single)
+      → Some (pos (single (record s { kept = kept; unread = s.unread }) which))
+      ≡ changed READS_LOW (read_given [] n v s behind_it here) (One which) (Some (pos (single s which)))
+  low_singles n v here Steps = refl
+  low_singles n v here Pointer = ap Some (omega (arith, ints))
+  low_singles n v here Size = refl
+  low_singles n v here Held = refl
+  low_singles n v here LineEnd = ap (λ x. Some (pos x)) end_is
+  low_singles n v here LineStart = ap (λ x. Some (pos x)) start_is
+  low_singles n v here LastLength = refl
+  low_singles n v here CodeHere = ap Some (omega (arith, ints))
+  low_singles n v here CodeBefore = ap Some (omega (arith, ints))
+
+  high_singles : (n : ℕ) (v : Valuation) (here : Places) (which : Single)
+      → Some (pos (single (record s { kept = kept; unread = s.unread }) which))
+      ≡ changed READS_HIGH (read_given [] n v s behind_it here) (One which) (Some (pos (single s which)))
+  high_singles n v here Steps = refl
+  high_singles n v here Pointer = ap Some (omega (arith, ints))
+  high_singles n v here Size = refl
+  high_singles n v here Held = refl
+  high_singles n v here LineEnd = ap (λ x. Some (pos x)) end_is
+  high_singles n v here LineStart = ap (λ x. Some (pos x)) start_is
+  high_singles n v here LastLength = refl
+  high_singles n v here CodeHere = ap Some (omega (arith, ints))
+  high_singles n v here CodeBefore = ap Some (omega (arith, ints))
+
 pub goes_behind : (case made : Case) → IsChangedFrom case READS [] made → IsBehindNumber case made
 goes_behind case made changes n v s true_of whole =
-    changes_plainly case made READS [] changes n v s kept s.unread (λ i. pos k) true_of (λ here.
-    changes_singles READS (read_given [] n v s (λ i. pos k) here) s kept s.unread refl refl
-    (omega (arith, ints), (omega (arith, ints, reached text p k order inside plain), tt)) (singles here)) where
-      text : List ℕ
-      text = s.kept.text
-
-      p : ℕ
-      p = s.kept.pointer
-
-      kept : Kept
-      kept = kept_behind_number s.kept
-
-      k : ℕ
-      k = kept.pointer
-
-      short : (number_here s.kept).len ≤ length (drop p text)
-      short = number_short (drop p text)
-
-      order : p ≤ k
-      order = omega arith
-
-      inside : k ≤ length text
-      inside = omega (arith, short, length-drop p text, whole.inside)
-
-      plain : (i : ℕ) → p ≤ i → i < k → ends text i ≡ false
-      plain i a b =
-          ap is_line_end (sym (get_or-drop p text (i - p) 0 ∙ ap (λ j. get_or text j 0) (omega arith)))
-          ∙ number_plain (drop p text) (i - p) (omega arith)
-
-      singles : (here : Places) (which : Single)
-          → Some (pos (single (record s { kept = kept; unread = s.unread }) which))
-          ≡ changed READS (read_given [] n v s (λ i. pos k) here) (One which) (Some (pos (single s which)))
-      singles here Steps = refl
-      singles here Pointer = ap Some (omega (arith, ints))
-      singles here Size = refl
-      singles here Held = refl
-      singles here LineEnd = ap (λ x. Some (pos x)) (same_end text p k order inside plain)
-      singles here LineStart = ap (λ x. Some (pos x)) (same_start text p k order inside plain)
-      singles here LastLength = refl
+    changes_plainly case made READS [] changes n v s (kept s whole) s.unread (behind_it s whole) true_of (λ here.
+    changes_singles READS (read_given [] n v s (behind_it s whole) here) s (kept s whole) s.unread refl refl
+    (omega (arith, ints), (omega (arith, ints, in_line s whole), tt)) (any_singles s whole n v here))
 
 -- ---- no line end is in a number that is written
 single_plain : (c : ℕ) → 48 ≤ c → (i : ℕ) → ends (c ∷ []) i ≡ false
@@ -260,14 +313,19 @@ some_digits m h = omega (arith, decimal_nonempty m h)
 -- what is written of a number within bounds, by a text of so few or many characters
 abbrev pub written : ℤ → ℤ → ℤ → ℤ → List Clause
 written least most few many =
-    MOVES ∷ LONGER ∷ MORE ∷ FURTHER ∷ LAST ∷ Wants least ((pos 1, NUMBER) ∷ NO ∷ NO ∷ NO ∷ [])
+    ANY_BEFORE ∷ MOVES ∷ LONGER ∷ MORE ∷ FURTHER ∷ LAST ∷ Wants least ((pos 1, NUMBER) ∷ NO ∷ NO ∷ NO ∷ [])
     ∷ Wants most ((negsuc 0, NUMBER) ∷ NO ∷ NO ∷ NO ∷ []) ∷ Wants few ((pos 1, LONG) ∷ NO ∷ NO ∷ NO ∷ [])
     ∷ Wants many ((negsuc 0, LONG) ∷ NO ∷ NO ∷ NO ∷ []) ∷ []
+
+-- what is not known of the state behind
+abbrev written_behind : Kept → List ℕ → ℕ → ℤ
+written_behind kept new =
+    with_codes (text_after_insertion kept.text kept.pointer new) (kept.pointer + length new) (λ i. pos (length new))
 
 module _ (s : Point) (here : Places) (given : ℕ → ℤ) (new : List ℕ) (inside : s.kept.pointer ≤ length s.kept.text)
     (plain : line_place new (length new) (pos 0) ≡ 0) where
   abbrev before : Before
-  before = read_at s here given (λ i. pos (length new))
+  before = read_at s here given (written_behind s.kept new)
 
   long : length (text_after_insertion s.kept.text s.kept.pointer new) ≡ length new + length s.kept.text
   long = grown_long s.kept.text new s.kept.pointer inside
@@ -290,6 +348,8 @@ module _ (s : Point) (here : Places) (given : ℕ → ℤ) (new : List ℕ) (ins
         singles LineEnd = ap Some (omega (arith, ints, end))
         singles LineStart = ap (λ x. Some (pos x)) (grown_kept s.kept.text new s.kept.pointer inside plain)
         singles LastLength = ap Some (omega (arith, ints))
+        singles CodeHere = ap (λ x. Some (pos x)) (grown_here s.kept.text new s.kept.pointer inside)
+        singles CodeBefore = ap Some (omega (arith, ints))
 
 -- a number is within bounds, and its text is not longer than they say
 pub record IsWithin (span : Span) (x : ℤ) : Type 0 where
@@ -388,7 +448,8 @@ writes_number case ways form here all are spans fits n v s begins = by_span (one
       let small : length (text_after_insertion s.kept.text s.kept.pointer new) ≤ LIMIT =
       omega (arith, grown_long s.kept.text new s.kept.pointer begins.whole.inside, w.few) in
       performed n all s _ (no_answer (kept_with new s.kept)) (inserted new s.kept small)
-      (by n v case ways (form ∷ []) here all is.place is.row s (kept_with new s.kept) None (λ i. pos (length new)) are
+      (by n v case ways (form ∷ []) here all is.place is.row s (kept_with new s.kept) None
+      (written_behind s.kept new) are
       is.way begins.true_of
       (writes s here (λ i. value (slice_index_or (form ∷ []) i []) n v) new begins.whole.inside plain is.row
       (neg_ℤ span.least) span.most (negsuc 0) (pos span.long) is.is (
@@ -451,6 +512,131 @@ reads_number case behind all is gives n v s begins =
     let d = is n v s begins.true_of begins.whole in
     gives n d.0 (with_kept s (kept_behind_number s.kept)) (number_here s.kept).number d.1
     (number_fits (drop s.kept.pointer s.kept.text))
+
+-- a number begins with a digit where one is there, and then has a character
+some_read : (minus : Bool) (sign : ℕ) (digits : List ℕ) → 1 ≤ length digits → 1 ≤ (reading minus sign digits).len
+some_read minus sign [] h = absurd (omega (arith, h))
+some_read minus sign (d ∷ digits) h = omega arith
+
+some_digit : (b : ℕ) (text : List ℕ) → is_digit b ≡ true → 1 ≤ prefix_len is_digit (b ∷ text)
+some_digit b text e = by (is_digit b) e where
+  by : (x : Bool) → x ≡ true → 1 ≤ (if x then 1 + prefix_len is_digit text else 0)
+  by true h = omega arith
+  by false h = absurd (cc)
+
+no_sign : (b : ℕ) → 48 ≤ b → is_among b (codes "+-") ≡ false
+no_sign b h = grind (arith, nat_tests)
+
+a_digit : (b : ℕ) → 48 ≤ b → b ≤ 57 → is_digit b ≡ true
+a_digit b h k = grind (arith, nat_tests)
+
+digit_read : (text : List ℕ) → 49 ≤ code_here text 0 → code_here text 0 ≤ 58 → 1 ≤ (number_at text).len
+digit_read [] low high = absurd (omega (arith, low))
+digit_read (b ∷ text) low high =
+    let none : sign_len (b ∷ text) ≡ 0 = ap (λ x. if x then 1 else 0) (no_sign b (omega (arith, low))) in
+    let first = some_digit b text (a_digit b (omega (arith, low)) (omega (arith, high))) in
+    let some : 1 ≤ prefix_len is_digit (drop (sign_len (b ∷ text)) (b ∷ text)) =
+    subst (λ k. 1 ≤ prefix_len is_digit (drop k (b ∷ text))) (sym none) first in
+    some_read (is_minus (b ∷ text)) (sign_len (b ∷ text)) _ (omega (
+      arith,
+      some,
+      prefix_len-le-length is_digit (drop (sign_len (b ∷ text)) (b ∷ text)),
+      length-take (prefix_len is_digit (drop (sign_len (b ∷ text)) (b ∷ text))) (drop (sign_len (b ∷ text)) (b ∷ text)),
+    ))
+
+-- a digit is at the pointer, or a character below or above those, or none
+digit_or : (k : ℕ) → ((49 ≤ k) × (k ≤ 58)) ⊎ ((k ≤ 48) ⊎ (59 ≤ k))
+digit_or k = elim (above_or 49 k) [
+  | inl h ↦ elim (above_or 59 k) [ inl g ↦ inr (inr g) | inr g ↦ inl (h, omega arith) ]
+  | inr h ↦ inr (inl (omega arith))
+]
+
+-- one of two lists of cases has one that describes a state
+in_first : (n : ℕ) (s : Point) (a b : List Case) → Any (λ case. Describes n case s) a
+    → Any (λ case. Describes n case s) (a ++ b)
+in_first n s a b h =
+    (h.0, h.1, omega (arith, h.2, length-append a b), get_or_append_left a b h.1 h.0 h.2 ∙ h.3, h.4)
+
+in_second : (n : ℕ) (s : Point) (a b : List Case) → Any (λ case. Describes n case s) b
+    → Any (λ case. Describes n case s) (a ++ b)
+in_second n s a b h =
+    let same : length a + h.0 - length a ≡ h.0 = omega arith in (
+      length a + h.0,
+      h.1,
+      omega (arith, h.2, length-append a b),
+      get_or-append_right a b (length a) (length a + h.0) h.1 refl (omega arith) ∙ ap (λ k. get_or b k h.1) same ∙ h.3,
+      h.4,
+    )
+
+succeeds_more : {X : Type 0} (P Q : X → Type 0) (r : Result X Code) → ((x : X) → P x → Q x) → Succeeds P r
+    → Succeeds Q r
+succeeds_more P Q (Ok x) f h = f x h
+succeeds_more P Q (Err c) f h = h
+
+pub reads_known : (case digit low high : Case) (one two three all : Outcomes) → IsChangedFrom case READS_DIGIT [] digit
+    → IsChangedFrom case READS_LOW [] low → IsChangedFrom case READS_HIGH [] high → GivesAny digit one
+    → GivesAny low two → GivesAny high three
+    → all.cases.items ≡ one.cases.items ++ (two.cases.items ++ three.cases.items) → ReadsNumber case all
+reads_known case digit low high one two three all at_digit at_low at_high gives_one gives_two gives_three items n v s
+    begins = by_code (digit_or (code_here s.kept.text s.kept.pointer)) where
+      whole : IsWhole s.kept
+      whole = begins.whole
+
+      x : ℤ
+      x = (number_here s.kept).number
+
+      fits : FitsSigned w32 x
+      fits = number_fits (drop s.kept.pointer s.kept.text)
+
+      next : Level → Point
+      next level = behind (with_kept s (kept s whole)) (with_level (with_kept s (kept s whole)) level)
+
+      Given : Type 0
+      Given = Succeeds (λ level. Describe n all (next level)) (level_with x s.arguments.level)
+
+      moved : 49 ≤ code_here s.kept.text s.kept.pointer → code_here s.kept.text s.kept.pointer ≤ 58
+          → s.kept.pointer + 1 ≤ (kept s whole).pointer
+      moved l h =
+          let same = here_dropped s.kept.text s.kept.pointer 0 s.kept.pointer (omega arith) in
+          omega (arith, digit_read (drop s.kept.pointer s.kept.text) (omega (arith, same, l)) (omega (arith, same, h)))
+
+      by_code : ((49 ≤ code_here s.kept.text s.kept.pointer) × (code_here s.kept.text s.kept.pointer ≤ 58))
+          ⊎ ((code_here s.kept.text s.kept.pointer ≤ 48) ⊎ (59 ≤ code_here s.kept.text s.kept.pointer)) → Given
+      by_code (inl c) =
+          let d = changes_plainly case digit READS_DIGIT [] at_digit n v s (kept s whole) s.unread (behind_it s whole)
+          begins.true_of (λ here. changes_singles READS_DIGIT (read_given [] n v s (behind_it s whole) here) s
+          (kept s whole) s.unread refl refl (
+            omega (arith, ints, moved c.0 c.1),
+            (omega (arith, ints, in_line s whole), (omega (arith, ints, c.0), (omega (arith, ints, c.1), tt))),
+          ) (digit_singles s whole n v here)) in
+          succeeds_more _ _ (level_with x s.arguments.level)
+          (λ level h. subst (Any (λ case. Describes n case (next level)))
+          (sym items) (in_first n (next level) one.cases.items (two.cases.items ++ three.cases.items) h))
+          (gives_one n d.0 (with_kept s (kept s whole)) x d.1 fits)
+      by_code (inr (inl c)) =
+          let d = changes_plainly case low READS_LOW [] at_low n v s (kept s whole) s.unread (behind_it s whole)
+          begins.true_of (λ here. changes_singles READS_LOW (read_given [] n v s (behind_it s whole) here) s
+          (kept s whole) s.unread refl refl (
+            omega (arith, ints, order s whole),
+            (omega (arith, ints, in_line s whole), (omega (arith, ints, c), tt)),
+          ) (low_singles s whole n v here)) in
+          succeeds_more _ _ (level_with x s.arguments.level)
+          (λ level h. subst (Any (λ case. Describes n case (next level)))
+          (sym items) (in_second n (next level) one.cases.items (two.cases.items ++ three.cases.items)
+          (in_first n (next level) two.cases.items three.cases.items h)))
+          (gives_two n d.0 (with_kept s (kept s whole)) x d.1 fits)
+      by_code (inr (inr c)) =
+          let d = changes_plainly case high READS_HIGH [] at_high n v s (kept s whole) s.unread (behind_it s whole)
+          begins.true_of (λ here. changes_singles READS_HIGH (read_given [] n v s (behind_it s whole) here) s
+          (kept s whole) s.unread refl refl (
+            omega (arith, ints, order s whole),
+            (omega (arith, ints, in_line s whole), (omega (arith, ints, c), tt)),
+          ) (high_singles s whole n v here)) in
+          succeeds_more _ _ (level_with x s.arguments.level)
+          (λ level h. subst (Any (λ case. Describes n case (next level)))
+          (sym items) (in_second n (next level) one.cases.items (two.cases.items ++ three.cases.items)
+          (in_second n (next level) two.cases.items three.cases.items h)))
+          (gives_three n d.0 (with_kept s (kept s whole)) x d.1 fits)
 
 pub read_asked : (case : Case) (form : Option (List Term)) (all : Outcomes) → form ≡ None → IsStanding case form
     → ReadsNumber case all → (colons : ℕ) → Asks Conversion colons case all

@@ -26,7 +26,7 @@ use Rattle.teco_rows.specs.declared.measure.Family.TheVariants.{First, Value}
 use Rattle.teco_rows.specs.declared.measure.Measure.{Measure}
 use Rattle.teco_rows.specs.declared.measure.Measure.TheVariants.{One, Each}
 use Rattle.teco_rows.specs.declared.measure.Single.TheVariants.{Steps, Pointer, Size, Held, LineEnd, LineStart}
-use Rattle.teco_rows.specs.declared.measure.Single.TheVariants.{LastLength}
+use Rattle.teco_rows.specs.declared.measure.Single.TheVariants.{LastLength, CodeHere, CodeBefore}
 use Rattle.teco_rows.specs.declared.outcomes.Outcomes.{Outcomes}
 use Rattle.teco_outcomes.specs.declared.pushes.TheConstants.{PUSHES, POPS}
 use Rattle.teco_rows.specs.declared.row.Step.{Step}
@@ -134,6 +134,8 @@ module _ (n : ℕ) (v : Valuation) (s : Point) (step : Step) (register at : ℕ)
     becomes (One LineEnd) = refl
     becomes (One LineStart) = refl
     becomes (One LastLength) = refl
+    becomes (One CodeHere) = refl
+    becomes (One CodeBefore) = refl
     becomes (Each Number i) = refl
     becomes (Each Length i) = refl
     becomes (Each Turns i) = refl
@@ -177,6 +179,8 @@ module _ (n : ℕ) (v : Valuation) (s : Point) (step : Step) (register at : ℕ)
     becomes (One LineEnd) = refl
     becomes (One LineStart) = refl
     becomes (One LastLength) = refl
+    becomes (One CodeHere) = refl
+    becomes (One CodeBefore) = refl
     becomes (Each Number i) =
         number_set s.kept.registers.pairs step.here.register i pair _ (omega (arith, whole.count))
         (ap Some (omega (arith, ints, number_newest)))

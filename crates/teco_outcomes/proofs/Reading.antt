@@ -23,7 +23,7 @@ use Rattle.teco_rows.specs.declared.commands.Taken.{Taken}
 use Rattle.teco_rows.specs.declared.commands.Way as command
 use Rattle.teco_rows.specs.declared.measure.Single.{Single}
 use Rattle.teco_rows.specs.declared.measure.Single.TheVariants.{Steps, Pointer, Size, Held, LineEnd, LineStart}
-use Rattle.teco_rows.specs.declared.measure.Single.TheVariants.{LastLength}
+use Rattle.teco_rows.specs.declared.measure.Single.TheVariants.{LastLength, CodeHere, CodeBefore}
 use Rattle.teco_rows.specs.declared.outcomes.Outcomes.{Outcomes}
 use Rattle.teco_rows.specs.declared.row.Places.{Places}
 use Rattle.teco_rows.specs.Cases.{value_if}
@@ -31,7 +31,9 @@ use Rattle.teco_rows.specs.Commands.{AreCommanded, IsAtLevel, IsTaken, Leads, co
 use Rattle.teco_rows.specs.Foretold.{Describe}
 use Rattle.teco_rows.specs.Rows.{Before}
 use Rattle.teco_rows.specs.declared.row.Clause.{Clause}
-use Rattle.teco_rows.specs.States.{IsTrueOf, Point, single}
+use Rattle.teco_rows.specs.States.{IsTrueOf, Point, single, code_here, code_before}
+use Rattle.teco_rows.proofs.Characters.{before_next}
+use Rattle.teco_rows.proofs.Characters as characters
 use Rattle.teco_rows.proofs.Commanding.{read_at}
 use Rattle.teco_rows.proofs.Leading.{answers, leads}
 use Rattle.teco_rows.proofs.Lines.{IsBegin, IsEnd, above_or, begin_most, clash, end_least, ends, line_begin, line_end}
@@ -44,9 +46,9 @@ use Rattle.teco_flow_outcomes.specs.Law.{Goes, Law, StepsTo, point_of}
 
 -- a character that is there is a byte, and outside there is none
 code_inside : (text : List ℕ) (k : ℕ) → k < length text → AreBytes text
-    → (c : ℕ) × (code_at text (pos k) ≡ pos c) × (c < 256) × (get_or text k 0 ≡ c)
+    → (c : ℕ) × (code_at text (pos k) ≡ pos c) × (c < 256) × (get_or text k 0 ≡ c) × (code_here text k ≡ c + 1)
 code_inside [] k h bytes = absurd (omega arith)
-code_inside (c ∷ text) zero h bytes = (c, refl, bytes.0, refl)
+code_inside (c ∷ text) zero h bytes = (c, refl, bytes.0, refl, refl)
 code_inside (c ∷ text) (suc k) h bytes = code_inside text k (omega arith) bytes.1
 
 code_outside : (text : List ℕ) (k : ℕ) → length text ≤ k → code_at text (pos k) ≡ negsuc 0
@@ -64,6 +66,8 @@ module _ (s : Point) (here : Places) (given : ℕ → ℤ) (at : here.level ≡ 
   stays x LineEnd = refl
   stays x LineStart = refl
   stays x LastLength = refl
+  stays x CodeHere = refl
+  stays x CodeBefore = refl
 
   inside_leads : (k c : ℕ) → pos s.kept.pointer +ℤ given 0 ≡ pos k → k < length s.kept.text → c < 256
       → Leads INSIDE (read_at s here given (λ i. pos c)) s s.kept (Some (pos c))
@@ -135,47 +139,52 @@ module _ (s : Point) (here : Places) (given : ℕ → ℤ) (at : here.level ≡ 
     | inr w ↦ omega (arith, end.more w)
   ]
 
-  ends_here : (c : ℕ) → s.kept.pointer < length s.kept.text → ends s.kept.text s.kept.pointer ≡ true → 10 ≤ c → c ≤ 12
+  ends_here : (c : ℕ) → code_here s.kept.text s.kept.pointer ≡ c + 1 → s.kept.pointer < length s.kept.text
+      → ends s.kept.text s.kept.pointer ≡ true → 10 ≤ c → c ≤ 12
       → Leads ENDS_HERE (read_code c) s s.kept (Some (pos c))
-  ends_here c h e low high =
+  ends_here c code h e low high =
       let near = end_least s.kept.text s.kept.pointer _ s.kept.pointer end (omega arith) e in
       leads ENDS_HERE _ s s.kept (Some (pos c)) refl refl refl refl (record {
         met = (
-          omega (arith, ints),
-          (omega (arith, ints), (omega (arith, ints, later h), (omega (arith, ints, near), tt))),
+          omega (arith, ints, code),
+          (omega (arith, ints, code), (omega (arith, ints, code, later h), (omega (arith, ints, code, near), tt))),
         );
         singles = stays s here given at (pos c);
         numbers = λ i. refl;
         lengths = λ i. refl;
-        values = λ i. answers s s.kept here i (pos c) _ at (ap Some (omega (arith, ints)));
+        values = λ i. answers s s.kept here i (pos c) _ at (ap Some (omega (arith, ints, code)));
         stack = refl;
       })
 
-  low_here : (c : ℕ) → s.kept.pointer < length s.kept.text → c ≤ 9
+  low_here : (c : ℕ) → code_here s.kept.text s.kept.pointer ≡ c + 1 → s.kept.pointer < length s.kept.text → c ≤ 9
       → Leads LOW_HERE (read_code c) s s.kept (Some (pos c))
-  low_here c h low = leads LOW_HERE _ s s.kept (Some (pos c)) refl refl refl refl (record {
-    met = (omega (arith, ints), (omega (arith, ints), (omega (arith, ints, later h), tt)));
+  low_here c code h low = leads LOW_HERE _ s s.kept (Some (pos c)) refl refl refl refl (record {
+    met = (omega (arith, ints, code), (omega (arith, ints, code), (omega (arith, ints, code, later h), tt)));
     singles = stays s here given at (pos c);
     numbers = λ i. refl;
     lengths = λ i. refl;
-    values = λ i. answers s s.kept here i (pos c) _ at (ap Some (omega (arith, ints)));
+    values = λ i. answers s s.kept here i (pos c) _ at (ap Some (omega (arith, ints, code)));
     stack = refl;
   })
 
-  high_here : (c : ℕ) → s.kept.pointer < length s.kept.text → 13 ≤ c → c < 256
+  high_here : (c : ℕ) → code_here s.kept.text s.kept.pointer ≡ c + 1 → s.kept.pointer < length s.kept.text → 13 ≤ c
+      → c < 256
       → Leads HIGH_HERE (read_code c) s s.kept (Some (pos c))
-  high_here c h low byte = leads HIGH_HERE _ s s.kept (Some (pos c)) refl refl refl refl (record {
-    met = (omega (arith, ints), (omega (arith, ints), (omega (arith, ints, later h), tt)));
+  high_here c code h low byte = leads HIGH_HERE _ s s.kept (Some (pos c)) refl refl refl refl (record {
+    met = (omega (arith, ints, code), (omega (arith, ints, code), (omega (arith, ints, code, later h), tt)));
     singles = stays s here given at (pos c);
     numbers = λ i. refl;
     lengths = λ i. refl;
-    values = λ i. answers s s.kept here i (pos c) _ at (ap Some (omega (arith, ints)));
+    values = λ i. answers s s.kept here i (pos c) _ at (ap Some (omega (arith, ints, code)));
     stack = refl;
   })
 
   at_last : length s.kept.text ≤ s.kept.pointer → Leads AT_LAST (read_code 0) s s.kept (Some (negsuc 0))
   at_last h = leads AT_LAST _ s s.kept (Some (negsuc 0)) refl refl refl refl (record {
-    met = (omega (arith, ints), tt);
+    met = (
+      omega (arith, ints, characters.code_outside s.kept.text s.kept.pointer h),
+      (omega (arith, ints), tt),
+    );
     singles = stays s here given at (negsuc 0);
     numbers = λ i. refl;
     lengths = λ i. refl;
@@ -185,19 +194,25 @@ module _ (s : Point) (here : Places) (given : ℕ → ℤ) (at : here.level ≡ 
 
   -- before the pointer
   module _ (k : ℕ) (before : k + 1 ≡ s.kept.pointer) where
-    ends_there : (c : ℕ) → ends s.kept.text k ≡ true → 10 ≤ c → c ≤ 12
+    ends_there : (c : ℕ) → code_before s.kept.text s.kept.pointer ≡ c + 1 → ends s.kept.text k ≡ true → 10 ≤ c → c ≤ 12
         → Leads ENDS_THERE (read_code c) s s.kept (Some (pos c))
-    ends_there c e low high =
+    ends_there c code e low high =
         let near = begin_most s.kept.text s.kept.pointer _ k begin (omega arith) e in
         leads ENDS_THERE _ s s.kept (Some (pos c)) refl refl refl refl (record {
           met = (
-            omega (arith, ints),
-            (omega (arith, ints), (omega (arith, ints, before), (omega (arith, ints, near, before), tt))),
+            omega (arith, ints, code),
+            (
+              omega (arith, ints, code),
+              (
+                omega (arith, ints, code, before),
+                (omega (arith, ints, code, near, before), tt),
+              ),
+            ),
           );
           singles = stays s here given at (pos c);
           numbers = λ i. refl;
           lengths = λ i. refl;
-          values = λ i. answers s s.kept here i (pos c) _ at (ap Some (omega (arith, ints)));
+          values = λ i. answers s s.kept here i (pos c) _ at (ap Some (omega (arith, ints, code)));
           stack = refl;
         })
 
@@ -207,31 +222,32 @@ module _ (s : Point) (here : Places) (given : ℕ → ℤ) (at : here.level ≡ 
       | inr w ↦ omega arith
     ]
 
-    low_there : (c : ℕ) → ends s.kept.text k ≡ false → c ≤ 9
+    low_there : (c : ℕ) → code_before s.kept.text s.kept.pointer ≡ c + 1 → ends s.kept.text k ≡ false → c ≤ 9
         → Leads LOW_THERE (read_code c) s s.kept (Some (pos c))
-    low_there c e low = leads LOW_THERE _ s s.kept (Some (pos c)) refl refl refl refl (record {
-      met = (omega (arith, ints), (omega (arith, ints), (omega (arith, ints, earlier e), tt)));
+    low_there c code e low = leads LOW_THERE _ s s.kept (Some (pos c)) refl refl refl refl (record {
+      met = (omega (arith, ints, code), (omega (arith, ints, code), (omega (arith, ints, code, earlier e), tt)));
       singles = stays s here given at (pos c);
       numbers = λ i. refl;
       lengths = λ i. refl;
-      values = λ i. answers s s.kept here i (pos c) _ at (ap Some (omega (arith, ints)));
+      values = λ i. answers s s.kept here i (pos c) _ at (ap Some (omega (arith, ints, code)));
       stack = refl;
     })
 
-    high_there : (c : ℕ) → ends s.kept.text k ≡ false → 13 ≤ c → c < 256
+    high_there : (c : ℕ) → code_before s.kept.text s.kept.pointer ≡ c + 1 → ends s.kept.text k ≡ false → 13 ≤ c
+        → c < 256
         → Leads HIGH_THERE (read_code c) s s.kept (Some (pos c))
-    high_there c e low byte = leads HIGH_THERE _ s s.kept (Some (pos c)) refl refl refl refl (record {
-      met = (omega (arith, ints), (omega (arith, ints), (omega (arith, ints, earlier e), tt)));
+    high_there c code e low byte = leads HIGH_THERE _ s s.kept (Some (pos c)) refl refl refl refl (record {
+      met = (omega (arith, ints, code), (omega (arith, ints, code), (omega (arith, ints, code, earlier e), tt)));
       singles = stays s here given at (pos c);
       numbers = λ i. refl;
       lengths = λ i. refl;
-      values = λ i. answers s s.kept here i (pos c) _ at (ap Some (omega (arith, ints)));
+      values = λ i. answers s s.kept here i (pos c) _ at (ap Some (omega (arith, ints, code)));
       stack = refl;
     })
 
   at_first : s.kept.pointer ≡ 0 → Leads AT_FIRST (read_code 0) s s.kept (Some (negsuc 0))
   at_first h = leads AT_FIRST _ s s.kept (Some (negsuc 0)) refl refl refl refl (record {
-    met = (omega (arith, ints), tt);
+    met = (omega (arith, ints, ap (code_before s.kept.text) h), (omega (arith, ints), tt));
     singles = stays s here given at (negsuc 0);
     numbers = λ i. refl;
     lengths = λ i. refl;
@@ -262,7 +278,7 @@ module _ (case : Case) (ways : List command.Way) (here : Places) (all : Outcomes
         let c = code_inside s.kept.text s.kept.pointer h begins.whole.bytes in
         let code = ap (code_at s.kept.text) there ∙ c.1 in
         let same = ap is_line_end c.3 in
-        by_sort c.0 code h c.2 same (sort_of c.0)
+        by_sort c.0 code c.4 h c.2 same (sort_of c.0)
   ] where
     level_at : here.level ≡ length s.arguments.outer
     level_at = level s begins.true_of.shape
@@ -271,17 +287,18 @@ module _ (case : Case) (ways : List command.Way) (here : Places) (all : Outcomes
     there = omega (arith, ints)
 
     by_sort : (c : ℕ) → code_at s.kept.text (pos s.kept.pointer +ℤ pos 0) ≡ pos c
+        → code_here s.kept.text s.kept.pointer ≡ c + 1
         → s.kept.pointer < length s.kept.text → c < 256 → ends s.kept.text s.kept.pointer ≡ is_line_end c → Sort c
         → Describe n all (commanded s s.kept (Some (code_at s.kept.text (pos s.kept.pointer +ℤ pos 0))))
-    by_sort c code h byte same (ends_one e low high) =
+    by_sort c code there_is h byte same (ends_one e low high) =
         answered_by n v s 0 c ENDS_HERE (pos c) _ begins.true_of w0 code
-        (ends_here s here (none_given n v) level_at begins.whole.inside c h (same ∙ e) low high)
-    by_sort c code h byte same (is_low e low) =
+        (ends_here s here (none_given n v) level_at begins.whole.inside c there_is h (same ∙ e) low high)
+    by_sort c code there_is h byte same (is_low e low) =
         answered_by n v s 1 c LOW_HERE (pos c) _ begins.true_of w1 code
-        (low_here s here (none_given n v) level_at begins.whole.inside c h low)
-    by_sort c code h byte same (is_high e high) =
+        (low_here s here (none_given n v) level_at begins.whole.inside c there_is h low)
+    by_sort c code there_is h byte same (is_high e high) =
         answered_by n v s 2 c HIGH_HERE (pos c) _ begins.true_of w2 code
-        (high_here s here (none_given n v) level_at begins.whole.inside c h high byte)
+        (high_here s here (none_given n v) level_at begins.whole.inside c there_is h high byte)
 
   pub character_before : IsWay ways 0 ENDS_THERE → IsWay ways 1 LOW_THERE → IsWay ways 2 HIGH_THERE
       → IsWay ways 3 AT_FIRST → AnswersCode (negsuc 0) case all
@@ -292,17 +309,18 @@ module _ (case : Case) (ways : List command.Way) (here : Places) (all : Outcomes
     D : ℤ → Type 0
     D x = Describe n all (commanded s s.kept (Some (code_at s.kept.text x)))
 
-    by_sort : (k c : ℕ) → k + 1 ≡ s.kept.pointer → code_at s.kept.text (pos k) ≡ pos c → c < 256
+    by_sort : (k c : ℕ) → k + 1 ≡ s.kept.pointer → code_at s.kept.text (pos k) ≡ pos c
+        → code_before s.kept.text s.kept.pointer ≡ c + 1 → c < 256
         → ends s.kept.text k ≡ is_line_end c → Sort c → D (pos k)
-    by_sort k c before code byte same (ends_one e low high) =
+    by_sort k c before code there_is byte same (ends_one e low high) =
         answered_by n v s 0 c ENDS_THERE (pos c) _ begins.true_of w0 code
-        (ends_there s here (none_given n v) level_at begins.whole.inside k before c (same ∙ e) low high)
-    by_sort k c before code byte same (is_low e low) =
+        (ends_there s here (none_given n v) level_at begins.whole.inside k before c there_is (same ∙ e) low high)
+    by_sort k c before code there_is byte same (is_low e low) =
         answered_by n v s 1 c LOW_THERE (pos c) _ begins.true_of w1 code
-        (low_there s here (none_given n v) level_at begins.whole.inside k before c (same ∙ e) low)
-    by_sort k c before code byte same (is_high e high) =
+        (low_there s here (none_given n v) level_at begins.whole.inside k before c there_is (same ∙ e) low)
+    by_sort k c before code there_is byte same (is_high e high) =
         answered_by n v s 2 c HIGH_THERE (pos c) _ begins.true_of w2 code
-        (high_there s here (none_given n v) level_at begins.whole.inside k before c (same ∙ e) high byte)
+        (high_there s here (none_given n v) level_at begins.whole.inside k before c there_is (same ∙ e) high byte)
 
     by_place : (p : ℕ) → p ≡ s.kept.pointer → D (pos s.kept.pointer +ℤ negsuc 0)
     by_place zero e =
@@ -315,7 +333,9 @@ module _ (case : Case) (ways : List command.Way) (here : Places) (all : Outcomes
         let before : k + 1 ≡ s.kept.pointer = omega arith in
         let inside : k < length s.kept.text = omega (arith, begins.whole.inside) in
         let c = code_inside s.kept.text k inside begins.whole.bytes in
-        subst D (sym there) (by_sort k c.0 before c.1 c.2 (ap is_line_end c.3) (sort_of c.0))
+        subst D (sym there) (by_sort k c.0 before c.1 (before_next s.kept.text k s.kept.pointer (sym before) ∙ c.4) c.2
+        (ap is_line_end c.3)
+        (sort_of c.0))
 
 pub gives_code : (case : Case) (form : List Term) (number : ℤ) (all : Outcomes)
     → ((n : ℕ) (v : Valuation) → value form n v ≡ number) → AnswersCode number case all → GivesCharacter form case all

@@ -6,7 +6,7 @@ ghost use Rattle.teco_outcomes.specs.Characters.{AnswersCode, GivesCharacter};
 ghost use Rattle.teco_flow_outcomes.specs.Law.{Law};
 
 use std::alloc::Global;
-use teco_command_outcomes::motions::{LINE_END, LINE_START, POINTER, SIZE};
+use teco_command_outcomes::motions::{CODE_BEFORE, CODE_HERE, LINE_END, LINE_START, POINTER, SIZE};
 use teco_linear::Form;
 use teco_model::kind::Page;
 use teco_rows::case::Case;
@@ -46,52 +46,69 @@ const BEHIND: [Clause; 2] = [
 ];
 
 // At the start of the buffer none is before the pointer, and at its end none is at it.
-const AT_FIRST: [Clause; 2] = [
+const AT_FIRST: [Clause; 3] = [
+    Clause::Wants(0, [(-1, Of::Was(CODE_BEFORE)), NO, NO, NO]),
     Clause::Sets(VALUE, -1, [NO, NO, NO, NO]),
     Clause::Wants(0, [(-1, Of::Was(POINTER)), NO, NO, NO]),
 ];
 
-const AT_LAST: [Clause; 2] = [
+const AT_LAST: [Clause; 3] = [
+    Clause::Wants(0, [(-1, Of::Was(CODE_HERE)), NO, NO, NO]),
     Clause::Sets(VALUE, -1, [NO, NO, NO, NO]),
     Clause::Wants(0, [(1, Of::Was(POINTER)), (-1, Of::Was(SIZE)), NO, NO]),
 ];
 
-const GIVES: Clause = Clause::Sets(VALUE, 0, [(1, CODE), NO, NO, NO]);
+// The code of the character at the pointer is that of a line end, or below those, or above them.
+const GIVES_HERE: Clause = Clause::Sets(VALUE, -1, [(1, Of::Was(CODE_HERE)), NO, NO, NO]);
 
-// A code is that of a line end, or below those, or above them.
-const ENDS_FROM: Clause = Clause::Wants(-10, [(1, CODE), NO, NO, NO]);
+const ENDS_FROM_HERE: Clause = Clause::Wants(-11, [(1, Of::Was(CODE_HERE)), NO, NO, NO]);
 
-const ENDS_TO: Clause = Clause::Wants(12, [(-1, CODE), NO, NO, NO]);
+const ENDS_TO_HERE: Clause = Clause::Wants(13, [(-1, Of::Was(CODE_HERE)), NO, NO, NO]);
 
-const LOW_FROM: Clause = Clause::Wants(0, [(1, CODE), NO, NO, NO]);
+const LOW_FROM_HERE: Clause = Clause::Wants(-1, [(1, Of::Was(CODE_HERE)), NO, NO, NO]);
 
-const LOW_TO: Clause = Clause::Wants(9, [(-1, CODE), NO, NO, NO]);
+const LOW_TO_HERE: Clause = Clause::Wants(10, [(-1, Of::Was(CODE_HERE)), NO, NO, NO]);
 
-const HIGH_FROM: Clause = Clause::Wants(-13, [(1, CODE), NO, NO, NO]);
+const HIGH_FROM_HERE: Clause = Clause::Wants(-14, [(1, Of::Was(CODE_HERE)), NO, NO, NO]);
 
-const HIGH_TO: Clause = Clause::Wants(255, [(-1, CODE), NO, NO, NO]);
+const HIGH_TO_HERE: Clause = Clause::Wants(256, [(-1, Of::Was(CODE_HERE)), NO, NO, NO]);
+
+// So is that of the character before it.
+const GIVES_THERE: Clause = Clause::Sets(VALUE, -1, [(1, Of::Was(CODE_BEFORE)), NO, NO, NO]);
+
+const ENDS_FROM_THERE: Clause = Clause::Wants(-11, [(1, Of::Was(CODE_BEFORE)), NO, NO, NO]);
+
+const ENDS_TO_THERE: Clause = Clause::Wants(13, [(-1, Of::Was(CODE_BEFORE)), NO, NO, NO]);
+
+const LOW_FROM_THERE: Clause = Clause::Wants(-1, [(1, Of::Was(CODE_BEFORE)), NO, NO, NO]);
+
+const LOW_TO_THERE: Clause = Clause::Wants(10, [(-1, Of::Was(CODE_BEFORE)), NO, NO, NO]);
+
+const HIGH_FROM_THERE: Clause = Clause::Wants(-14, [(1, Of::Was(CODE_BEFORE)), NO, NO, NO]);
+
+const HIGH_TO_THERE: Clause = Clause::Wants(256, [(-1, Of::Was(CODE_BEFORE)), NO, NO, NO]);
 
 // A character is at the pointer, so its line ends behind it.
 const AHEAD: Clause = Clause::Wants(-1, [(1, Of::Was(LINE_END)), (-1, Of::Was(POINTER)), NO, NO]);
 
 // It ends its line, or it does not.
 const ENDS_HERE: [Clause; 5] = [
-    GIVES,
-    ENDS_FROM,
-    ENDS_TO,
+    GIVES_HERE,
+    ENDS_FROM_HERE,
+    ENDS_TO_HERE,
     AHEAD,
     Clause::Wants(1, [(-1, Of::Was(LINE_END)), (1, Of::Was(POINTER)), NO, NO]),
 ];
 
-const LOW_HERE: [Clause; 4] = [GIVES, LOW_FROM, LOW_TO, AHEAD];
+const LOW_HERE: [Clause; 4] = [GIVES_HERE, LOW_FROM_HERE, LOW_TO_HERE, AHEAD];
 
-const HIGH_HERE: [Clause; 4] = [GIVES, HIGH_FROM, HIGH_TO, AHEAD];
+const HIGH_HERE: [Clause; 4] = [GIVES_HERE, HIGH_FROM_HERE, HIGH_TO_HERE, AHEAD];
 
 // The character before the pointer ends its line, and the pointer's starts; or the line goes on.
 const ENDS_THERE: [Clause; 5] = [
-    GIVES,
-    ENDS_FROM,
-    ENDS_TO,
+    GIVES_THERE,
+    ENDS_FROM_THERE,
+    ENDS_TO_THERE,
     Clause::Wants(-1, [(1, Of::Was(POINTER)), NO, NO, NO]),
     Clause::Wants(
         0,
@@ -104,9 +121,9 @@ const SAME_LINE: Clause = Clause::Wants(
     [(1, Of::Was(POINTER)), (-1, Of::Was(LINE_START)), NO, NO],
 );
 
-const LOW_THERE: [Clause; 4] = [GIVES, LOW_FROM, LOW_TO, SAME_LINE];
+const LOW_THERE: [Clause; 4] = [GIVES_THERE, LOW_FROM_THERE, LOW_TO_THERE, SAME_LINE];
 
-const HIGH_THERE: [Clause; 4] = [GIVES, HIGH_FROM, HIGH_TO, SAME_LINE];
+const HIGH_THERE: [Clause; 4] = [GIVES_THERE, HIGH_FROM_THERE, HIGH_TO_THERE, SAME_LINE];
 
 // The code of the character at the pointer is answered, or -1. A line end says where the line ends.
 fn character_here(case: &Case, alloc: Global) -> Result<Outcomes, Fault>

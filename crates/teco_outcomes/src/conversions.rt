@@ -1,5 +1,5 @@
 //! What comes of `\`, which reads a number at the pointer, or writes one.
-ghost use Rattle.std.specs.Prelude.{◌≡◌, ℕ, IfOk};
+ghost use Rattle.std.specs.Prelude.{◌≡◌, ◌++◌, ℕ, IfOk};
 ghost use Rattle.teco_outcomes.specs.Conversions.{AddsRoom, IsBehindNumber, IsStanding, ReadsNumber};
 ghost use Rattle.teco_outcomes.specs.Conversions.{HasRoomFor, WritesNumber};
 ghost use Rattle.teco_outcomes.specs.Queries.{Asks};
@@ -9,7 +9,9 @@ use teco_base::LIMIT;
 use teco_command_outcomes::changes::changed;
 use teco_command_outcomes::deletions::HELD;
 use teco_command_outcomes::insertions::counted;
-use teco_command_outcomes::motions::{LINE_END, POINTER, SIZE};
+use teco_command_outcomes::motions::{
+    ANY_BEFORE, ANY_HERE, CODE_HERE, LINE_END, POINTER, SIZE, is_known,
+};
 use teco_linear::Form;
 use teco_model::kind::Query;
 use teco_rows::applied::copied_constraints;
@@ -31,10 +33,42 @@ const NUMBER: Of = Of::Given(0);
 const LONG: Of = Of::Unknown(0);
 
 // A number has no line end in it.
-const READS: [Clause; 3] = [
+const READS: [Clause; 5] = [
+    ANY_HERE,
+    ANY_BEFORE,
     Clause::Sets(POINTER, 0, [(1, PLACE), NO, NO, NO]),
     Clause::Wants(0, [(1, PLACE), (-1, Of::Was(POINTER)), NO, NO]),
     Clause::Wants(0, [(1, Of::Was(LINE_END)), (-1, PLACE), NO, NO]),
+];
+
+// It has a character at least where a digit is at the pointer.
+const READS_DIGIT: [Clause; 7] = [
+    ANY_HERE,
+    ANY_BEFORE,
+    Clause::Sets(POINTER, 0, [(1, PLACE), NO, NO, NO]),
+    Clause::Wants(-1, [(1, PLACE), (-1, Of::Was(POINTER)), NO, NO]),
+    Clause::Wants(0, [(1, Of::Was(LINE_END)), (-1, PLACE), NO, NO]),
+    Clause::Wants(-49, [(1, Of::Was(CODE_HERE)), NO, NO, NO]),
+    Clause::Wants(58, [(-1, Of::Was(CODE_HERE)), NO, NO, NO]),
+];
+
+// Where a character below the digits is there, or one above them.
+const READS_LOW: [Clause; 6] = [
+    ANY_HERE,
+    ANY_BEFORE,
+    Clause::Sets(POINTER, 0, [(1, PLACE), NO, NO, NO]),
+    Clause::Wants(0, [(1, PLACE), (-1, Of::Was(POINTER)), NO, NO]),
+    Clause::Wants(0, [(1, Of::Was(LINE_END)), (-1, PLACE), NO, NO]),
+    Clause::Wants(48, [(-1, Of::Was(CODE_HERE)), NO, NO, NO]),
+];
+
+const READS_HIGH: [Clause; 6] = [
+    ANY_HERE,
+    ANY_BEFORE,
+    Clause::Sets(POINTER, 0, [(1, PLACE), NO, NO, NO]),
+    Clause::Wants(0, [(1, PLACE), (-1, Of::Was(POINTER)), NO, NO]),
+    Clause::Wants(0, [(1, Of::Was(LINE_END)), (-1, PLACE), NO, NO]),
+    Clause::Wants(-59, [(1, Of::Was(CODE_HERE)), NO, NO, NO]),
 ];
 
 const MOVES: Clause = Clause::Sets(POINTER, 0, [(1, Of::Was(POINTER)), (1, LONG), NO, NO]);
@@ -86,7 +120,8 @@ const BELOW: Span = Span {
 };
 
 // What is written of a number within those bounds.
-const WRITES_ONE: [Clause; 9] = [
+const WRITES_ONE: [Clause; 10] = [
+    ANY_BEFORE,
     MOVES,
     LONGER,
     MORE,
@@ -98,7 +133,8 @@ const WRITES_ONE: [Clause; 9] = [
     Clause::Wants(1, [(-1, LONG), NO, NO, NO]),
 ];
 
-const WRITES_FEW: [Clause; 9] = [
+const WRITES_FEW: [Clause; 10] = [
+    ANY_BEFORE,
     MOVES,
     LONGER,
     MORE,
@@ -110,7 +146,8 @@ const WRITES_FEW: [Clause; 9] = [
     Clause::Wants(3, [(-1, LONG), NO, NO, NO]),
 ];
 
-const WRITES_MANY: [Clause; 9] = [
+const WRITES_MANY: [Clause; 10] = [
+    ANY_BEFORE,
     MOVES,
     LONGER,
     MORE,
@@ -122,7 +159,8 @@ const WRITES_MANY: [Clause; 9] = [
     Clause::Wants(9, [(-1, LONG), NO, NO, NO]),
 ];
 
-const WRITES_ALL: [Clause; 9] = [
+const WRITES_ALL: [Clause; 10] = [
+    ANY_BEFORE,
     MOVES,
     LONGER,
     MORE,
@@ -134,7 +172,8 @@ const WRITES_ALL: [Clause; 9] = [
     Clause::Wants(10, [(-1, LONG), NO, NO, NO]),
 ];
 
-const WRITES_BELOW: [Clause; 9] = [
+const WRITES_BELOW: [Clause; 10] = [
+    ANY_BEFORE,
     MOVES,
     LONGER,
     MORE,
@@ -163,10 +202,53 @@ fn behind_number(case: &Case, alloc: Global) -> Result<Case, Fault>
     changed(case, &READS, &[], alloc)
 }
 
+// The outcomes of any of two cases.
+fn either(one: Outcomes, other: Outcomes) -> Result<Outcomes, Fault>
+    ensures { IfOk result (λ all. all.cases.items ≡ one.cases.items ++ other.cases.items) }
+{
+    let Outcomes {
+        conditions,
+        guarded,
+        mut cases,
+        away,
+    } = one;
+    let Outcomes {
+        conditions: _conditions,
+        guarded: _guarded,
+        cases: mut more,
+        away: _away,
+    } = other;
+    cases.append(&mut more)?;
+    Ok(Outcomes {
+        conditions,
+        guarded,
+        cases,
+        away,
+    })
+}
+
+// The number at the pointer is given, where something is known of the character there.
+fn read_known(case: &Case, alloc: Global) -> Result<Outcomes, Fault>
+    ensures { IfOk result (λ all. ReadsNumber case.now all) }
+{
+    let digit = changed(case, &READS_DIGIT, &[], alloc)?;
+    let low = changed(case, &READS_LOW, &[], alloc)?;
+    let high = changed(case, &READS_HIGH, &[], alloc)?;
+    let at_digit = give_any(&digit, alloc)?;
+    let at_low = give_any(&low, alloc)?;
+    let at_high = give_any(&high, alloc)?;
+    let others = either(at_low, at_high)?;
+    let all = either(at_digit, others)?;
+    Ok(all)
+}
+
 // The number at the pointer, which is not known, is given.
 fn read_number(case: &Case, alloc: Global) -> Result<Outcomes, Fault>
     ensures { IfOk result (λ all. ReadsNumber case.now all) }
 {
+    if is_known(case, Single::CodeHere) {
+        return read_known(case, alloc);
+    }
     let behind = behind_number(case, alloc)?;
     give_any(&behind, alloc)
 }

@@ -128,20 +128,20 @@ pushed_length_most i s whole =
     (λ p e. whole_from_end s.kept.registers.stack (s.below + i) p whole.stack e)
 
 -- ---- by places
-measure_is : (k c : ℕ) → 7 ≤ k → (k - 7) % 7 ≡ c → measure_of k ≡ Each (family_of c) ((k - 7) / 7)
-measure_is k c l e = by (nat_lt k 7) refl
+measure_is : (k c : ℕ) → 9 ≤ k → (k - 9) % 7 ≡ c → measure_of k ≡ Each (family_of c) ((k - 9) / 7)
+measure_is k c l e = by (nat_lt k 9) refl
   where
-    by : (b : Bool) → nat_lt k 7 ≡ b
-        → (if b then One (single_of k) else Each (family_of ((k - 7) % 7)) ((k - 7) / 7)) ≡ Each (family_of c)
-        ((k - 7) / 7)
-    by true h = absurd (omega (arith, l, ltb-true k 7 h))
-    by false h = ap (λ c. Each (family_of c) ((k - 7) / 7)) e
+    by : (b : Bool) → nat_lt k 9 ≡ b
+        → (if b then One (single_of k) else Each (family_of ((k - 9) % 7)) ((k - 9) / 7)) ≡ Each (family_of c)
+        ((k - 9) / 7)
+    by true h = absurd (omega (arith, l, ltb-true k 9 h))
+    by false h = ap (λ c. Each (family_of c) ((k - 9) / 7)) e
 
-pub least_here : (k c least : ℕ) → 7 ≤ k → (k - 7) % 7 ≡ c → IsLeast (Each (family_of c) ((k - 7) / 7)) least
+pub least_here : (k c least : ℕ) → 9 ≤ k → (k - 9) % 7 ≡ c → IsLeast (Each (family_of c) ((k - 9) / 7)) least
     → IsLeast (measure_of k) least
 least_here k c least l e h = subst (λ m. IsLeast m least) (sym (measure_is k c l e)) h
 
-pub most_here : (k c most : ℕ) → 7 ≤ k → (k - 7) % 7 ≡ c → IsMost (Each (family_of c) ((k - 7) / 7)) most
+pub most_here : (k c most : ℕ) → 9 ≤ k → (k - 9) % 7 ≡ c → IsMost (Each (family_of c) ((k - 9) / 7)) most
     → IsMost (measure_of k) most
 most_here k c most l e h = subst (λ m. IsMost m most) (sym (measure_is k c l e)) h
 

@@ -25,7 +25,8 @@ halves_lead spot one other ahead end are one_there one_with other_there other_wi
         (d.0, other_with ground.n d.0 (point_of steps ground.below s) d.1 (omega (arith, ints, is))) cuts
     by (negsuc k) is =
         leads ground steps s of (subst (λ number. IsAt course.nodes ground number s) (sym one_there) at)
-        (d.0, one_with ground.n d.0 (point_of steps ground.below s) d.1 (omega (arith, ints, is, are ground.n d.0))) cuts
+        (d.0, one_with ground.n d.0 (point_of steps ground.below s) d.1 (omega (arith, ints, is, are ground.n d.0)))
+        cuts
 
 pub both_lead : (course : Course) (one other : Spot) (spots : List Spot) → spots ≡ one ∷ other ∷ []
     → All (LeadsOn course) spots → LeadsOn course one × LeadsOn course other

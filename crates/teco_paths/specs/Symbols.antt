@@ -3,7 +3,7 @@ use Rattle.std.specs.Prelude.{ℕ, zero, suc, ◌-◌, ◌/◌, ◌%◌, pos, na
 use Rattle.teco_linear.specs.Form.{Valuation}
 use Rattle.teco_rows.specs.declared.measure.Single.{Single}
 use Rattle.teco_rows.specs.declared.measure.Single.TheVariants.{Steps, Pointer, Size, Held, LineEnd, LineStart}
-use Rattle.teco_rows.specs.declared.measure.Single.TheVariants.{LastLength}
+use Rattle.teco_rows.specs.declared.measure.Single.TheVariants.{LastLength, CodeHere, CodeBefore}
 use Rattle.teco_rows.specs.declared.measure.Family.{Family}
 use Rattle.teco_rows.specs.declared.measure.Family.TheVariants.{Number, Length, Turns, PushedNumber, PushedLength}
 use Rattle.teco_rows.specs.declared.measure.Family.TheVariants.{First, Value}
@@ -19,7 +19,9 @@ single_of (suc (suc zero)) = Size
 single_of (suc (suc (suc zero))) = Held
 single_of (suc (suc (suc (suc zero)))) = LineEnd
 single_of (suc (suc (suc (suc (suc zero))))) = LineStart
-single_of k = LastLength
+single_of (suc (suc (suc (suc (suc (suc zero)))))) = LastLength
+single_of (suc (suc (suc (suc (suc (suc (suc zero))))))) = CodeHere
+single_of k = CodeBefore
 
 -- the families, by theirs
 abbrev pub family_of : ℕ → Family
@@ -33,7 +35,7 @@ family_of k = Value
 
 -- the measure in a place
 abbrev pub measure_of : ℕ → Measure
-measure_of k = if nat_lt k 7 then One (single_of k) else Each (family_of ((k - 7) % 7)) ((k - 7) / 7)
+measure_of k = if nat_lt k 9 then One (single_of k) else Each (family_of ((k - 9) % 7)) ((k - 9) / 7)
 
 -- the number that a symbol is at a state; that of an absent measure is 0
 abbrev pub numbers_of : Point → Valuation

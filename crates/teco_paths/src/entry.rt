@@ -25,12 +25,12 @@ const STEPS: u32 = 0;
 
 const HELD: u32 = 3;
 
-const FIRST_LENGTH: u32 = 8;
+const FIRST_LENGTH: u32 = 10;
 
-const ARGUMENT: u32 = 13;
+const ARGUMENT: u32 = 15;
 
 // How many places there are at an entry.
-pub const PLACES: usize = 7 + 7 * REGISTERS;
+pub const PLACES: usize = 9 + 7 * REGISTERS;
 
 // How many steps were done there.
 fn steps_done(argument: Option<ArgumentRange>) -> u32
@@ -63,7 +63,7 @@ fn most_held(alloc: Global) -> Result<Form, PathFault>
 fn length_used(used: &[bool], register: u32, alloc: Global) -> Result<Form, PathFault>
     requires { register < REGISTERS }
     ensures { IfOk result (λ form. (n : ℕ) (v : Valuation)
-        → value form n v ≡ length_if (slice_index_or used.now (8 + 7 * register) false) v register) }
+        → value form n v ≡ length_if (slice_index_or used.now (10 + 7 * register) false) v register) }
 {
     let place = FIRST_LENGTH + 7 * register;
     if used.get(place as usize) == Some(&true) {
@@ -167,11 +167,11 @@ fn entry_claims(
 fn is_present(has_argument: bool, place: usize) -> bool
     ensures { result ≡ is_there has_argument (measure_of place) }
 {
-    if place < 7 {
+    if place < 9 {
         return true;
     }
-    let index = (place - 7) / 7;
-    match (place - 7) % 7 {
+    let index = (place - 9) / 7;
+    match (place - 9) % 7 {
         0 => index < REGISTERS,
         1 => index < REGISTERS,
         2 => false,

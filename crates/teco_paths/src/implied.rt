@@ -9,6 +9,7 @@ use crate::fault::PathFault;
 use crate::multipliers::{Depth, Found, find};
 use std::alloc::Global;
 use teco_linear::{Form, LinearFault, is_implied};
+use teco_rows::applied::copied_constraints;
 use teco_rows::case::Case;
 use teco_rows::outcomes::{Guarded, Outcomes};
 
@@ -86,11 +87,12 @@ fn are_so(case: &Case, targets: &[Form], alloc: Global) -> Result<bool, PathFaul
     Ok(true)
 }
 
-// Whether a guarded condition is found to hold wherever its constraints do.
-fn is_guarded(guarded: &Guarded, alloc: Global) -> Result<bool, PathFault>
+// Whether a guarded condition is found to hold wherever its constraints do, of which so many can all hold.
+fn is_guarded(guarded: &Guarded, known: usize, alloc: Global) -> Result<bool, PathFault>
     ensures { IfOk result (λ answer. OnTrue answer (IsKept guarded.now)) }
 {
-    let mut seeds = Vec::new(alloc);
+    let new = guarded.constraints.get(known..).unwrap_or(&[]);
+    let mut seeds = copied_constraints(new, alloc)?;
     seeds.push(guarded.wanted.add(&Form::zero(alloc), alloc)?)?;
     let Some(found) = find(
         &guarded.constraints,
@@ -106,11 +108,11 @@ fn is_guarded(guarded: &Guarded, alloc: Global) -> Result<bool, PathFault>
 }
 
 // Whether all of these are.
-fn are_guarded(all: &[Guarded], alloc: Global) -> Result<bool, PathFault>
+fn are_guarded(all: &[Guarded], known: usize, alloc: Global) -> Result<bool, PathFault>
     ensures { IfOk result (λ answer. OnTrue answer (All IsKept all.now)) }
 {
     for guarded in all {
-        if !is_guarded(guarded, alloc)? {
+        if !is_guarded(guarded, known, alloc)? {
             return Ok(false);
         }
     }
@@ -125,7 +127,7 @@ pub fn are_met(case: &Case, outcomes: &Outcomes, alloc: Global) -> Result<bool, 
     if !are_all_so {
         return Ok(false);
     }
-    are_guarded(&outcomes.guarded, alloc)
+    are_guarded(&outcomes.guarded, case.constraints.len(), alloc)
 }
 
 /// Whether no state is found to be as a case says, of whose constraints so many can all hold: they

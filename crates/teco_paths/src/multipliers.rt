@@ -17,6 +17,9 @@ const MOST_POWER: u32 = 2;
 // How many programs of nearby constraints there are.
 const NEAR: usize = 2;
 
+// Numbers from here on are limits: of 32-bit numbers, or of what is held.
+const LIMITS: u128 = 1 << 24;
+
 /// How far multipliers are sought.
 #[derive(Clone, Copy, PartialEq, Eq)]
 pub enum Depth {
@@ -188,14 +191,14 @@ fn once(places: &[usize], alloc: Global) -> Result<Found, PathFault> {
     })
 }
 
-// By a linear program.
-fn by_program(
+// By a linear program, whose constraints are multiplied with powers of N up to this one.
+fn by_powers(
     constraints: &[Form],
     places: &[usize],
     target: &Form,
+    most: u32,
     alloc: Global,
 ) -> Result<Option<Found>, PathFault> {
-    let most = highest(constraints).max(highest_in(target)).min(MOST_POWER);
     let columns = columns_of(constraints, places, most, alloc)?;
     let program = program_of(constraints, &columns, target, alloc)?;
     match program.solve(alloc, PIVOTS) {
@@ -205,18 +208,70 @@ fn by_program(
     }
 }
 
+// By a linear program: with as few powers of N as the target has first, which keeps numbers small.
+fn by_program(
+    constraints: &[Form],
+    places: &[usize],
+    target: &Form,
+    alloc: Global,
+) -> Result<Option<Found>, PathFault> {
+    let least = highest_in(target).min(MOST_POWER);
+    let found = by_powers(constraints, places, target, least, alloc)?;
+    let most = highest(constraints).max(least).min(MOST_POWER);
+    if found.is_some() || most == least {
+        return Ok(found);
+    }
+    by_powers(constraints, places, target, most, alloc)
+}
+
+// Whether a constraint has a number that is a limit.
+fn is_limit(constraint: &Form) -> bool {
+    constraint.terms().iter().any(|term| term.symbol.is_none()
+        && term.power == 0
+        && term.coefficient.unsigned_abs() >= LIMITS)
+}
+
+// Which constraints programs are made of.
+#[derive(Clone, Copy)]
+struct Reach {
+    depth: Depth,
+    has_limits: bool,
+}
+
+impl Reach {
+    // How many steps from the seeds are gone at most.
+    fn most(self) -> usize {
+        match self.depth {
+            Depth::All => NEAR,
+            _ => NEAR - 1,
+        }
+    }
+
+    // Whether a constraint may stand in a program.
+    fn takes(self, constraint: &Form) -> bool {
+        self.has_limits || !is_limit(constraint)
+    }
+}
+
 // By linear programs of more and more constraints: first of those that speak of the seeds' symbols
 // alone, and last, if that is wanted, of all that are connected with the seeds.
-fn by_programs(
+fn by_steps(
     constraints: &[Form],
     seeds: &[Form],
     target: &Form,
-    depth: Depth,
+    reach: Reach,
     alloc: Global,
 ) -> Result<Option<Found>, PathFault> {
     let mut tried = 0;
-    for steps in 0..NEAR {
-        let places = near(constraints, seeds, steps, alloc)?;
+    for steps in 0..=reach.most() {
+        let mut places = if steps < NEAR {
+            near(constraints, seeds, steps, alloc)?
+        } else {
+            relevant(constraints, seeds, alloc)?
+        };
+        places.retain(|place| constraints
+            .get(*place)
+            .is_some_and(|form| reach.takes(form)));
         if places.len() > tried {
             tried = places.len();
             let found = by_program(constraints, &places, target, alloc)?;
@@ -225,10 +280,22 @@ fn by_programs(
             }
         }
     }
-    if depth == Depth::All {
-        let places = relevant(constraints, seeds, alloc)?;
-        if places.len() > tried {
-            return by_program(constraints, &places, target, alloc);
+    Ok(None)
+}
+
+// By linear programs: without limits first, which keeps numbers small.
+fn by_programs(
+    constraints: &[Form],
+    seeds: &[Form],
+    target: &Form,
+    depth: Depth,
+    alloc: Global,
+) -> Result<Option<Found>, PathFault> {
+    for has_limits in [false, true] {
+        let reach = Reach { depth, has_limits };
+        let found = by_steps(constraints, seeds, target, reach, alloc)?;
+        if found.is_some() {
+            return Ok(found);
         }
     }
     Ok(None)

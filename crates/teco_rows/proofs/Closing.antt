@@ -15,7 +15,7 @@ use Rattle.teco_rows.specs.declared.measure.Family.TheVariants.{First, Value}
 use Rattle.teco_rows.specs.declared.measure.Measure.{Measure}
 use Rattle.teco_rows.specs.declared.measure.Measure.TheVariants.{One, Each}
 use Rattle.teco_rows.specs.declared.measure.Single.TheVariants.{Steps, Pointer, Size, Held, LineEnd, LineStart}
-use Rattle.teco_rows.specs.declared.measure.Single.TheVariants.{LastLength}
+use Rattle.teco_rows.specs.declared.measure.Single.TheVariants.{LastLength, CodeHere, CodeBefore}
 use Rattle.teco_rows.specs.declared.row.Places.{Places}
 use Rattle.teco_rows.specs.Commands.{IsAtLevel}
 use Rattle.teco_rows.specs.Cases.{value_if}
@@ -71,6 +71,8 @@ module _ (s : Point) (level : Level) (outer : List Level) (here : Places) (e : s
   without (One LineEnd) = refl
   without (One LineStart) = refl
   without (One LastLength) = refl
+  without (One CodeHere) = refl
+  without (One CodeBefore) = refl
   without (Each Number i) = refl
   without (Each Length i) = refl
   without (Each Turns i) = refl

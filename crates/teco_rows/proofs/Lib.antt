@@ -12,4 +12,5 @@ pub mod Commanding
 pub mod Leading
 pub mod Ways
 pub mod Lines
+pub mod Characters
 pub mod Texts

@@ -13,7 +13,7 @@ use Rattle.teco_rows.specs.declared.outcomes.Outcomes.{Outcomes}
 use Rattle.teco_rows.specs.declared.row.Places.{Places}
 use Rattle.teco_rows.specs.declared.measure.Single.{Single}
 use Rattle.teco_rows.specs.declared.measure.Single.TheVariants.{Steps, Pointer, Size, Held, LineEnd, LineStart}
-use Rattle.teco_rows.specs.declared.measure.Single.TheVariants.{LastLength}
+use Rattle.teco_rows.specs.declared.measure.Single.TheVariants.{LastLength, CodeHere, CodeBefore}
 use Rattle.teco_rows.specs.declared.measure.Family.TheVariants.{Number, Length, Turns, PushedNumber, PushedLength}
 use Rattle.teco_rows.specs.declared.measure.Family.TheVariants.{First, Value}
 use Rattle.teco_rows.specs.declared.measure.Measure.{Measure}
@@ -172,6 +172,8 @@ module _ (a row : List Clause) (b : Before) (s : Point) (kept : Kept) (x : ℤ) 
   same LineEnd = refl
   same LineStart = refl
   same LastLength = refl
+  same CodeHere = refl
+  same CodeBefore = refl
 
   through : (m : Measure) (y z : Option ℤ) → z ≡ changed row b m y → changed a b m y ≡ y
       → z ≡ changed (a ++ row) b m y

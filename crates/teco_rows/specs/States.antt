@@ -1,5 +1,6 @@
 -- States as cases see them, and when a case describes one.
-use Rattle.std.specs.Prelude.{◌≡◌, ℕ, ◌+◌, ℤ, pos, List, [], ◌∷◌, ◌++◌, length, Option, Some, None, option_map}
+use Rattle.std.specs.Prelude.{◌≡◌, ℕ, zero, suc, ◌+◌, ℤ, pos}
+use Rattle.std.specs.Prelude.{List, [], ◌∷◌, ◌++◌, length, Option, Some, None, option_map}
 use Rattle.std.specs.Prelude.{option_and_then, slice_get, ◌==◌, if◌then◌else◌}
 use Rattle.teco_base.specs.Lines.{line_place}
 use Rattle.teco_linear.specs.Form.{Valuation}
@@ -12,7 +13,7 @@ use Rattle.teco_model.specs.declared.arguments.Operator.{Operator}
 use Rattle.teco_model.specs.declared.flow.Loop.{Loop}
 use Rattle.teco_rows.specs.declared.measure.Single.{Single}
 use Rattle.teco_rows.specs.declared.measure.Single.TheVariants.{Steps, Pointer, Size, Held, LineEnd, LineStart}
-use Rattle.teco_rows.specs.declared.measure.Single.TheVariants.{LastLength}
+use Rattle.teco_rows.specs.declared.measure.Single.TheVariants.{LastLength, CodeHere, CodeBefore}
 use Rattle.teco_rows.specs.declared.measure.Family.{Family}
 use Rattle.teco_rows.specs.declared.measure.Family.TheVariants.{Number, Length, Turns, PushedNumber, PushedLength}
 use Rattle.teco_rows.specs.declared.measure.Family.TheVariants.{First, Value}
@@ -42,6 +43,19 @@ from_end (x ∷ xs) i = if length xs == i then Some x else from_end xs i
 abbrev pub levels : Arguments → List Level
 levels arguments = arguments.level ∷ arguments.outer
 
+-- one more than a character's code, and 0 where there is no character
+abbrev pub code_if : Option ℕ → ℕ
+code_if None = 0
+code_if (Some c) = c + 1
+
+-- that of the character at a place of a text, and of the one before it
+abbrev pub code_here : List ℕ → ℕ → ℕ
+code_here text pointer = code_if (slice_get text pointer)
+
+abbrev pub code_before : List ℕ → ℕ → ℕ
+code_before text zero = 0
+code_before text (suc p) = code_here text p
+
 -- what a state has once
 abbrev pub single : Point → Single → ℕ
 single s Steps = s.steps
@@ -51,6 +65,8 @@ single s Held = length s.kept.text + s.unread
 single s LineEnd = line_place s.kept.text s.kept.pointer (pos 1)
 single s LineStart = line_place s.kept.text s.kept.pointer (pos 0)
 single s LastLength = s.kept.last_length
+single s CodeHere = code_here s.kept.text s.kept.pointer
+single s CodeBefore = code_before s.kept.text s.kept.pointer
 
 -- the number and the length of the text of a pair
 abbrev pub number_of : Option Pair → Option ℤ

@@ -19,6 +19,10 @@ pub enum Single {
     LineStart,
     /// The length of the last text found or inserted.
     LastLength,
+    /// One more than the code of the character at the pointer, and 0 at the end of the buffer.
+    CodeHere,
+    /// One more than the code of the character before the pointer, and 0 at its start.
+    CodeBefore,
 }
 
 /// A measure that there is of each register, open iteration, pushed pair or argument level.
@@ -54,7 +58,7 @@ impl Single {
     // Its number among those that a state has once.
     fn code(self) -> usize
         ensures value { result ≡ single_code self }
-        ensures within { result < 7 }
+        ensures within { result < 9 }
     {
         match self {
             Single::Steps => 0,
@@ -64,6 +68,8 @@ impl Single {
             Single::LineEnd => 4,
             Single::LineStart => 5,
             Single::LastLength => 6,
+            Single::CodeHere => 7,
+            Single::CodeBefore => 8,
         }
     }
 }
@@ -94,7 +100,7 @@ impl Measure {
     {
         match self {
             Measure::One(single) => single.code(),
-            Measure::Each(family, index) => 7 + 7 * index as usize + family.code(),
+            Measure::Each(family, index) => 9 + 7 * index as usize + family.code(),
         }
     }
 }

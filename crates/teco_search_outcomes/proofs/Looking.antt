@@ -52,7 +52,7 @@ use Rattle.teco_rows.specs.declared.commands.Taken.{Taken}
 use Rattle.teco_rows.specs.declared.measure.Measure.TheVariants.{One}
 use Rattle.teco_rows.specs.declared.measure.Single.{Single}
 use Rattle.teco_rows.specs.declared.measure.Single.TheVariants.{Steps, Pointer, Size, Held, LineEnd, LineStart}
-use Rattle.teco_rows.specs.declared.measure.Single.TheVariants.{LastLength}
+use Rattle.teco_rows.specs.declared.measure.Single.TheVariants.{LastLength, CodeHere, CodeBefore}
 use Rattle.teco_rows.specs.declared.outcomes.Guarded.{Guarded}
 use Rattle.teco_rows.specs.declared.outcomes.Outcomes.{Outcomes}
 use Rattle.teco_rows.specs.declared.row.Places.{Places}
@@ -61,6 +61,7 @@ use Rattle.teco_rows.specs.Commands.{IsTaken}
 use Rattle.teco_rows.specs.Foretold.{Begins, Describe, IsGuarded, Succeeds}
 use Rattle.teco_rows.specs.Rows.{changed}
 use Rattle.teco_rows.specs.States.{Point, IsTrueOf, Describes, single}
+use Rattle.teco_rows.proofs.Characters.{with_codes}
 use Rattle.teco_rows.proofs.Describing.{among}
 use Rattle.teco_rows.proofs.Lines.{line_begin, line_end}
 use Rattle.teco_command_outcomes.specs.Changes.{DescribesFrom, IsChangedFrom, read_given, with_kept, with_steps}
@@ -193,8 +194,10 @@ page_numbers pages kept rest (suc (suc (suc i))) = pos pages
 
 pub is_later_page : (case made : Case) → IsChangedFrom case LATER_PAGE [] made → IsLaterPage case made
 is_later_page case made changes n v s pages kept rest true_of h =
-    changes n v s (s.steps + pages) kept rest (page_numbers pages kept rest) true_of (λ here.
-    changes_later LATER_PAGE (read_given [] n v s (page_numbers pages kept rest) here) s (s.steps + pages) kept rest
+    changes n v s (s.steps + pages) kept rest (with_codes kept.text kept.pointer (page_numbers pages kept rest)) true_of
+    (λ here.
+    changes_later LATER_PAGE (read_given [] n v s (with_codes kept.text kept.pointer (page_numbers pages kept rest))
+    here) s (s.steps + pages) kept rest
     h.registers refl (
       omega (arith, ints, h.some),
       (
@@ -215,7 +218,8 @@ is_later_page case made changes n v s pages kept rest true_of h =
       at k = ap (λ p. line_place kept.text p k) h.pointer
 
       singles : (here : Places) (which : Single) → Some (pos (single (with_steps s (s.steps + pages) kept rest) which))
-          ≡ changed LATER_PAGE (read_given [] n v s (page_numbers pages kept rest) here) (One which)
+          ≡ changed LATER_PAGE (read_given [] n v s (with_codes kept.text kept.pointer (page_numbers pages kept rest))
+          here) (One which)
           (Some (pos (single s which)))
       singles here Steps = ap Some (omega (arith, ints))
       singles here Pointer = ap Some (omega (arith, ints, h.pointer))
@@ -224,11 +228,15 @@ is_later_page case made changes n v s pages kept rest true_of h =
       singles here LineEnd = ap Some (omega (arith, ints, at (pos 1)))
       singles here LineStart = ap Some (omega (arith, ints, at (pos 0), start))
       singles here LastLength = ap (λ k. Some (pos k)) h.last
+      singles here CodeHere = ap Some (omega (arith, ints))
+      singles here CodeBefore = ap Some (omega (arith, ints))
 
 pub is_through : (case made : Case) → IsChangedFrom case THROUGH [] made → IsThrough case made
 is_through case made changes n v s pages kept rest true_of h =
-    let d = changes n v s (s.steps + pages) kept rest (λ i. pos pages) true_of (λ here.
-    changes_later THROUGH (read_given [] n v s (λ i. pos pages) here) s (s.steps + pages) kept rest h.registers refl
+    let d = changes n v s (s.steps + pages) kept rest (with_codes kept.text kept.pointer (λ i. pos pages)) true_of
+    (λ here.
+    changes_later THROUGH (read_given [] n v s (with_codes kept.text kept.pointer (λ i. pos pages)) here) s
+    (s.steps + pages) kept rest h.registers refl
     (omega (arith, ints), (omega (arith, ints, h.left), tt)) (singles here)) in
     (d.0, d.2) where
       empty : length kept.text ≡ 0
@@ -244,7 +252,8 @@ is_through case made changes n v s pages kept rest true_of h =
       at k = ap (λ t. line_place t kept.pointer k) h.text ∙ ap (λ p. line_place [] p k) h.pointer
 
       singles : (here : Places) (which : Single) → Some (pos (single (with_steps s (s.steps + pages) kept rest) which))
-          ≡ changed THROUGH (read_given [] n v s (λ i. pos pages) here) (One which) (Some (pos (single s which)))
+          ≡ changed THROUGH (read_given [] n v s (with_codes kept.text kept.pointer (λ i. pos pages)) here) (One which)
+          (Some (pos (single s which)))
       singles here Steps = ap Some (omega (arith, ints))
       singles here Pointer = ap Some (omega (arith, ints, h.pointer))
       singles here Size = ap Some (omega (arith, ints, empty))
@@ -252,6 +261,8 @@ is_through case made changes n v s pages kept rest true_of h =
       singles here LineEnd = ap Some (omega (arith, ints, at (pos 1), end))
       singles here LineStart = ap Some (omega (arith, ints, at (pos 0), start))
       singles here LastLength = ap (λ k. Some (pos k)) h.last
+      singles here CodeHere = ap Some (omega (arith, ints))
+      singles here CodeBefore = ap Some (omega (arith, ints))
 
 -- what is found on a later page is kept, and a case describes the state with it
 abbrev pub KeepsLater : Search → Element → List Part → Case → Case → Case → List Guarded → Type 0

@@ -42,14 +42,15 @@ use Rattle.teco_rows.specs.declared.commands.Taken.{Taken}
 use Rattle.teco_rows.specs.declared.measure.Measure.TheVariants.{One}
 use Rattle.teco_rows.specs.declared.measure.Single.{Single}
 use Rattle.teco_rows.specs.declared.measure.Single.TheVariants.{Steps, Pointer, Size, Held, LineEnd, LineStart}
-use Rattle.teco_rows.specs.declared.measure.Single.TheVariants.{LastLength}
+use Rattle.teco_rows.specs.declared.measure.Single.TheVariants.{LastLength, CodeHere, CodeBefore}
 use Rattle.teco_rows.specs.declared.outcomes.Outcomes.{Outcomes}
 use Rattle.teco_rows.specs.declared.row.Places.{Places}
 use Rattle.teco_rows.specs.Cases.{value_if}
 use Rattle.teco_rows.specs.Commands.{IsTaken, commanded, taken_by}
 use Rattle.teco_rows.specs.Foretold.{Describe, IsOne, Succeeds}
 use Rattle.teco_rows.specs.Rows.{changed}
-use Rattle.teco_rows.specs.States.{Point, IsTrueOf, Describes, single}
+use Rattle.teco_rows.specs.States.{Point, IsTrueOf, Describes, single, code_here, code_before}
+use Rattle.teco_rows.proofs.Characters.{with_codes}
 use Rattle.teco_rows.proofs.Describing.{among}
 use Rattle.teco_rows.proofs.Giving.{describes_one}
 use Rattle.teco_rows.proofs.Lines.{IsEnd, above_or, end_least, ends, line_begin, line_end, one_begin}
@@ -96,6 +97,17 @@ pub behind_there : (o : Option Input)
 behind_there None = refl
 behind_there (Some input) = refl
 
+-- a text goes on behind another, before which nothing changes
+here_joined : (text added : List ℕ) (k : ℕ) → k < length text → code_here (text ++ added) k ≡ code_here text k
+here_joined [] added k h = absurd (omega arith)
+here_joined (c ∷ text) added zero h = refl
+here_joined (c ∷ text) added (suc k) h = here_joined text added k (omega arith)
+
+before_joined : (text added : List ℕ) (p : ℕ) → p ≤ length text
+    → code_before (text ++ added) p ≡ code_before text p
+before_joined text added zero h = refl
+before_joined text added (suc p) h = here_joined text added p (omega arith)
+
 -- ---- the next page in the place of the buffer
 abbrev unknowns_of : List ℕ → ℕ → ℤ
 unknowns_of bytes zero = pos (length (before_form_feed bytes))
@@ -118,8 +130,9 @@ module _ (s : Point) (bytes : List ℕ) (same : s.unread ≡ length bytes) where
   turned_describes : (n : ℕ) (v : Valuation) (case made : Case) → 1 ≤ length bytes → IsChanged case TURNED [] made
       → IsTrueOf n v case s → Describes n made (with_next_page s bytes)
   turned_describes n v case made some changes true_of =
-      changes n v s kept rest (unknowns_of bytes) true_of (λ here.
-      changes_singles TURNED (read_given [] n v s (unknowns_of bytes) here) s kept rest refl refl (
+      changes n v s kept rest (with_codes kept.text kept.pointer (unknowns_of bytes)) true_of (λ here.
+      changes_singles TURNED (read_given [] n v s (with_codes kept.text kept.pointer (unknowns_of bytes)) here) s kept
+      rest refl refl (
         omega (arith, ints),
         (
           omega (arith, ints),
@@ -145,7 +158,8 @@ module _ (s : Point) (bytes : List ℕ) (same : s.unread ≡ length bytes) where
         parts = split bytes
 
         singles : (here : Places) (which : Single) → Some (pos (single (with_page s kept rest) which))
-            ≡ changed TURNED (read_given [] n v s (unknowns_of bytes) here) (One which) (Some (pos (single s which)))
+            ≡ changed TURNED (read_given [] n v s (with_codes kept.text kept.pointer (unknowns_of bytes)) here)
+            (One which) (Some (pos (single s which)))
         singles here Steps = refl
         singles here Pointer = ap Some (omega (arith, ints))
         singles here Size = ap Some (omega (arith, ints))
@@ -153,18 +167,22 @@ module _ (s : Point) (bytes : List ℕ) (same : s.unread ≡ length bytes) where
         singles here LineEnd = ap Some (omega (arith, ints))
         singles here LineStart = ap Some (omega (arith, ints, start))
         singles here LastLength = refl
+        singles here CodeHere = ap Some (omega (arith, ints))
+        singles here CodeBefore = ap Some (omega (arith, ints))
 
   emptied_describes : (n : ℕ) (v : Valuation) (case made : Case) → length bytes ≡ 0 → IsChanged case EMPTIED [] made
       → IsTrueOf n v case s → Describes n made (with_next_page s bytes)
   emptied_describes n v case made none changes true_of =
-      changes n v s kept rest (λ i. pos 0) true_of (λ here.
-      changes_singles EMPTIED (read_given [] n v s (λ i. pos 0) here) s kept rest refl refl
+      changes n v s kept rest (with_codes kept.text kept.pointer (λ i. pos 0)) true_of (λ here.
+      changes_singles EMPTIED (read_given [] n v s (with_codes kept.text kept.pointer (λ i. pos 0)) here) s kept rest
+      refl refl
       (omega (arith, ints, same, none), tt) (singles here)) where
         parts : IsSplit (length (before_form_feed bytes)) (length (behind_form_feed bytes)) (length bytes)
         parts = split bytes
 
         singles : (here : Places) (which : Single) → Some (pos (single (with_page s kept rest) which))
-            ≡ changed EMPTIED (read_given [] n v s (λ i. pos 0) here) (One which) (Some (pos (single s which)))
+            ≡ changed EMPTIED (read_given [] n v s (with_codes kept.text kept.pointer (λ i. pos 0)) here) (One which)
+            (Some (pos (single s which)))
         singles here Steps = refl
         singles here Pointer = ap Some (omega (arith, ints))
         singles here Size = ap Some (omega (arith, ints, parts.within, none))
@@ -172,6 +190,8 @@ module _ (s : Point) (bytes : List ℕ) (same : s.unread ≡ length bytes) where
         singles here LineEnd = ap Some (omega (arith, ints, end, parts.within, none))
         singles here LineStart = ap Some (omega (arith, ints, start))
         singles here LastLength = refl
+        singles here CodeHere = ap Some (omega (arith, ints))
+        singles here CodeBefore = ap Some (omega (arith, ints))
 
 pub turns_page : (case emptied turned none some : Case) (cases : List Case) → IsChangedFrom case EMPTIED [] emptied
     → IsChangedFrom case TURNED [] turned → IsTold emptied None none → IsTold turned None some
@@ -383,10 +403,13 @@ module _ (s : Point) (c : ℕ) (rest : List ℕ) (whole : IsWhole s.kept) (same 
   abbrev behind_it : ℕ
   behind_it = length (behind_first_page (c ∷ rest))
 
+  abbrev lines_behind : ℕ → ℤ
+  lines_behind zero = pos (length added)
+  lines_behind (suc zero) = pos behind_it
+  lines_behind (suc (suc i)) = pos (line_place (s.kept.text ++ added) s.kept.pointer (pos 1))
+
   abbrev unknown : ℕ → ℤ
-  unknown zero = pos (length added)
-  unknown (suc zero) = pos behind_it
-  unknown (suc (suc i)) = pos (line_place (s.kept.text ++ added) s.kept.pointer (pos 1))
+  unknown = with_codes kept_longer.text kept_longer.pointer lines_behind
 
   longer_describes : (n : ℕ) (v : Valuation) (case made : Case) → IsChanged case APPENDED [] made → IsTrueOf n v case s
       → Describes n made (with_page s kept_longer behind_it)
@@ -438,6 +461,8 @@ module _ (s : Point) (c : ℕ) (rest : List ℕ) (whole : IsWhole s.kept) (same 
         singles here LineEnd = ap Some (omega (arith, ints))
         singles here LineStart = ap (λ x. Some (pos x)) (kept_start s.kept.text added s.kept.pointer whole.inside)
         singles here LastLength = refl
+        singles here CodeHere = ap Some (omega (arith, ints))
+        singles here CodeBefore = ap (λ x. Some (pos x)) (before_joined s.kept.text added s.kept.pointer whole.inside)
 
 same_single : (s : Point) (which : Single)
     → Some (pos (single (with_page s s.kept s.unread) which)) ≡ Some (pos (single s which))
@@ -448,6 +473,8 @@ same_single s Held = refl
 same_single s LineEnd = refl
 same_single s LineStart = refl
 same_single s LastLength = refl
+same_single s CodeHere = refl
+same_single s CodeBefore = refl
 
 stays_describes : (s : Point) (n : ℕ) (v : Valuation) (case made : Case) → s.unread ≡ 0 → IsChanged case STAYS [] made
     → IsTrueOf n v case s → Describes n made (with_page s s.kept s.unread)

@@ -23,12 +23,12 @@ use Rattle.teco_rows.specs.declared.measure.Family.TheVariants.{First, Value}
 use Rattle.teco_rows.specs.declared.measure.Measure.{Measure}
 use Rattle.teco_rows.specs.declared.measure.Measure.TheVariants.{One, Each}
 use Rattle.teco_rows.specs.declared.measure.Single.TheVariants.{Steps, Pointer, Size, Held, LineEnd, LineStart}
-use Rattle.teco_rows.specs.declared.measure.Single.TheVariants.{LastLength}
+use Rattle.teco_rows.specs.declared.measure.Single.TheVariants.{LastLength, CodeHere, CodeBefore}
 use Rattle.teco_rows.specs.declared.row.Clause.{Clause}
 use Rattle.teco_rows.specs.declared.row.Clause.TheVariants.{Sets, Drops, Wants}
 use Rattle.teco_rows.specs.declared.row.Places.{Places}
 use Rattle.teco_rows.specs.Rows.{AreMet, Before, changed}
-use Rattle.teco_rows.specs.States.{Point, IsTrueOf, from_end, length_of, measures_of}
+use Rattle.teco_rows.specs.States.{Point, IsTrueOf, from_end, length_of, measures_of, code_here, code_before}
 use Rattle.teco_rows.specs.States.{number_of}
 use Rattle.teco_search_outcomes.specs.declared.searches.Direction.{Direction}
 use Rattle.teco_search_outcomes.specs.declared.searches.Direction.TheVariants.{Ahead, Back, Here}
@@ -40,6 +40,7 @@ use Rattle.teco_command_outcomes.specs.Changes.{Changes, IsChangedFrom, read_giv
 use Rattle.teco_search_outcomes.specs.Searches.{HasFound, HasReplaced, IsFoundBy, IsKnown}
 use Rattle.teco_search_outcomes.specs.Searches.{IsMissed, IsMissedPlace, IsReplacedBy, LiesTo, HasRoom}
 use Rattle.teco_search_outcomes.specs.Searches.{direction_clauses, extra_clauses}
+use Rattle.teco_rows.proofs.Characters.{with_codes}
 use Rattle.teco_rows.proofs.Applying.{changed-append}
 use Rattle.teco_rows.proofs.Lines.{IsBegin, IsEnd, above_or, begin_before, begin_most, clash, end_before, ends}
 use Rattle.teco_rows.proofs.Lines.{line_begin, line_end, one_begin, one_end}
@@ -128,9 +129,14 @@ record Facts (s : Point) (span : Span) (known : Known) (long e t : ℕ) : Type 0
   stays : known.stays_in_line ≡ true → t ≤ span.start
 
 module _ (s : Point) (span : Span) (known : Known) (long e t : ℕ) (given : ℕ → ℤ) (here : Places)
-    (facts : Facts s span known long e t) (long_is : given 0 ≡ pos long) where
+    (facts : Facts s span known long e t) (long_is : given 0 ≡ pos long) (behind : Kept) where
   abbrev b : Before
-  b = record { here = here; measures = measures_of s; given = given; unknown = numbers span e t }
+  b = record {
+    here = here;
+    measures = measures_of s;
+    given = given;
+    unknown = with_codes behind.text behind.pointer (numbers span e t);
+  }
 
   met_lies : AreMet LIES b
   met_lies = (
@@ -169,18 +175,18 @@ module _ (s : Point) (span : Span) (known : Known) (long e t : ℕ) (given : ℕ
       (met_if known.stays_in_line SAME_LINE b (λ so. (omega (arith, ints, facts.stays so), tt)))
 
   -- S
-  found_changes : (kept : Kept) → HasFound span s.kept kept
+  found_changes : HasFound span s.kept behind
       → e ≡ line_place s.kept.text span.end (pos 1) → t ≡ line_place s.kept.text span.end (pos 0) → t ≤ span.end
-      → Changes FOUND b s (with_kept s kept)
-  found_changes kept found e_is t_is before = record {
+      → Changes FOUND b s (with_kept s behind)
+  found_changes found e_is t_is before = record {
     met = (omega (arith, ints), tt);
     becomes = becomes;
     pushes = ap (λ r. length r.stack) found.registers;
   } where
-    place : (k : ℤ) → line_place kept.text kept.pointer k ≡ line_place s.kept.text span.end k
-    place k = ap (λ x. line_place x kept.pointer k) found.text ∙ ap (λ p. line_place s.kept.text p k) found.pointer
+    place : (k : ℤ) → line_place behind.text behind.pointer k ≡ line_place s.kept.text span.end k
+    place k = ap (λ x. line_place x behind.pointer k) found.text ∙ ap (λ p. line_place s.kept.text p k) found.pointer
 
-    becomes : (m : Measure) → measures_of (with_kept s kept) m ≡ changed FOUND b m (measures_of s m)
+    becomes : (m : Measure) → measures_of (with_kept s behind) m ≡ changed FOUND b m (measures_of s m)
     becomes (One Steps) = refl
     becomes (One Pointer) = ap Some (omega (arith, ints, found.pointer))
     becomes (One Size) = ap (λ x. Some (pos (length x))) found.text
@@ -188,6 +194,8 @@ module _ (s : Point) (span : Span) (known : Known) (long e t : ℕ) (given : ℕ
     becomes (One LineEnd) = ap Some (omega (arith, ints, place (pos 1)))
     becomes (One LineStart) = ap Some (omega (arith, ints, place (pos 0)))
     becomes (One LastLength) = ap Some (omega (arith, ints, found.last, facts.some))
+    becomes (One CodeHere) = ap Some (omega (arith, ints))
+    becomes (One CodeBefore) = ap Some (omega (arith, ints))
     becomes (Each Number i) = ap (λ r. number_of (slice_get r.pairs i)) found.registers
     becomes (Each Length i) = ap (λ r. length_of (slice_get r.pairs i)) found.registers
     becomes (Each Turns i) = refl
@@ -197,17 +205,17 @@ module _ (s : Point) (span : Span) (known : Known) (long e t : ℕ) (given : ℕ
     becomes (Each Value i) = refl
 
   -- FS
-  replaced_changes : (text : List ℕ) (kept : Kept) → HasReplaced span text s.kept kept → given 1 ≡ pos (length text)
-      → length kept.text + span.end ≡ span.start + length text + length s.kept.text
-      → line_place kept.text kept.pointer (pos 1) + span.end ≡ e + span.start + length text
-      → t ≡ line_place kept.text kept.pointer (pos 0) → t ≤ span.start + length text
-      → Changes REPLACED b s (with_kept s kept)
-  replaced_changes text kept replaced given_is long_now end_now t_is before = record {
+  replaced_changes : (text : List ℕ) → HasReplaced span text s.kept behind → given 1 ≡ pos (length text)
+      → length behind.text + span.end ≡ span.start + length text + length s.kept.text
+      → line_place behind.text behind.pointer (pos 1) + span.end ≡ e + span.start + length text
+      → t ≡ line_place behind.text behind.pointer (pos 0) → t ≤ span.start + length text
+      → Changes REPLACED b s (with_kept s behind)
+  replaced_changes text replaced given_is long_now end_now t_is before = record {
     met = (omega (arith, ints), tt);
     becomes = becomes;
     pushes = ap (λ r. length r.stack) replaced.registers;
   } where
-    becomes : (m : Measure) → measures_of (with_kept s kept) m ≡ changed REPLACED b m (measures_of s m)
+    becomes : (m : Measure) → measures_of (with_kept s behind) m ≡ changed REPLACED b m (measures_of s m)
     becomes (One Steps) = refl
     becomes (One Pointer) = ap Some (omega (arith, ints, replaced.pointer))
     becomes (One Size) = ap Some (omega (arith, ints))
@@ -215,6 +223,8 @@ module _ (s : Point) (span : Span) (known : Known) (long e t : ℕ) (given : ℕ
     becomes (One LineEnd) = ap Some (omega (arith, ints))
     becomes (One LineStart) = ap Some (omega (arith, ints))
     becomes (One LastLength) = ap Some (omega (arith, ints, replaced.last))
+    becomes (One CodeHere) = ap Some (omega (arith, ints))
+    becomes (One CodeBefore) = ap Some (omega (arith, ints))
     becomes (Each Number i) = ap (λ r. number_of (slice_get r.pairs i)) replaced.registers
     becomes (Each Length i) = ap (λ r. length_of (slice_get r.pairs i)) replaced.registers
     becomes (Each Turns i) = refl
@@ -320,12 +330,14 @@ finds case made parts direction known least row more is extra row_is long change
           goes_on s.kept.text span.start span.end t begin
           (λ k a b. match_stays s.kept.registers of.exact parts s.kept.text span k (is.stays so) of.matches a b);
     } in
-    changes_plainly case made row (least ∷ []) changes n v s kept s.unread (numbers span e t) true_of (λ here.
-    subst (λ r. Changes r (read_given (least ∷ []) n v s (numbers span e t) here) s (with_kept s kept))
+    changes_plainly case made row (least ∷ []) changes n v s kept s.unread
+    (with_codes kept.text kept.pointer (numbers span e t)) true_of (λ here.
+    subst (λ r. Changes r (read_given (least ∷ []) n v s (with_codes kept.text kept.pointer (numbers span e t)) here) s
+    (with_kept s kept))
     (sym (row_is ∙ ap (λ r. FOUND ++ r) extra))
     (changes_more FOUND (extra_clauses known) _ s kept (wants_extras known)
     (met_extras s span known (length items) e t (given_by (least ∷ []) n v) here facts
-    (long of.exact n v s true_of whole))
+    (long of.exact n v s true_of whole) kept)
     refl
     (found_changes s span known (length items) e t (given_by (least ∷ []) n v) here facts
     (long of.exact n v s true_of whole) kept found refl refl begin.before)))
@@ -348,8 +360,9 @@ pub replaces : (case made : Case) (parts : List Part) (direction : Direction) (k
     → IsChangedFrom case row (least ∷ long ∷ last ∷ []) made → IsReplacedBy parts direction text case made
 replaces case made parts direction known other text least long last row more towards exact stead extra row_is least_is
     long_is last_is changes n v s span kept true_of whole of replaced =
-    changes n v s s.steps kept s.unread (numbers span e t) true_of (λ here.
-    subst (λ r. Changes r (read_given (least ∷ long ∷ last ∷ []) n v s (numbers span e t) here) s (with_kept s kept))
+    changes n v s s.steps kept s.unread (with_codes kept.text kept.pointer (numbers span e t)) true_of (λ here.
+    subst (λ r. Changes r (read_given (least ∷ long ∷ last ∷ []) n v s
+    (with_codes kept.text kept.pointer (numbers span e t)) here) s (with_kept s kept))
     (sym (row_is ∙ ap (λ r. (REPLACED ++ r) ++ (if other then OTHER_LINE else [])) extra))
     (changes_more (REPLACED ++ extra_clauses known) (if other then OTHER_LINE else []) _ s kept
     (wants_if other OTHER_LINE refl) (met_if other OTHER_LINE _ (λ so.
@@ -357,10 +370,10 @@ replaces case made parts direction known other text least long last row more tow
     (omega (arith, ints, there, last_there), (omega (arith, ints, there, last_there), tt)))) refl
     (changes_more REPLACED (extra_clauses known) _ s kept (wants_extras known)
     (met_extras s span known (length items) e t (given_by (least ∷ long ∷ last ∷ []) n v) here facts
-    (least_is of.exact n v s true_of whole))
+    (least_is of.exact n v s true_of whole) kept)
     refl
     (replaced_changes s span known (length items) e t (given_by (least ∷ long ∷ last ∷ []) n v) here facts
-    (least_is of.exact n v s true_of whole) text kept replaced (long_is n v) grown ended refl before)))) where
+    (least_is of.exact n v s true_of whole) kept text replaced (long_is n v) grown ended refl before)))) where
       items : List Item
       items = items_in s.kept.registers of.exact parts
 
@@ -457,6 +470,10 @@ same_kept s kept text pointer registers last (One LineStart) =
     ap (λ x. Some (pos (line_place x kept.pointer (pos 0)))) text
     ∙ ap (λ p. Some (pos (line_place s.kept.text p (pos 0)))) pointer
 same_kept s kept text pointer registers last (One LastLength) = ap (λ k. Some (pos k)) last
+same_kept s kept text pointer registers last (One CodeHere) =
+    ap (λ x. Some (pos (code_here x kept.pointer))) text ∙ ap (λ p. Some (pos (code_here s.kept.text p))) pointer
+same_kept s kept text pointer registers last (One CodeBefore) =
+    ap (λ x. Some (pos (code_before x kept.pointer))) text ∙ ap (λ p. Some (pos (code_before s.kept.text p))) pointer
 same_kept s kept text pointer registers last (Each Number i) = ap (λ r. number_of (slice_get r.pairs i)) registers
 same_kept s kept text pointer registers last (Each Length i) = ap (λ r. length_of (slice_get r.pairs i)) registers
 same_kept s kept text pointer registers last (Each Turns i) = refl
@@ -490,7 +507,8 @@ starts_there (suc (suc colons)) old new h k = absurd (omega arith)
 pub misses : (case made : Case) (colons : ℕ) → colons < 2 → IsChangedFrom case STARTED [] made
     → IsMissed colons case made
 misses case made colons one changes n v s kept true_of whole missed =
-    changes_plainly case made STARTED [] changes n v s kept s.unread (λ i. pos e) true_of (λ here. record {
+    changes_plainly case made STARTED [] changes n v s kept s.unread (with_codes kept.text kept.pointer (λ i. pos e))
+    true_of (λ here. record {
       met = (omega (arith, ints), (omega (arith, ints, end.within), tt));
       becomes = becomes here;
       pushes = ap (λ r. length r.stack) missed.registers;
@@ -511,7 +529,8 @@ misses case made colons one changes n v s kept true_of whole missed =
       start = (line_begin s.kept.text 0).before
 
       becomes : (here : Places) (m : Measure) → measures_of (with_kept s kept) m
-          ≡ changed STARTED (read_given [] n v s (λ i. pos e) here) m (measures_of s m)
+          ≡ changed STARTED (read_given [] n v s (with_codes kept.text kept.pointer (λ i. pos e)) here) m
+          (measures_of s m)
       becomes here (One Steps) = refl
       becomes here (One Pointer) = ap Some (omega (arith, ints, at))
       becomes here (One Size) = ap (λ x. Some (pos (length x))) missed.text
@@ -519,6 +538,8 @@ misses case made colons one changes n v s kept true_of whole missed =
       becomes here (One LineEnd) = ap Some (omega (arith, ints, place (pos 1)))
       becomes here (One LineStart) = ap Some (omega (arith, ints, place (pos 0), start))
       becomes here (One LastLength) = ap (λ k. Some (pos k)) missed.last
+      becomes here (One CodeHere) = ap Some (omega (arith, ints))
+      becomes here (One CodeBefore) = ap Some (omega (arith, ints))
       becomes here (Each Number i) = ap (λ r. number_of (slice_get r.pairs i)) missed.registers
       becomes here (Each Length i) = ap (λ r. length_of (slice_get r.pairs i)) missed.registers
       becomes here (Each Turns i) = refl

@@ -13,7 +13,7 @@ use crate::searches::{Asked, Direction, YES, ended, find, fitted, replace};
 use std::alloc::Global;
 use teco_command_outcomes::changes::{changed, told};
 use teco_command_outcomes::deletions::HELD;
-use teco_command_outcomes::motions::{LINE_END, LINE_START, POINTER, SIZE};
+use teco_command_outcomes::motions::{ANY_BEFORE, ANY_HERE, LINE_END, LINE_START, POINTER, SIZE};
 use teco_linear::Form;
 use teco_model::Element;
 use teco_model::kind::Search;
@@ -45,7 +45,9 @@ const STARTS: Clause = Clause::Sets(LINE_START, 0, [NO, NO, NO, NO]);
 
 // Some pages later one is in the place of the buffer. Each of them takes a character of what is
 // unread at least.
-const LATER_PAGE: [Clause; 13] = [
+const LATER_PAGE: [Clause; 15] = [
+    ANY_HERE,
+    ANY_BEFORE,
     LATER,
     AT_START,
     STARTS,
@@ -78,7 +80,9 @@ const LATER_PAGE: [Clause; 13] = [
 ];
 
 // None is left, and the buffer is empty.
-const THROUGH: [Clause; 8] = [
+const THROUGH: [Clause; 10] = [
+    ANY_HERE,
+    ANY_BEFORE,
     LATER,
     AT_START,
     STARTS,

@@ -15,7 +15,7 @@ use teco_base::LIMIT;
 use teco_command_outcomes::changes::{changed, told};
 use teco_command_outcomes::deletions::{HELD, both_in_buffer};
 use teco_command_outcomes::insertions::counted;
-use teco_command_outcomes::motions::{LINE_END, LINE_START, POINTER, SIZE};
+use teco_command_outcomes::motions::{ANY_BEFORE, ANY_HERE, LINE_END, LINE_START, POINTER, SIZE};
 use teco_linear::Form;
 use teco_model::kind::Page;
 use teco_rows::case::Case;
@@ -75,7 +75,9 @@ const ALL_READ: Clause = Clause::Wants(0, [(1, Of::Was(SIZE)), (-1, Of::Was(HELD
 const ENDS: Clause = Clause::Sets(LINE_END, 0, [(1, END), NO, NO, NO]);
 
 // Nothing is unread, and the buffer is empty then.
-const EMPTIED: [Clause; 6] = [
+const EMPTIED: [Clause; 8] = [
+    ANY_HERE,
+    ANY_BEFORE,
     AT_START,
     STARTS,
     Clause::Sets(SIZE, 0, [NO, NO, NO, NO]),
@@ -85,7 +87,9 @@ const EMPTIED: [Clause; 6] = [
 ];
 
 // A page is in the place of the buffer.
-const TURNED: [Clause; 13] = [
+const TURNED: [Clause; 15] = [
+    ANY_HERE,
+    ANY_BEFORE,
     AT_START,
     STARTS,
     Clause::Sets(SIZE, 0, [(1, PAGE), NO, NO, NO]),
@@ -102,7 +106,8 @@ const TURNED: [Clause; 13] = [
 ];
 
 // A page is behind the buffer, and the line of the pointer may go on in it.
-const APPENDED: [Clause; 11] = [
+const APPENDED: [Clause; 12] = [
+    ANY_HERE,
     Clause::Sets(SIZE, 0, [(1, Of::Was(SIZE)), (1, PAGE), NO, NO]),
     Clause::Sets(HELD, 0, [(1, Of::Was(SIZE)), (1, PAGE), (1, REST), NO]),
     ENDS,

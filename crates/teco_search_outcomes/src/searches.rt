@@ -15,7 +15,7 @@ use teco_base::LIMIT;
 use teco_command_outcomes::changes::{changed, told};
 use teco_command_outcomes::deletions::HELD;
 use teco_command_outcomes::insertions::{counted, last_start};
-use teco_command_outcomes::motions::{LINE_END, LINE_START, POINTER, SIZE};
+use teco_command_outcomes::motions::{ANY_BEFORE, ANY_HERE, LINE_END, LINE_START, POINTER, SIZE};
 use teco_flow_outcomes::flow::left;
 use teco_flow_outcomes::ranges::Range;
 use teco_linear::Form;
@@ -94,7 +94,9 @@ const LIES: [Clause; 6] = [
 ];
 
 // The pointer is behind it.
-const FOUND: [Clause; 5] = [
+const FOUND: [Clause; 7] = [
+    ANY_HERE,
+    ANY_BEFORE,
     Clause::Sets(POINTER, 0, [(1, PLACE), NO, NO, NO]),
     Clause::Sets(LINE_END, 0, [(1, END), NO, NO, NO]),
     Clause::Sets(LINE_START, 0, [(1, BEGIN), NO, NO, NO]),
@@ -103,7 +105,9 @@ const FOUND: [Clause; 5] = [
 ];
 
 // Another text is in its stead, and the pointer behind that.
-const REPLACED: [Clause; 7] = [
+const REPLACED: [Clause; 9] = [
+    ANY_HERE,
+    ANY_BEFORE,
     Clause::Sets(POINTER, 0, [(1, START), (1, LONG), NO, NO]),
     Clause::Sets(
         SIZE,
@@ -122,7 +126,9 @@ const REPLACED: [Clause; 7] = [
 ];
 
 // Where nothing is found the pointer goes to the start of the buffer.
-const STARTED: [Clause; 5] = [
+const STARTED: [Clause; 7] = [
+    ANY_HERE,
+    ANY_BEFORE,
     Clause::Sets(POINTER, 0, [NO, NO, NO, NO]),
     Clause::Sets(LINE_START, 0, [NO, NO, NO, NO]),
     Clause::Sets(LINE_END, 0, [(1, START), NO, NO, NO]),
