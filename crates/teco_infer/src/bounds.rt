@@ -1,5 +1,5 @@
 // Bounds on the differences of a few symbols.
-use crate::numbers::{floor, plus};
+use crate::numbers::{ceiling, floor, plus};
 use crate::units::Units;
 use std::alloc::{AllocError, Global};
 use teco_linear::{Difference, Form, Term};
@@ -15,6 +15,8 @@ pub struct Bounds {
     table: Vec<i64>,
     is_void: bool,
     is_rough: bool,
+    // Whether quotients are rounded so that no more is said than multipliers show.
+    is_exact: bool,
 }
 
 // A form taken once or minus once, without the terms of two symbols.
@@ -57,6 +59,7 @@ impl Bounds {
             table,
             is_void: false,
             is_rough: false,
+            is_exact: false,
         })
     }
 
@@ -66,6 +69,7 @@ impl Bounds {
             table: Vec::from_slice(alloc, &self.table)?,
             is_void: self.is_void,
             is_rough: self.is_rough,
+            is_exact: self.is_exact,
         })
     }
 
@@ -77,6 +81,21 @@ impl Bounds {
     // Whether something was added that is no bound on a difference.
     pub fn is_rough(&self) -> bool {
         self.is_rough
+    }
+
+    // Takes no more of what is added than multipliers show.
+    pub fn make_exact(&mut self) {
+        self.is_exact = true;
+    }
+
+    // A quotient of whole numbers as a bound: what is no more than it is no more than its whole part, but
+    // multipliers do not show that.
+    fn quotient(&self, number: i64, divisor: i64) -> i64 {
+        if self.is_exact {
+            ceiling(number, divisor)
+        } else {
+            floor(number, divisor)
+        }
     }
 
     // Whether these are the same bounds of the same symbols.
@@ -152,6 +171,7 @@ impl Bounds {
             table,
             is_void: self.is_void,
             is_rough: self.is_rough,
+            is_exact: self.is_exact,
         })
     }
 
@@ -409,9 +429,9 @@ impl Bounds {
                 i64::try_from(term.coefficient),
             ) {
                 if times > 0 {
-                    self.lower(0, place, floor(most, times));
+                    self.lower(0, place, self.quotient(most, times));
                 } else if times < 0 {
-                    self.lower(place, 0, floor(most, times.saturating_neg()));
+                    self.lower(place, 0, self.quotient(most, times.saturating_neg()));
                 }
             }
             if term.coefficient == 1 {

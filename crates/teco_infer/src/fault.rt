@@ -35,12 +35,13 @@ pub enum Refusal {
     Memory,
 }
 
-// Why a part of the search stops: it gives up, it is begun again with a cut point more, or what it
-// rests on was not the last word.
+// Why a part of the search stops: it gives up, it is begun again with a cut point more, or with the
+// number in a place no longer taken to be tame, or what it rests on was not the last word.
 #[derive(Clone, Copy, Debug, PartialEq, Eq)]
 pub enum Stop {
     Refused(Refusal),
     CutAt(usize),
+    Wild(u32),
     Unstable,
 }
 

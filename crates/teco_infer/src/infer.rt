@@ -4,11 +4,11 @@ ghost use Rattle.teco_paths.specs.Sure.{IsCertain};
 
 use crate::fault::{Refusal, Stop};
 use crate::keys::Flag;
-use crate::measures::{spoken_of, used_of};
+use crate::measures::{NUMBER, family_of, place_of, spoken_of, used_of};
 use crate::promises::all_promises;
 use crate::search::Search;
 use std::alloc::Global;
-use teco_base::{LIMIT, Reg};
+use teco_base::LIMIT;
 use teco_claims::Claims;
 use teco_expansion::Nodes;
 use teco_model::kind::{Argument, Command, Flow, Storage};
@@ -20,8 +20,41 @@ use teco_paths::fault::PathFault;
 // How many steps the search may take.
 const FUEL: usize = 80_000;
 
-// How many cases a node may have, try by try, before it becomes a cut point.
-const MOST_CASES: [usize; ATTEMPTS] = [12, 8, 24];
+// A way to search.
+#[derive(Clone, Copy)]
+struct Way {
+    // How many cases a node may have before it becomes a cut point.
+    most_cases: usize,
+    // Whether paths are cut at the end of each body, so that they go through its first turn, and not
+    // at its start.
+    is_late: bool,
+    // Whether numbers are taken to be tame, and no more is taken of constraints than multipliers show.
+    is_tame: bool,
+}
+
+// The ways, one after the other.
+const WAYS: [Way; ATTEMPTS] = [
+    Way {
+        most_cases: 26,
+        is_late: false,
+        is_tame: false,
+    },
+    Way {
+        most_cases: 26,
+        is_late: true,
+        is_tame: false,
+    },
+    Way {
+        most_cases: 26,
+        is_late: false,
+        is_tame: true,
+    },
+    Way {
+        most_cases: 10,
+        is_late: false,
+        is_tame: false,
+    },
+];
 
 // How often facts are narrowed.
 const NARROWINGS: usize = 2;
@@ -29,16 +62,25 @@ const NARROWINGS: usize = 2;
 // How often it may begin again.
 const TRIES: usize = 40;
 
-// Where paths are cut: at the start of each body.
-fn first_cuts(nodes: &Nodes<'_>, alloc: Global) -> Result<Vec<bool>, Stop> {
+// The node at which the body of a kind of element is cut, if it begins there, or if it ends there.
+fn cut_by(kind: Kind, number: usize, is_late: bool) -> Option<usize> {
+    match kind {
+        Kind::Flow(Flow::Iterate) if !is_late => number.checked_add(1),
+        Kind::Flow(Flow::EndTurn) if is_late => Some(number),
+        _ => None,
+    }
+}
+
+// Where paths are cut: at the start of each body, or at its end.
+fn first_cuts(nodes: &Nodes<'_>, is_late: bool, alloc: Global) -> Result<Vec<bool>, Stop> {
     let mut is_cut = Vec::from_elem(alloc, false, nodes.len().saturating_add(2))?;
     for at in 0..nodes.len() {
-        let number = at + 1;
-        if let Some(element) = nodes.element(number) {
-            if matches!(element.kind, Kind::Flow(Flow::Iterate)) {
-                if let Some(mark) = is_cut.get_mut(number.saturating_add(1)) {
-                    *mark = true;
-                }
+        let Some(element) = nodes.element(at + 1) else {
+            continue;
+        };
+        if let Some(number) = cut_by(element.kind, at + 1, is_late) {
+            if let Some(mark) = is_cut.get_mut(number) {
+                *mark = true;
             }
         }
     }
@@ -120,11 +162,6 @@ fn note(flags: &mut Vec<Flag>, place: u32, number: i64, alloc: Global) -> Result
     Ok(())
 }
 
-// The place of the number of a register.
-fn number_place(register: Reg) -> Option<u32> {
-    u32::try_from(register.index().saturating_mul(7).saturating_add(7)).ok()
-}
-
 // The place of the number that an element sets.
 fn set_at(nodes: &Nodes<'_>, number: usize) -> Option<u32> {
     if number == 0 || number > nodes.len() {
@@ -133,7 +170,7 @@ fn set_at(nodes: &Nodes<'_>, number: usize) -> Option<u32> {
     match nodes.element(number) {
         Some(element) => match element.kind {
             Kind::Command(Command::Storage(storage)) => match storage {
-                Storage::SetNumber(register) => number_place(register),
+                Storage::SetNumber(register) => Some(place_of(NUMBER, register)),
                 _ => None,
             },
             _ => None,
@@ -176,7 +213,7 @@ fn try_once(search: &mut Search<'_>, narrows: bool) -> Result<Claims, Stop> {
         }
     }
     let web = search.web(&keys)?;
-    let promises = all_promises(&web, &keys, search.alloc)?;
+    let promises = all_promises(&web, &keys, &search.tame, search.alloc)?;
     search.claims(&keys, &promises)
 }
 
@@ -192,6 +229,7 @@ fn tried(search: &mut Search<'_>) -> Result<Claims, Refusal> {
                     *mark = true;
                 }
             }
+            Err(Stop::Wild(place)) => search.tame.retain(|other| *other != place),
             Err(Stop::Unstable) => {
                 if !narrows {
                     return Err(Refusal::TooMuch);
@@ -203,8 +241,20 @@ fn tried(search: &mut Search<'_>) -> Result<Claims, Refusal> {
     Err(Refusal::TooMuch)
 }
 
-// The search for claims of a macro, where a node has so many cases at most.
-fn searched(called: &Called<'_>, most_cases: usize, alloc: Global) -> Result<Claims, Stop> {
+// The places of the numbers that are taken to be tame: those that are spoken of, or none.
+fn tame_of(spoken: &[bool], is_tame: bool, alloc: Global) -> Result<Vec<u32>, Stop> {
+    let mut tame = Vec::new(alloc);
+    for place in 0..u32::try_from(spoken.len()).unwrap_or(0) {
+        let is_spoken = spoken.get(place as usize) == Some(&true);
+        if is_tame && is_spoken && family_of(place) == Some(NUMBER) {
+            tame.push(place)?;
+        }
+    }
+    Ok(tame)
+}
+
+// The search for claims of a macro, in a way.
+fn searched(called: &Called<'_>, way: Way, alloc: Global) -> Result<Claims, Stop> {
     let spoken = spoken_of(called.nodes, alloc)?;
     let used = used_of(&spoken, alloc)?;
     let mut search = Search {
@@ -218,11 +268,13 @@ fn searched(called: &Called<'_>, most_cases: usize, alloc: Global) -> Result<Cla
             size: &[],
         },
         argument: called.argument,
-        is_cut: first_cuts(called.nodes, alloc)?,
+        is_cut: first_cuts(called.nodes, way.is_late, alloc)?,
         flags: flags_of(called.nodes, alloc)?,
         numbers: numbers_of(called.nodes, alloc)?,
+        tame: tame_of(&spoken, way.is_tame, alloc)?,
+        is_exact: way.is_tame,
         spoken,
-        most_cases,
+        most_cases: way.most_cases,
         fuel: FUEL,
         alloc,
     };
@@ -230,8 +282,8 @@ fn searched(called: &Called<'_>, most_cases: usize, alloc: Global) -> Result<Cla
 }
 
 // The claims that are found in a try.
-fn found(called: &Called<'_>, most_cases: usize, alloc: Global) -> Result<Claims, Refusal> {
-    match searched(called, most_cases, alloc) {
+fn found(called: &Called<'_>, way: Way, alloc: Global) -> Result<Claims, Refusal> {
+    match searched(called, way, alloc) {
         Ok(claims) => Ok(claims),
         Err(Stop::Refused(refusal)) => Err(refusal),
         Err(_) => Err(Refusal::TooMuch),
@@ -239,15 +291,11 @@ fn found(called: &Called<'_>, most_cases: usize, alloc: Global) -> Result<Claims
 }
 
 // Those that are accepted.
-fn found_and_checked(
-    called: &Called<'_>,
-    most_cases: usize,
-    alloc: Global,
-) -> Result<Claims, Refusal>
+fn found_and_checked(called: &Called<'_>, way: Way, alloc: Global) -> Result<Claims, Refusal>
     ensures { IfOk result (λ claims. IsCertain called.now.nodes.now called.now.lengths.now called.now.argument
         called.now.needs claims.commands claims.size) }
 {
-    let claims = found(called, most_cases, alloc)?;
+    let claims = found(called, way, alloc)?;
     match check_claimed(called, &claims, alloc) {
         Ok(()) => Ok(claims),
         Err(PathFault::Memory) => Err(Refusal::Memory),
@@ -266,7 +314,7 @@ fn may_differ(refusal: Refusal) -> bool {
 /// Looks for claims of a macro: how many commands it takes, how much it holds, and what holds at its
 /// cut points. The same macro has the same claims each time. They are not checked here.
 pub fn infer_claims(called: &Called<'_>, alloc: Global) -> Result<Claims, Refusal> {
-    found(called, MOST_CASES[0], alloc)
+    found(called, WAYS[0], alloc)
 }
 
 /// Looks for claims of a macro, and answers those that are accepted by `check_claimed`. A refusal is
@@ -276,8 +324,8 @@ pub fn infer_checked(called: &Called<'_>, alloc: Global) -> Result<Claims, Refus
         called.now.needs claims.commands claims.size) }
 {
     let mut first = None;
-    for most_cases in MOST_CASES {
-        match found_and_checked(called, most_cases, alloc) {
+    for way in WAYS {
+        match found_and_checked(called, way, alloc) {
             Ok(claims) => return Ok(claims),
             Err(refusal) => {
                 if !may_differ(refusal) {
@@ -291,13 +339,13 @@ pub fn infer_checked(called: &Called<'_>, alloc: Global) -> Result<Claims, Refus
 }
 
 /// How many ways there are to look for claims.
-pub const ATTEMPTS: usize = 3;
+pub const ATTEMPTS: usize = 4;
 
 /// Looks for claims of a macro as `infer_claims` does, in one of several ways, the quickest first. They
 /// are not checked here.
 pub fn infer_by(called: &Called<'_>, attempt: usize, alloc: Global) -> Result<Claims, Refusal> {
-    match MOST_CASES.get(attempt) {
-        Some(most_cases) => found(called, *most_cases, alloc),
+    match WAYS.get(attempt) {
+        Some(way) => found(called, *way, alloc),
         None => Err(Refusal::TooMuch),
     }
 }

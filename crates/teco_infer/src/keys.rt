@@ -1,6 +1,7 @@
 // Where paths are cut: a node with the shape of a state, and what tells its states apart.
 use crate::bounds::{Bounds, NONE};
 use crate::fault::Stop;
+use crate::measures::{LENGTH, NUMBER, PUSHED_LENGTH, PUSHED_NUMBER, TURNS, family_of};
 use crate::trail::Trail;
 use std::alloc::Global;
 use teco_base::LIMIT;
@@ -18,17 +19,22 @@ const LARGE: i64 = 1 << 24;
 
 // The places of the pointer, the buffer's length, what is held, the line's end and its start, and the
 // last length.
-const POINTER: u32 = 1;
+pub const POINTER: u32 = 1;
 
-const SIZE: u32 = 2;
+pub const SIZE: u32 = 2;
 
-const HELD: u32 = 3;
+pub const HELD: u32 = 3;
 
-const LINE_END: u32 = 4;
+pub const LINE_END: u32 = 4;
 
-const LINE_START: u32 = 5;
+pub const LINE_START: u32 = 5;
 
 pub const LAST_LENGTH: u32 = 6;
+
+// Those of the characters at the pointer and before it.
+pub const CODE_HERE: u32 = 7;
+
+pub const CODE_BEFORE: u32 = 8;
 
 // A flag: the place of the number of a register that is set to few numbers.
 #[derive(Drop)]
@@ -203,13 +209,10 @@ fn lower(bounds: &mut Bounds, left: Option<u32>, right: Option<u32>, most: i64) 
 
 // Lowers by what always holds of a place.
 fn add_ends(bounds: &mut Bounds, place: u32) {
-    if place < 7 {
-        return;
-    }
-    let (least, most) = match (place - 7) % 7 {
-        0 | 3 => (MOST_NUMBER + 1, MOST_NUMBER),
-        1 | 4 => (0, LIMIT as i64),
-        2 => (0, NONE),
+    let (least, most) = match family_of(place) {
+        Some(NUMBER | PUSHED_NUMBER) => (MOST_NUMBER + 1, MOST_NUMBER),
+        Some(LENGTH | PUSHED_LENGTH) => (0, LIMIT as i64),
+        Some(TURNS) => (0, NONE),
         _ => return,
     };
     lower(bounds, None, Some(place), least);
@@ -231,6 +234,14 @@ pub fn add_always(bounds: &mut Bounds, told: &[u32]) {
     lower(bounds, Some(LAST_LENGTH), None, limit);
     for place in told {
         add_ends(bounds, *place);
+    }
+}
+
+// Takes it that the numbers in these places are no further from 0 than the greatest length.
+fn add_tame(bounds: &mut Bounds, tame: &[u32]) {
+    for place in tame {
+        lower(bounds, None, Some(*place), LIMIT as i64);
+        lower(bounds, Some(*place), None, LIMIT as i64);
     }
 }
 
@@ -359,11 +370,18 @@ fn give_forms(key: &Key, bounds: &Bounds, alloc: Global) -> Result<Given, Stop> 
     Ok(Given { forms, own })
 }
 
-// Where paths begin at a key by facts, and the measures that have their own symbols.
-pub fn begun(key: &Key, facts: &Bounds, alloc: Global) -> Result<(Trail, Vec<u32>), Stop> {
+// Where paths begin at a key by facts, and the measures that have their own symbols, where
+// some numbers are taken to be tame.
+pub fn begun(
+    key: &Key,
+    facts: &Bounds,
+    tame: &[u32],
+    alloc: Global,
+) -> Result<(Trail, Vec<u32>), Stop> {
     let mut all = facts.copied(alloc)?;
     all.close();
     add_always(&mut all, &key.told);
+    add_tame(&mut all, tame);
     let Given { forms, own } = give_forms(key, &all, alloc)?;
     let bounds = all.of_symbols(&own, alloc)?;
     let constraints = least_forms(&bounds, alloc)?;

@@ -1,32 +1,72 @@
 // Which measures a macro speaks of.
 use crate::fault::Stop;
+use crate::keys::LAST_LENGTH;
 use std::alloc::Global;
 use teco_base::{REGISTERS, Reg};
 use teco_expansion::Nodes;
 use teco_model::kind::{Command, Query, Search, Stack, Storage, Value};
 use teco_model::{Element, Kind};
 
+// How many measures a state has once, and how many families of others there are.
+pub const SINGLES: u32 = 9;
+
+pub const FAMILIES: u32 = 7;
+
+// The families of numbers and lengths of registers, of turns, and of pairs' numbers and lengths.
+pub const NUMBER: u32 = 0;
+
+pub const LENGTH: u32 = 1;
+
+pub const TURNS: u32 = 2;
+
+pub const PUSHED_NUMBER: u32 = 3;
+
+pub const PUSHED_LENGTH: u32 = 4;
+
+// The places of the values before the comma and behind it, at the outermost level.
+pub const FIRST_VALUE: usize = SINGLES as usize + 5;
+
+pub const LAST_VALUE: usize = SINGLES as usize + 6;
+
 // How many places there are at an entry.
-const PLACES: usize = 7 + 7 * REGISTERS;
+const PLACES: u32 = SINGLES + FAMILIES * REGISTERS as u32;
+
+// The family that a place is of, if it is of one, and of which register, iteration or pair.
+pub fn family_of(place: u32) -> Option<u32> {
+    Some(place.checked_sub(SINGLES)? % FAMILIES)
+}
+
+pub fn index_of(place: u32) -> Option<u32> {
+    Some(place.checked_sub(SINGLES)? / FAMILIES)
+}
+
+// The place of what a family has of a register.
+pub fn place_of(family: u32, register: Reg) -> u32 {
+    let index = u32::try_from(register.index()).unwrap_or(0);
+    index
+        .saturating_mul(FAMILIES)
+        .saturating_add(SINGLES)
+        .saturating_add(family)
+}
 
 // The character of a pattern that stands before `EQ` and a register's name.
 const CONTROL_E: u8 = 5;
 
 // Marks a place.
-fn mark(spoken: &mut [bool], place: usize) {
-    if let Some(slot) = spoken.get_mut(place) {
+fn mark(spoken: &mut [bool], place: u32) {
+    if let Some(slot) = spoken.get_mut(place as usize) {
         *slot = true;
     }
 }
 
 // Marks the number of a register.
 fn mark_number(spoken: &mut [bool], register: Reg) {
-    mark(spoken, register.index().saturating_mul(7).saturating_add(7));
+    mark(spoken, place_of(NUMBER, register));
 }
 
 // Marks the length of its text.
 fn mark_length(spoken: &mut [bool], register: Reg) {
-    mark(spoken, register.index().saturating_mul(7).saturating_add(8));
+    mark(spoken, place_of(LENGTH, register));
 }
 
 // Marks what a command on registers speaks of.
@@ -71,7 +111,7 @@ fn mark_element(spoken: &mut [bool], element: &Element<'_>) {
         ) => {
             mark_pattern(spoken, element.text);
         }
-        Kind::Value(Value::LastLength | Value::LastText) => mark(spoken, 6),
+        Kind::Value(Value::LastLength | Value::LastText) => mark(spoken, LAST_LENGTH),
         _ => {}
     }
 }
@@ -81,7 +121,10 @@ fn mark_element(spoken: &mut [bool], element: &Element<'_>) {
 pub fn spoken_of(nodes: &Nodes<'_>, alloc: Global) -> Result<Vec<bool>, Stop> {
     let mut spoken = Vec::new(alloc);
     for place in 0..PLACES {
-        let is_always = 0 < place && place < 6 || place >= 7 && (place - 7) % 7 > 1;
+        let is_always = match family_of(place) {
+            Some(family) => family > LENGTH,
+            None => 0 < place && place < LAST_LENGTH,
+        };
         spoken.push(is_always)?;
     }
     for at in 0..nodes.len() {
@@ -92,15 +135,23 @@ pub fn spoken_of(nodes: &Nodes<'_>, alloc: Global) -> Result<Vec<bool>, Stop> {
     Ok(spoken)
 }
 
+// Whether the number of a register, or the length of its text, is spoken of.
+fn are_named(spoken: &[bool], number: u32) -> bool {
+    let length = number.saturating_add(1);
+    spoken.get(number as usize) == Some(&true) || spoken.get(length as usize) == Some(&true)
+}
+
 // The places of the measures of which anything is told: all but those of registers that no element
 // names.
 pub fn used_of(spoken: &[bool], alloc: Global) -> Result<Vec<bool>, Stop> {
     let mut used = Vec::new(alloc);
     for place in 0..PLACES {
-        let first = place.saturating_sub(place.saturating_sub(7) % 7);
-        let is_named = spoken.get(first) == Some(&true)
-            || spoken.get(first.saturating_add(1)) == Some(&true);
-        used.push(place < 7 || (place - 7) % 7 > 1 || is_named)?;
+        let is_used = match family_of(place) {
+            Some(NUMBER) => are_named(spoken, place),
+            Some(LENGTH) => are_named(spoken, place.saturating_sub(1)),
+            _ => true,
+        };
+        used.push(is_used)?;
     }
     Ok(used)
 }

@@ -21,6 +21,17 @@ pub fn floor(number: i64, divisor: i64) -> i64 {
     }
 }
 
+// The least whole number that is no less than a quotient; the divisor is above 0.
+pub fn ceiling(number: i64, divisor: i64) -> i64 {
+    let whole = number.checked_div(divisor).unwrap_or(0);
+    let rest = number.checked_rem(divisor).unwrap_or(0);
+    if rest > 0 {
+        whole.saturating_add(1)
+    } else {
+        whole
+    }
+}
+
 // The greatest common divisor; 0 of two zeros.
 pub fn common(one: u128, other: u128) -> u128 {
     let (mut first, mut second) = (one, other);

@@ -1,15 +1,17 @@
 // Potentials: what is promised of a measure, or of the steps, by sums of measures at each key.
 use crate::fault::Stop;
-use crate::keys::{least_forms, power_of};
+use crate::keys::{HELD, LINE_END, LINE_START, least_forms, power_of};
 use crate::legs::{Leg, Start, Web};
+use crate::measures::{TURNS, family_of};
 use crate::numbers::common;
 use crate::programs::{Draft, Entry, add_form};
 use crate::reduced::{Demand, bounded, is_large, reduced};
 use crate::rounds::at_forms;
+use crate::steps::constant;
 use std::alloc::Global;
 use teco_linear::{Form, Scale, Term};
 use teco_rows::applied::{copied, copied_constraints, form_at};
-use teco_simplex::{Sign, Values};
+use teco_simplex::{Relation, Sign, Values};
 
 // An unknown coefficient: of a form over the places of measures, times a power of N.
 #[derive(Drop)]
@@ -25,6 +27,8 @@ struct Unknown {
 pub struct Wanted {
     // 0 are the steps.
     pub place: u32,
+    // 1, or -1 where the measure is to be no less than the polynomial taken once less.
+    pub sign: i128,
     pub degree: u32,
     pub is_loose: bool,
     pub scope: Scope,
@@ -48,8 +52,8 @@ pub enum Scope {
 impl Scope {
     fn has(self, place: u32) -> bool {
         match self {
-            Scope::Few => place < 4 || place >= 7 && (place - 7) % 7 == 2,
-            Scope::More => place != 4 && place != 5,
+            Scope::Few => place <= HELD || family_of(place) == Some(TURNS),
+            Scope::More => place != LINE_END && place != LINE_START,
             Scope::All => true,
         }
     }
@@ -60,6 +64,7 @@ impl Scope {
 #[derive(Drop)]
 pub struct Promise {
     pub place: u32,
+    pub sign: i128,
     pub numerators: Vec<i128>,
     pub divisor: i128,
     pub claims: Vec<Form>,
@@ -271,6 +276,46 @@ impl Unknowns {
         draft.minimise(&others)
     }
 
+    // The polynomial's number is no less than this.
+    fn begin_with(&self, draft: &mut Draft, least: i128) -> Result<(), Stop> {
+        for unknown in self
+            .of
+            .first()
+            .map_or(&[][..], |unknowns| unknowns.as_slice())
+        {
+            if unknown.power == 0 {
+                draft.bound(unknown.variable, Relation::AtLeast, least)?;
+            }
+        }
+        Ok(())
+    }
+
+    // Takes the polynomial to be no more than the values rounded up; the sum of all others is to be
+    // least.
+    fn round(&self, draft: &mut Draft, values: &Values) -> Result<(), Stop> {
+        for unknown in self
+            .of
+            .first()
+            .map_or(&[][..], |unknowns| unknowns.as_slice())
+        {
+            let numerator = values
+                .numerators
+                .get(unknown.variable)
+                .copied()
+                .unwrap_or(0);
+            let most = rounded_up(numerator, values.denominator);
+            draft.bound(unknown.variable, Relation::AtMost, most)?;
+        }
+        draft.let_go();
+        let mut others: Vec<usize> = Vec::new(draft.alloc);
+        for unknowns in self.of.get(1..).unwrap_or(&[]) {
+            for unknown in unknowns {
+                others.push(unknown.variable)?;
+            }
+        }
+        draft.minimise(&others)
+    }
+
     // The sum at a key, as a form over the places of measures.
     pub fn form(&self, key: usize, values: &Values, alloc: Global) -> Result<Form, Stop> {
         let mut sum = Form::zero(alloc);
@@ -306,6 +351,17 @@ impl Unknowns {
             }
         }
         Ok(numerators)
+    }
+}
+
+// A fraction's whole part, rounded up.
+pub fn rounded_up(numerator: i128, divisor: i128) -> i128 {
+    let whole = numerator.checked_div(divisor).unwrap_or(0);
+    let rest = numerator.checked_rem(divisor).unwrap_or(0);
+    if rest > 0 {
+        whole.saturating_add(1)
+    } else {
+        whole
     }
 }
 
@@ -443,7 +499,8 @@ impl<'a> Sought<'a> {
         self.unknowns.add(entries, key, forms, times, alloc)?;
         if wanted.place != 0 && key != 0 {
             if let Some(form) = form_at(forms, wanted.place as usize, alloc)? {
-                add_form(entries, &form, 0, None, times)?;
+                let signed = times.saturating_mul(wanted.sign);
+                add_form(entries, &form, 0, None, signed)?;
             }
         }
         Ok(())
@@ -509,6 +566,23 @@ impl<'a> Sought<'a> {
         Ok(())
     }
 
+    // That the polynomial's number alone is no less than the steps to the first keys: what a square
+    // says of these is hard to show.
+    fn add_first_steps(&mut self, wanted: &Wanted) -> Result<(), Stop> {
+        if wanted.place != 0 || wanted.degree == 1 || wanted.only.is_some() {
+            return Ok(());
+        }
+        let mut least = 0i128;
+        for leg in &self.web.legs {
+            if leg.source == 0 {
+                if let Some(steps) = form_at(&leg.forms, 0, self.draft.alloc)? {
+                    least = least.max(constant(&steps));
+                }
+            }
+        }
+        self.unknowns.begin_with(&mut self.draft, least)
+    }
+
     // That the polynomial is no less than the measure at the entry.
     fn add_entry(&mut self, wanted: &Wanted) -> Result<(), Stop> {
         let alloc = self.draft.alloc;
@@ -546,13 +620,30 @@ impl<'a> Sought<'a> {
         }
         let measure = Form::symbol(wanted.place, alloc)?.scaled(
             &Scale {
-                factor: values.denominator,
+                factor: values.denominator.saturating_mul(wanted.sign),
                 power: 0,
             },
             alloc,
         )?;
         let claim = most.sub(&sum, alloc)?.sub(&measure, alloc)?;
         lowest(&claim, alloc)
+    }
+
+    // What is promised where the polynomial is rounded up, if that is found and plain, or else what was.
+    fn plainer(
+        &mut self,
+        values: &Values,
+        promise: Promise,
+        wanted: &Wanted,
+    ) -> Result<Option<Promise>, Stop> {
+        self.unknowns.round(&mut self.draft, values)?;
+        if let Some(values) = self.draft.solved(wanted.pivots)? {
+            let other = self.promise(&values, wanted)?;
+            if other.claims.iter().all(is_plain) {
+                return Ok(Some(other));
+            }
+        }
+        Ok(Some(promise))
     }
 
     // What the values of a program promise.
@@ -573,6 +664,7 @@ impl<'a> Sought<'a> {
         }
         Ok(Promise {
             place: wanted.place,
+            sign: wanted.sign,
             numerators,
             divisor: values.denominator,
             claims,
@@ -599,12 +691,17 @@ pub fn promised<'a>(
         }
     }
     sought.add_entry(wanted)?;
+    sought.add_first_steps(wanted)?;
     let program = &mut sought;
     program
         .unknowns
         .minimise(&mut program.draft, wanted.degree)?;
-    match sought.solved(wanted.pivots)? {
-        Some(values) => Ok(Some(sought.promise(&values, wanted)?)),
-        None => Ok(None),
+    let Some(values) = sought.solved(wanted.pivots)? else {
+        return Ok(None);
+    };
+    let promise = sought.promise(&values, wanted)?;
+    if promise.claims.iter().all(is_plain) {
+        return Ok(Some(promise));
     }
+    sought.plainer(&values, promise, wanted)
 }

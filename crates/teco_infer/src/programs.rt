@@ -151,6 +151,26 @@ impl Draft {
         Ok(())
     }
 
+    // Takes it that a variable stands so to a number.
+    pub fn bound(&mut self, variable: usize, relation: Relation, bound: i128) -> Result<(), Stop> {
+        let mut terms = Vec::new(self.alloc);
+        terms.push(Term {
+            variable,
+            coefficient: 1,
+        })?;
+        self.program.add_row(Row {
+            terms,
+            relation,
+            bound,
+        })?;
+        Ok(())
+    }
+
+    // What was to be least no longer is.
+    pub fn let_go(&mut self) {
+        self.program.objectives.clear();
+    }
+
     // The values of the variables, if there are some and they are found. A large program may take
     // fewer pivots.
     pub fn solved(&self, pivots: usize) -> Result<Option<Values>, Stop> {

@@ -1,12 +1,13 @@
 // What is promised of a macro: how much it holds, and how many commands it takes.
 use crate::fault::{Refusal, Stop};
 use crate::invariants::add_invariants;
-use crate::keys::power_of;
+use crate::keys::{HELD, power_of};
 use crate::legs::Web;
-use crate::potentials::{Known, Promise, Scope, Wanted, promised};
+use crate::measures::{TURNS, family_of};
+use crate::potentials::{Known, Promise, Scope, Wanted, promised, rounded_up};
 use crate::search::Keys;
-use crate::steps::HELD;
 use std::alloc::Global;
+use teco_base::LIMIT;
 use teco_linear::Form;
 use teco_rows::applied::form_at;
 
@@ -30,23 +31,12 @@ pub struct Promises {
     pub size: Vec<u64>,
 }
 
-// A fraction's whole part, rounded up.
-fn rounded_up(numerator: i128, divisor: i128) -> u64 {
-    let whole = numerator.checked_div(divisor).unwrap_or(0);
-    let rest = numerator.checked_rem(divisor).unwrap_or(0);
-    let up = if rest > 0 {
-        whole.saturating_add(1)
-    } else {
-        whole
-    };
-    u64::try_from(up).unwrap_or(0)
-}
-
 // The coefficients of a promise's polynomial, rounded up.
 fn rounded(promise: &Promise, alloc: Global) -> Result<Vec<u64>, Stop> {
     let mut all = Vec::new(alloc);
     for numerator in &promise.numerators {
-        all.push(rounded_up(*numerator, promise.divisor))?;
+        let up = rounded_up(*numerator, promise.divisor);
+        all.push(u64::try_from(up).unwrap_or(0))?;
     }
     Ok(all)
 }
@@ -64,7 +54,12 @@ fn take(web: &Web, known: &mut Known, promise: Promise, alloc: Global) -> Result
     for start in &web.starts {
         let is_there = form_at(&start.forms, promise.place as usize, alloc)?.is_some();
         bounds.push(if is_there {
-            most.sub(&Form::symbol(promise.place, alloc)?, alloc)?
+            let measure = Form::symbol(promise.place, alloc)?;
+            if promise.sign > 0 {
+                most.sub(&measure, alloc)?
+            } else {
+                most.add(&measure, alloc)?
+            }
         } else {
             Form::zero(alloc)
         })?;
@@ -102,7 +97,7 @@ fn factors(keys: &Keys, alloc: Global) -> Result<Vec<u32>, Stop> {
     let mut places: Vec<u32> = Vec::new(alloc);
     for key in &keys.keys {
         for place in &key.told {
-            let is_factor = *place >= 7 && (*place - 7) % 7 < 3;
+            let is_factor = family_of(*place).is_some_and(|family| family <= TURNS);
             if is_factor && !places.contains(place) {
                 places.push(*place)?;
             }
@@ -165,6 +160,7 @@ fn least_promise(
         }
         let wanted = Wanted {
             place,
+            sign: 1,
             degree,
             is_loose: false,
             scope,
@@ -184,18 +180,57 @@ fn least_promise(
     Ok(found)
 }
 
+// That a measure, taken so often, is within a polynomial at keys.
+fn loosely(place: u32, sign: i128) -> Wanted {
+    Wanted {
+        place,
+        sign,
+        degree: 1,
+        is_loose: true,
+        scope: Scope::All,
+        pivots: PIVOTS,
+        only: None,
+    }
+}
+
+// Whether facts show at each key that a measure is within the greatest length.
+fn is_near(keys: &Keys, place: u32, sign: i128) -> bool {
+    let limit = LIMIT as i64;
+    keys.keys.iter().zip(keys.facts.iter()).skip(1).all(|(key, facts)| {
+        let most = if sign > 0 {
+            facts.bound(Some(place), None)
+        } else {
+            facts.bound(None, Some(place))
+        };
+        most <= limit || !key.told.contains(&place)
+    })
+}
+
+// Shows that the numbers are tame that were taken to be so: they are within what may be held.
+fn add_tame(
+    web: &Web,
+    keys: &Keys,
+    tame: &[u32],
+    known: &mut Known,
+    alloc: Global,
+) -> Result<Vec<u64>, Stop> {
+    let mut size = Vec::new(alloc);
+    for place in tame {
+        for sign in [1, -1] {
+            match promised(web, known, &loosely(*place, sign), alloc)? {
+                Some(promise) => raise(&mut size, &take(web, known, promise, alloc)?)?,
+                None if is_near(keys, *place, sign) => {}
+                None => return Err(Stop::Wild(*place)),
+            }
+        }
+    }
+    Ok(size)
+}
+
 // Adds bounds on turns, numbers and lengths to what is known.
 fn add_factors(web: &Web, keys: &Keys, known: &mut Known, alloc: Global) -> Result<(), Stop> {
     for place in factors(keys, alloc)? {
-        let wanted = Wanted {
-            place,
-            degree: 1,
-            is_loose: true,
-            scope: Scope::All,
-            pivots: PIVOTS,
-            only: None,
-        };
-        if let Some(promise) = promised(web, known, &wanted, alloc)? {
+        if let Some(promise) = promised(web, known, &loosely(place, 1), alloc)? {
             let _most = take(web, known, promise, alloc)?;
         }
     }
@@ -236,6 +271,7 @@ fn endless(web: &Web, known: &Known, alloc: Global) -> Result<usize, Stop> {
         last = start.number;
         let wanted = Wanted {
             place: 0,
+            sign: 1,
             degree: 2,
             is_loose: false,
             scope: Scope::All,
@@ -262,14 +298,16 @@ fn steps(web: &Web, keys: &Keys, known: &mut Known, alloc: Global) -> Result<Vec
     Err(Stop::Refused(Refusal::Steps(endless(web, known, alloc)?)))
 }
 
-// All promises by paths between keys.
-pub fn all_promises(web: &Web, keys: &Keys, alloc: Global) -> Result<Promises, Stop> {
+// All promises by paths between keys, where some numbers were taken to be tame.
+pub fn all_promises(web: &Web, keys: &Keys, tame: &[u32], alloc: Global) -> Result<Promises, Stop> {
     let mut known = Known {
         claims: Vec::new(alloc),
         told: Vec::new(alloc),
     };
+    let within = add_tame(web, keys, tame, &mut known, alloc)?;
     add_invariants(web, &mut known, alloc)?;
-    let size = sizes(web, keys, &mut known, alloc)?;
+    let mut size = sizes(web, keys, &mut known, alloc)?;
+    raise(&mut size, &within)?;
     let commands = steps(web, keys, &mut known, alloc)?;
     Ok(Promises {
         known,

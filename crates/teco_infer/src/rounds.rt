@@ -2,6 +2,7 @@
 use crate::bounds::{Bounds, NONE};
 use crate::fault::{Refusal, Stop};
 use crate::keys::{bound_form, key_of, projected};
+use crate::measures::{NUMBER, family_of};
 use crate::record::Record;
 use crate::search::{Keys, Search};
 use crate::trail::Trail;
@@ -67,7 +68,7 @@ fn is_number(facts: &Bounds, row: usize, column: usize) -> bool {
         _ => return false,
     };
     match place.checked_sub(1).and_then(|at| facts.symbols().get(at)) {
-        Some(symbol) => *symbol >= 7 && (*symbol - 7) % 7 == 0,
+        Some(symbol) => family_of(*symbol) == Some(NUMBER),
         None => false,
     }
 }

@@ -2,6 +2,7 @@
 use crate::bounds::Bounds;
 use crate::fault::{Refusal, Stop};
 use crate::keys::{Flag, Key, begun};
+use crate::measures::{FIRST_VALUE, LAST_VALUE};
 use crate::record::Record;
 use crate::steps::onward;
 use crate::trail::Trail;
@@ -24,6 +25,11 @@ pub struct Search<'a> {
     pub flags: Vec<Flag>,
     pub numbers: Vec<i64>,
     pub spoken: Vec<bool>,
+    // The places of numbers that are taken to be no further from 0 than a length may be, which is to
+    // be shown.
+    pub tame: Vec<u32>,
+    // Whether no more is taken of constraints than multipliers show.
+    pub is_exact: bool,
     // The most cases of a node between two cut points: with more the node becomes one.
     pub most_cases: usize,
     // How many steps may still be taken.
@@ -71,7 +77,7 @@ fn of_least(trails: Vec<Trail>, alloc: Global) -> Result<(Vec<Trail>, Vec<Trail>
 // Whether no value waits in a case.
 fn is_settled(case: &Case) -> bool {
     let is_waiting = |place: usize| case.forms.get(place).is_some_and(|form| form.is_some());
-    case.shape.operators.len() <= 1 && !is_waiting(12) && !is_waiting(13)
+    case.shape.operators.len() <= 1 && !is_waiting(FIRST_VALUE) && !is_waiting(LAST_VALUE)
 }
 
 impl Search<'_> {
@@ -106,15 +112,20 @@ impl Search<'_> {
         Ok(trail)
     }
 
-    // Where paths begin at a key.
+    // Where paths begin at a key, as exact as the search is.
     pub fn start(&self, keys: &Keys, place: usize) -> Result<(Trail, Vec<u32>), Stop> {
-        if place == 0 {
-            return Ok((self.entry()?, Vec::new(self.alloc)));
+        let (mut first, own) = if place == 0 {
+            (self.entry()?, Vec::new(self.alloc))
+        } else {
+            match (keys.keys.get(place), keys.facts.get(place)) {
+                (Some(key), Some(facts)) => begun(key, facts, &self.tame, self.alloc)?,
+                _ => return Err(Stop::Unstable),
+            }
+        };
+        if self.is_exact {
+            first.bounds.make_exact();
         }
-        match (keys.keys.get(place), keys.facts.get(place)) {
-            (Some(key), Some(facts)) => begun(key, facts, self.alloc),
-            _ => Err(Stop::Unstable),
-        }
+        Ok((first, own))
     }
 
     // The number behind that of the last node.

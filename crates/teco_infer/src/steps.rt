@@ -3,10 +3,11 @@ ghost use Rattle.std.specs.Prelude.{◌<◌, ◌≤◌, length};
 
 use crate::bounds::Bounds;
 use crate::fault::{Refusal, Stop};
+use crate::keys::HELD;
+use crate::measures::{LENGTH, place_of};
 use crate::record::Record;
 use crate::trail::Trail;
 use std::alloc::Global;
-use teco_base::Reg;
 use teco_linear::Form;
 use teco_model::Kind;
 use teco_model::kind::{Command, Storage};
@@ -19,9 +20,6 @@ use teco_paths::targets::target;
 use teco_rows::applied::{copied, form_at};
 use teco_rows::case::Case;
 use teco_rows::outcomes::{Guarded, Outcomes};
-
-// The place of what is held.
-pub const HELD: u32 = 3;
 
 // Numbers from here on are limits, and not numbers of a macro.
 pub const LARGE: i128 = 1 << 24;
@@ -38,7 +36,7 @@ struct Asked {
 }
 
 // The number of a form that stands alone.
-fn constant(form: &Form) -> i128 {
+pub fn constant(form: &Form) -> i128 {
     for term in form.terms() {
         if term.symbol.is_none() && term.power == 0 {
             return term.coefficient;
@@ -50,7 +48,7 @@ fn constant(form: &Form) -> i128 {
 // Whether a condition says that a length is within the limit.
 fn is_room(form: &Form) -> bool {
     let constant = constant(form);
-    LARGE < constant && constant <= LONGEST
+    LARGE < constant && constant <= LONGEST + LARGE
 }
 
 // Whether a guarded condition is shown.
@@ -157,17 +155,11 @@ fn ask(course: &Course<'_>, trail: &Trail, alloc: Global) -> Result<Asked, Stop>
     }
 }
 
-// The place of the length of a register's text.
-fn length_of(register: Reg) -> u32 {
-    let place = register.index().saturating_mul(7).saturating_add(8);
-    u32::try_from(place).unwrap_or(HELD)
-}
-
 // The place of the measure that a command on registers may raise to a limit.
 fn text_of(storage: Storage) -> u32 {
     match storage {
-        Storage::Copy(register) => length_of(register),
-        Storage::SetText(register) => length_of(register),
+        Storage::Copy(register) => place_of(LENGTH, register),
+        Storage::SetText(register) => place_of(LENGTH, register),
         _ => HELD,
     }
 }

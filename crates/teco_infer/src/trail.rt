@@ -1,7 +1,7 @@
 // Where a path of the search has come to.
 use crate::bounds::Bounds;
 use crate::fault::Stop;
-use crate::keys::all_forms;
+use crate::keys::{CODE_BEFORE, CODE_HERE, all_forms};
 use crate::reduced::{add_symbols, bounded};
 use std::alloc::Global;
 use teco_linear::{Difference, Form};
@@ -14,6 +14,19 @@ use teco_rows::measure::Single;
 
 // With more constraints than this they are made fewer.
 const MOST_CONSTRAINTS: usize = 150;
+
+// The symbol that the form in a place of a case is, if it is one.
+fn symbol_in(case: &Case, place: u32) -> Option<u32> {
+    match case.forms.get(place as usize) {
+        Some(Some(form)) => form.terms().iter().find_map(|term| term.symbol),
+        _ => None,
+    }
+}
+
+// Whether a form speaks of a symbol.
+fn speaks_of(form: &Form, symbol: Option<u32>) -> bool {
+    symbol.is_some() && form.terms().iter().any(|term| term.symbol == symbol)
+}
 
 // A node by its number, a case that describes the states there, what it says of differences, and the
 // last peak on the way there.
@@ -55,12 +68,22 @@ impl Trail {
         })
     }
 
-    // Leaves out of the case the constraints that bound differences.
+    // The symbols of the characters at the pointer and before it, where they are symbols.
+    fn code_symbols(&self) -> (Option<u32>, Option<u32>) {
+        (
+            symbol_in(&self.case, CODE_HERE),
+            symbol_in(&self.case, CODE_BEFORE),
+        )
+    }
+
+    // Leaves out of the case the constraints that bound differences, but those of characters: by these
+    // outcomes see that something is known of them.
     pub fn make_lean(&mut self) {
         self.is_lean = true;
-        self.case
-            .constraints
-            .retain(|form| Difference::of(form).is_none());
+        let (here, before) = self.code_symbols();
+        self.case.constraints.retain(|form| {
+            Difference::of(form).is_none() || speaks_of(form, here) || speaks_of(form, before)
+        });
     }
 
     // Takes it that a form is at least 0.

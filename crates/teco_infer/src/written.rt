@@ -1,7 +1,12 @@
 // What was found as claims of a certificate.
 use crate::bounds::{Bounds, NONE};
 use crate::fault::{Refusal, Stop};
-use crate::keys::{Key, add_always, bound_form};
+use crate::keys::{
+    HELD, Key, LAST_LENGTH, LINE_END, LINE_START, POINTER, SIZE, add_always, bound_form, symbol_of,
+};
+use crate::measures::{
+    LENGTH, NUMBER, PUSHED_LENGTH, PUSHED_NUMBER, SINGLES, TURNS, family_of, index_of,
+};
 use crate::numbers::plus;
 use crate::promises::Promises;
 use crate::search::{Keys, Search};
@@ -11,7 +16,8 @@ use teco_claims::{Claim, Claims, Cut, Fraction, Measure, Single, Term};
 use teco_linear::Form;
 use teco_poly::Poly;
 
-// Bounds from here on are limits, and are claimed of numbers alone.
+// Bounds from here on are limits. They are claimed of measures alone, and only where a register, a turn or
+// a pair has one: it may rest on those of other measures.
 const LARGE: i64 = 1 << 24;
 
 // The names of registers, by their places.
@@ -28,15 +34,17 @@ fn polynomial(coefficients: &[u64]) -> Option<Poly> {
     Some(sum)
 }
 
-fn single_of(place: u32) -> Single {
+// The codes of characters have no name.
+fn single_of(place: u32) -> Option<Single> {
     match place {
-        0 => Single::Steps,
-        1 => Single::Pointer,
-        2 => Single::Size,
-        3 => Single::Held,
-        4 => Single::LineEnd,
-        5 => Single::LineStart,
-        _ => Single::LastLength,
+        0 => Some(Single::Steps),
+        POINTER => Some(Single::Pointer),
+        SIZE => Some(Single::Size),
+        HELD => Some(Single::Held),
+        LINE_END => Some(Single::LineEnd),
+        LINE_START => Some(Single::LineStart),
+        LAST_LENGTH => Some(Single::LastLength),
+        _ => None,
     }
 }
 
@@ -57,16 +65,15 @@ impl Search<'_> {
 
     // The measure of a place at a node.
     fn measure_of(&self, number: usize, place: u32) -> Option<Measure> {
-        if place < 7 {
-            return Some(Measure::One(single_of(place)));
-        }
-        let index = (place - 7) / 7;
-        match (place - 7) % 7 {
-            0 => Some(Measure::Number(register_of(index)?)),
-            1 => Some(Measure::Length(register_of(index)?)),
-            2 => Some(Measure::Turns(self.begin_of(number, index)?)),
-            3 => Some(Measure::PushedNumber(index)),
-            4 => Some(Measure::PushedLength(index)),
+        let Some(index) = index_of(place) else {
+            return Some(Measure::One(single_of(place)?));
+        };
+        match family_of(place)? {
+            NUMBER => Some(Measure::Number(register_of(index)?)),
+            LENGTH => Some(Measure::Length(register_of(index)?)),
+            TURNS => Some(Measure::Turns(self.begin_of(number, index)?)),
+            PUSHED_NUMBER => Some(Measure::PushedNumber(index)),
+            PUSHED_LENGTH => Some(Measure::PushedLength(index)),
             _ => None,
         }
     }
@@ -96,15 +103,36 @@ impl Search<'_> {
         Ok(Some(Claim { terms }))
     }
 
-    // The facts of a key that are claimed.
-    fn facts(&self, key: &Key, facts: &Bounds) -> Result<Vec<Form>, Stop> {
-        let alloc = self.alloc;
-        let mut always = Bounds::none(alloc)?.of_symbols(&key.told, alloc)?;
+    // What always holds at a key.
+    fn always(&self, key: &Key) -> Result<Bounds, Stop> {
+        let mut always = Bounds::none(self.alloc)?.of_symbols(&key.told, self.alloc)?;
         add_always(&mut always, &key.told);
+        Ok(always)
+    }
+
+    // Whether limits are claimed: a register, a turn or a pair has one.
+    fn has_limits(&self, keys: &Keys) -> Result<bool, Stop> {
+        for (key, facts) in keys.keys.iter().zip(keys.facts.iter()) {
+            let always = self.always(key)?;
+            for row in 1..facts.size() {
+                let is_among_them = symbol_of(facts, row).is_some_and(|place| place >= SINGLES);
+                if is_among_them && has_limit(&always, facts, row) {
+                    return Ok(true);
+                }
+            }
+        }
+        Ok(false)
+    }
+
+    // The facts of a key that are claimed, with limits or without.
+    fn facts(&self, key: &Key, facts: &Bounds, with_limits: bool) -> Result<Vec<Form>, Stop> {
+        let alloc = self.alloc;
+        let always = self.always(key)?;
         let mut left = facts.copied(alloc)?;
         for row in 0..left.size() {
             for column in 0..left.size() {
-                if is_known(&always, &left, row, column) {
+                let is_left_out = !with_limits && is_limit(&left, row, column);
+                if is_left_out || is_known(&always, &left, row, column) {
                     left.set(row, column, NONE);
                 }
             }
@@ -125,13 +153,19 @@ impl Search<'_> {
         Ok(forms)
     }
 
-    // The cut point of a key.
-    fn cut(&self, keys: &Keys, place: usize, promises: &Promises) -> Result<Option<Cut>, Stop> {
+    // The cut point of a key, with limits or without.
+    fn cut(
+        &self,
+        keys: &Keys,
+        place: usize,
+        promises: &Promises,
+        with_limits: bool,
+    ) -> Result<Option<Cut>, Stop> {
         let (Some(key), Some(facts)) = (keys.keys.get(place), keys.facts.get(place)) else {
             return Ok(None);
         };
         let mut claims = Vec::new(self.alloc);
-        for form in self.facts(key, facts)? {
+        for form in self.facts(key, facts, with_limits)? {
             if let Some(claim) = self.claim_of(key.number, &form)? {
                 claims.push(claim)?;
             }
@@ -158,9 +192,10 @@ impl Search<'_> {
         ) else {
             return Err(Stop::Refused(Refusal::TooMuch));
         };
+        let with_limits = self.has_limits(keys)?;
         let mut cuts: Vec<Cut> = Vec::new(self.alloc);
         for place in 1..keys.keys.len() {
-            if let Some(cut) = self.cut(keys, place, promises)? {
+            if let Some(cut) = self.cut(keys, place, promises, with_limits)? {
                 cuts.push(cut)?;
             }
         }
@@ -174,12 +209,29 @@ impl Search<'_> {
     }
 }
 
-// Whether a bound need not be claimed: it always holds, or is a limit.
-fn is_known(always: &Bounds, facts: &Bounds, row: usize, column: usize) -> bool {
+// Whether a bound is a limit.
+fn is_large(facts: &Bounds, row: usize, column: usize) -> bool {
     let most = facts.at(row, column);
-    let is_large = most <= -LARGE || most >= LARGE;
+    most <= -LARGE || most >= LARGE
+}
+
+// Whether it is the limit of a measure alone.
+fn is_limit(facts: &Bounds, row: usize, column: usize) -> bool {
+    (row == 0 || column == 0) && is_large(facts, row, column)
+}
+
+// Whether a bound need not be claimed: it always holds, or is a limit of a difference.
+fn is_known(always: &Bounds, facts: &Bounds, row: usize, column: usize) -> bool {
     let is_alone = row == 0 || column == 0;
-    row == column || always.at(row, column) <= most || is_large && !is_alone
+    row == column
+        || always.at(row, column) <= facts.at(row, column)
+        || !is_alone && is_large(facts, row, column)
+}
+
+// Whether a measure has a limit below or above that does not always hold.
+fn has_limit(always: &Bounds, facts: &Bounds, row: usize) -> bool {
+    let is_above = is_limit(facts, row, 0) && !is_known(always, facts, row, 0);
+    is_above || is_limit(facts, 0, row) && !is_known(always, facts, 0, row)
 }
 
 // Whether a bound follows from two others.
@@ -199,7 +251,7 @@ fn is_chained(facts: &Bounds, always: &Bounds, row: usize, column: usize) -> boo
 }
 
 // The place of a register among the others.
-fn index_of(register: Reg) -> u64 {
+fn rank_of_register(register: Reg) -> u64 {
     register.index() as u64
 }
 
@@ -226,7 +278,7 @@ fn rank_of(measure: &Measure) -> u64 {
         Measure::PushedNumber(pair) => u64::from(*pair).saturating_mul(2),
         Measure::PushedLength(pair) => u64::from(*pair).saturating_mul(2).saturating_add(1),
         Measure::Turns(begin) => u64::from(*begin),
-        Measure::Number(register) => index_of(*register),
+        Measure::Number(register) => rank_of_register(*register),
         _ => length_rank(measure),
     }
 }
@@ -234,7 +286,7 @@ fn rank_of(measure: &Measure) -> u64 {
 // Where a length stands among the lengths.
 fn length_rank(measure: &Measure) -> u64 {
     match measure {
-        Measure::Length(register) => index_of(*register),
+        Measure::Length(register) => rank_of_register(*register),
         _ => 0,
     }
 }
