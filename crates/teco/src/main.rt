@@ -13,8 +13,8 @@ use teco_examples::{Tests, fuzz_macro, test_examples};
 use teco_pages::{Closing, FileHost};
 use teco_tools::{OUTPUT, Prompting, Run, Start, Streams, run_scripts};
 use teco_verdicts::{
-    Console, Outcome, Request, Setting, check_macro, editions_for, explain, explain_all,
-    explain_macro, show, show_source, verify_library, verify_library_as_json, verify_macro,
+    Console, Outcome, Request, Setting, check_macro, explain, explain_all, explain_macro,
+    method_for, show, show_source, verify_library, verify_library_as_json, verify_macro,
     verify_macro_as_json,
 };
 use teco_words::{Arguments, WordsFault};
@@ -76,7 +76,7 @@ fn request<'m>(given: &'m ArgMatches<'_>, is_best: bool) -> Result<Request<'m>, 
     Ok(Request {
         library,
         escape,
-        editions: editions_for(teco_words::rules_of(given)?, is_best),
+        method: method_for(teco_words::method_of(given)?, is_best),
     })
 }
 

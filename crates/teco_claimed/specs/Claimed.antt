@@ -5,7 +5,7 @@ use Rattle.teco_claimed.specs.declared.certificate.LinearCertificate.{LinearCert
 use Rattle.teco_library.specs.Library.{LibraryFile, argument_of}
 use Rattle.teco_model.specs.Macros.{Library}
 use Rattle.teco_paths.specs.Sure.{IsCertain}
-use Rattle.teco_promise.specs.Promise.{Promise}
+use Rattle.teco_promise.specs.Promise.{EachRunEnds, Promise}
 use Rattle.teco_verifier.specs.expansion.Expansion.{expansion}
 use Rattle.teco_verifier.specs.expansion.Node.{Node}
 
@@ -43,3 +43,8 @@ promise_of found = record {
   commands = found.certificate.claims.commands;
   size = found.certificate.claims.size;
 }
+
+-- Each run of a macro ends as its checked certificate says.
+abbrev pub CheckedMacrosEnd : Type 0
+CheckedMacrosEnd =
+    (found : LinearFinding) → IsChecked found.library found.certificate → EachRunEnds (promise_of found)

@@ -7,7 +7,7 @@ use Rattle.teco_claimed.specs.Reads.{IsTextOf, IsTextOfNone}
 use Rattle.teco_claimed.specs.declared.certificate.LinearCertificate.{LinearCertificate}
 use Rattle.teco_claimed.specs.declared.refusal.LinearRefusal.{LinearRefusal}
 use Rattle.teco_claimed.specs.declared.refusal.LinearRefusal.TheVariants.{NotACertificate, OtherArgument, NotExpanded}
-use Rattle.teco_claimed.specs.declared.refusal.LinearRefusal.TheVariants.{NotCertain, Memory}
+use Rattle.teco_claimed.specs.declared.refusal.LinearRefusal.TheVariants.{NotCertain, NotFound, Memory}
 use Rattle.teco_claimed.specs.declared.refusal.NodePlace.{NodePlace}
 use Rattle.teco_expansion.specs.Refused.{refusal_seen}
 use Rattle.teco_expansion.specs.declared.refusal.ExpandFault.{ExpandFault}
@@ -59,6 +59,7 @@ IsOfClaims nodes NotACertificate = ⊥
 IsOfClaims nodes OtherArgument = ⊥
 IsOfClaims nodes (NotExpanded refused) = ⊥
 IsOfClaims nodes (NotCertain fault at) = at ≡ place_told nodes fault
+IsOfClaims nodes (NotFound why at) = ⊥
 IsOfClaims nodes Memory = ⊤
 
 -- The macro has an expansion, and where the element of a fault stands there is told.
@@ -76,6 +77,7 @@ IsRefusedFor library certificate (NotExpanded refused) =
     TakesDeclared library certificate × (expansion library.texts certificate.entry ≡ Err (refusal_seen refused))
 IsRefusedFor library certificate (NotCertain fault at) =
     TakesDeclared library certificate × IsGivenUp library certificate.entry fault at
+IsRefusedFor library certificate (NotFound why at) = ⊥
 IsRefusedFor library certificate Memory = ⊤
 
 -- the text is that of a certificate that is refused so
@@ -90,4 +92,5 @@ IsRefused library text NotACertificate = IsTextOfNone text
 IsRefused library text OtherArgument = IsOfRefused library text OtherArgument
 IsRefused library text (NotExpanded refused) = IsOfRefused library text (NotExpanded refused)
 IsRefused library text (NotCertain fault at) = IsOfRefused library text (NotCertain fault at)
+IsRefused library text (NotFound why at) = ⊥
 IsRefused library text Memory = ⊤

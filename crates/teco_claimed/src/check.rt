@@ -26,8 +26,8 @@ fn length_of(text: Option<&[u8]>) -> Option<usize>
     }
 }
 
-// How long the texts of a library are.
-fn lengths_of(alloc: Global, library: &Library) -> Result<Vec<Option<usize>>, AllocError>
+/// How long the texts of a library are.
+pub fn lengths_of(alloc: Global, library: &Library) -> Result<Vec<Option<usize>>, AllocError>
     ensures { IfOk result (λ lengths. AreLengths lengths.items library.now.texts) }
 {
     let texts = library.texts();

@@ -5,12 +5,13 @@
 mod certificate;
 mod check;
 mod claimed;
+pub mod laws;
 mod reading;
 mod refusal;
-#[cfg(test)]
-mod tests;
+mod verify;
 
 pub use certificate::LinearCertificate;
 pub use check::check_linear;
 pub use claimed::Claimed;
 pub use refusal::{LinearRefusal, NodePlace};
+pub use verify::verify_linear;

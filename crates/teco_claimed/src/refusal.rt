@@ -8,6 +8,7 @@ use std::alloc::AllocError;
 use std::fmt;
 use teco_certificate::CertificateFault;
 use teco_expansion::{ExpandFault, Nodes, Reason, Refusal};
+use teco_infer::Refusal as Unfound;
 use teco_paths::fault::PathFault;
 use thiserror::Error;
 
@@ -37,6 +38,14 @@ pub enum LinearRefusal {
     NotCertain {
         /// Why.
         fault: PathFault,
+        /// Where the element stands whose number that tells, if there is one.
+        at: Option<NodePlace>,
+    },
+    /// No claims are found.
+    #[error("{why}")]
+    NotFound {
+        /// Why.
+        why: Unfound,
         /// Where the element stands whose number that tells, if there is one.
         at: Option<NodePlace>,
     },
@@ -123,7 +132,42 @@ fn place_in(nodes: &Nodes<'_>, fault: PathFault) -> Option<NodePlace>
     })
 }
 
+// The number of the element at which no claims are found, if it tells one.
+fn number_unfound(why: Unfound) -> Option<usize> {
+    match why {
+        Unfound::NotTold(number)
+        | Unfound::NotOpen(number)
+        | Unfound::Condition(number)
+        | Unfound::Steps(number) => Some(number),
+        Unfound::NotAccepted(fault) => number_in(fault),
+        Unfound::Size | Unfound::TooMuch | Unfound::Memory => None,
+    }
+}
+
+// Where the element of a number stands, if there is one.
+fn place_at(nodes: &Nodes<'_>, number: Option<usize>) -> Option<NodePlace> {
+    let number = number?;
+    if number == 0 || number > nodes.len() {
+        return None;
+    }
+    Some(NodePlace {
+        register: nodes.register(number),
+        place: nodes.place(number),
+    })
+}
+
 impl LinearRefusal {
+    /// Where no claims of a macro with these nodes are found.
+    pub(crate) fn of_search(nodes: &Nodes<'_>, why: Unfound) -> LinearRefusal {
+        match why {
+            Unfound::Memory => LinearRefusal::Memory,
+            why => LinearRefusal::NotFound {
+                why,
+                at: place_at(nodes, number_unfound(why)),
+            },
+        }
+    }
+
     /// Where the claims of a macro with these nodes do not hang together.
     pub(crate) fn of_claims(nodes: &Nodes<'_>, fault: PathFault) -> LinearRefusal
         ensures { result ≡ refusal_by_claims nodes.now fault }

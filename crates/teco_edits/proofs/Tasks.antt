@@ -17,7 +17,7 @@ use Rattle.teco_verify.specs.declared.refusal.Refusal.TheVariants.{No, Memory}
 
 -- the edits of a job are those of its task
 pub subject_edits : (given : InPlace) (task : Task) (library : LibraryFile) (job : Job) (old new : Option (List ℕ))
-    (result : Result Outcome ToolFault) → job.task.now ≡ task → IsAccepted library task.entry job.verified.now
+    (result : Result Outcome ToolFault) → job.task.now ≡ task → IsAccepted library task.entry job.accepted.now
     → EditsIfAny given job old new result → EditsSubject given task library old new result
 subject_edits given task library job old new result same accepted (inl none) = inl none
 subject_edits given task library job old new result same accepted (inr edits) =

@@ -1,5 +1,5 @@
 -- What the edits of a task do, and what is answered of them.
-use Rattle.teco_verify.specs.Promised.{promise_of}
+use Rattle.teco_verdicts.specs.Accepted.{promise_of}
 use Rattle.std.specs.Prelude.{ℕ, ◌≡◌, ◌⊎◌, List, Bool, true, false, Option, Result, Ok, Err, IsErr}
 use Rattle.teco_apply.specs.ByPages.{FileEdited}
 use Rattle.teco_apply.specs.InPlace.{IsRewritten}
@@ -23,7 +23,7 @@ use Rattle.teco_verdicts.specs.declared.outcome.Outcome.TheVariants.{Done, Coded
 
 -- the macro of a job, and the argument that it is given
 abbrev pub call_of : Job → Call
-call_of job = record { promise = promise_of job.verified.now; given = job.task.now.argument }
+call_of job = record { promise = promise_of job.accepted.now; given = job.task.now.argument }
 
 -- a host's count of failures, and what is written, as far as it is known
 pub record Trace : Type 0 where

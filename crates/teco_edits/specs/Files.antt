@@ -226,7 +226,7 @@ pub record EditsAccepted (given : InPlace) (task : Task) (library : LibraryFile)
     (result : Result Outcome ToolFault) : Type 0 where
   pub job : Job
   pub of_task : job.task.now ≡ task
-  pub accepted : IsAccepted library task.entry job.verified.now
+  pub accepted : IsAccepted library task.entry job.accepted.now
   pub edits : EditsFiles given job old new result
 
 abbrev pub EditsSubject : InPlace → Task → LibraryFile → Option (List ℕ) → Option (List ℕ)

@@ -1,5 +1,4 @@
 -- What a task is about, and what is printed where it is refused.
-use Rattle.teco_verify.specs.Promised.{promise_of}
 use Rattle.std.specs.Prelude.{ℕ, ◌≡◌, ◌⊎◌, ⊤, List, codes, Option, Some, None, Result, Ok, Err}
 use Rattle.std.specs.Io.KnownBytes.{Appends}
 use Rattle.teco_apply.specs.Sure.{Call}
@@ -10,20 +9,18 @@ use Rattle.teco_edits.specs.declared.subject.Subject.{Subject}
 use Rattle.teco_library.specs.Library.{LibraryFile}
 use Rattle.teco_pages.specs.HostFiles.{Telling}
 use Rattle.teco_tools.specs.declared.fault.ToolFault.{ToolFault}
+use Rattle.teco_verdicts.specs.Accepted.{IsOf, IsProved, promise_of}
 use Rattle.teco_verdicts.specs.Lines.{refused_line}
+use Rattle.teco_verdicts.specs.declared.acceptance.Accepted.{Accepted}
 use Rattle.teco_verdicts.specs.declared.outcome.Outcome.{Outcome}
 use Rattle.teco_verdicts.specs.declared.outcome.Outcome.TheVariants.{Done, Coded, Refused}
-use Rattle.teco_verifier.specs.certificate.Fields.{Finding}
-use Rattle.teco_verify.specs.Certified.{IsCertified, TakesDeclared}
 use Rattle.teco_verify.specs.declared.refusal.Refusal.{Refusal}
 
--- The macro of an entry of a library is accepted: what is found of it is certified, with the argument that the library
--- declares.
-pub record IsAccepted (library : LibraryFile) (entry : ℕ) (found : Finding) : Type 0 where
-  pub texts : found.library ≡ library.texts
-  pub certified : IsCertified found.library found.fields
-  pub declared : TakesDeclared library found.fields
-  pub of_entry : found.fields.entry ≡ entry
+-- The macro of an entry of a library is accepted: its table is closed, or its claims hang together, with the argument
+-- that the library declares.
+pub record IsAccepted (library : LibraryFile) (entry : ℕ) (accepted : Accepted) : Type 0 where
+  pub proved : IsProved accepted
+  pub is : IsOf library entry accepted
 
 -- some text was written
 abbrev pub Prints : Option (List ℕ) → Option (List ℕ) → Type 0
@@ -56,13 +53,13 @@ pub record EditsNone (files after : Telling) (begun left : Trace) (result : Resu
   pub answers : AnswersNone begun.written left.written result
 
 -- the macro of a task, which is accepted, and the argument that it is given
-abbrev pub task_call : Task → Finding → Call
-task_call task found = record { promise = promise_of found; given = task.argument }
+abbrev pub task_call : Task → Accepted → Call
+task_call task accepted = record { promise = promise_of accepted; given = task.argument }
 
 -- a file is edited by the macro of a library that is accepted
 pub record EditsAccepted (task : Task) (library : LibraryFile) (names : Names) (files after : Telling)
     (begun left : Trace) (result : Result Outcome ToolFault) : Type 0 where
-  pub found : Finding
+  pub found : Accepted
   pub accepted : IsAccepted library task.entry found
   pub edits : EditsBy task (task_call task found) names files after begun left result
 

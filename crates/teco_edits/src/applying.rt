@@ -12,7 +12,7 @@ ghost use Rattle.teco_pages.specs.HostFiles.{Notes};
 ghost use Rattle.teco_run.specs.Holdings.{Joined};
 ghost use Rattle.teco_verdicts.specs.Premise.{IsPremise};
 ghost use Rattle.teco_verdicts.specs.declared.outcome.Outcome.TheVariants.{Refused};
-ghost use Rattle.teco_verify.specs.Promised.{promise_of};
+ghost use Rattle.teco_verdicts.specs.Accepted.{promise_of};
 
 use crate::bound::Bound;
 use crate::names::Names;
@@ -34,8 +34,9 @@ use teco_session::SessionFault;
 use teco_source::Shown;
 use teco_text::GapText;
 use teco_tools::{Reporting, Start, ToolFault, machine_with, prepare, tell_anyway, told_name};
-use teco_verdicts::{Console, Grouped, Known, Outcome, Request, Setup, Voice, tell_edition};
-use teco_verify::Verified;
+use teco_verdicts::{
+    Accepted, Console, Grouped, Known, Outcome, Request, Setup, Voice, tell_edition,
+};
 
 /// A macro of a library, and how it is run on files.
 #[derive(Clone, Copy)]
@@ -109,19 +110,19 @@ pub struct Job<'a> {
     /// What memory for machines comes from.
     pub alloc: Global,
     pub task: &'a Task<'a, 'a>,
-    pub verified: &'a Verified<'a>,
+    pub accepted: &'a Accepted<'a>,
 }
 
 impl<'a> Job<'a> {
     // On which terms runs on a file begin.
     fn terms(self) -> Terms
         ensures strict { result.is_strict ≡ self.entry.task.now.is_strict }
-        ensures premise { IsPremise self.entry.verified.now.fields.size self.entry.verified.now.fields.commands
+        ensures premise { IsPremise (promise_of self.entry.accepted.now).size (promise_of self.entry.accepted.now).commands
             result.bound.premise.last }
     {
         let is_first = matches!(self.task.pages, Pages::First);
         Terms {
-            bound: Bound::of(self.verified),
+            bound: Bound::of(&self.accepted.promise()),
             is_strict: self.task.is_strict,
             wants_all: self.task.wants_all && is_first && !self.turns_pages(),
         }
@@ -137,7 +138,7 @@ impl<'a> Job<'a> {
 
     /// Does the macro read or write pages itself?
     pub fn turns_pages(self) -> bool {
-        let Needs { input, output } = self.verified.needs();
+        let Needs { input, output } = self.accepted.promise().needs();
         input || output
     }
 }
@@ -175,19 +176,19 @@ fn edit_observed<H: Host, O: Write, V: Observer<H>>(
     observer: &mut V,
 ) -> Result<Edited, SessionFault>
     ensures edits { OnTerms work.entry.job.task.now.is_strict
-        (record { promise = promise_of work.entry.job.verified.now; given = work.entry.job.task.now.argument })
+        (record { promise = promise_of work.entry.job.accepted.now; given = work.entry.job.task.now.argument })
         (λ order. Joined (λ old new. FileEdited work.entry.job.task.now.pages order
         work.entry.names.source.now work.entry.names.target.now old new (H.failures host.old) (H.failures host.new)
         (O.contents out.old) (O.contents out.new) result)
         machine.old machine.new (H.files host.old) (H.files host.new)) }
     ensures touches { EditTouches
-        (record { promise = promise_of work.entry.job.verified.now; given = work.entry.job.task.now.argument })
+        (record { promise = promise_of work.entry.job.accepted.now; given = work.entry.job.task.now.argument })
         work.entry.names.source.now work.entry.names.target.now result
         machine.old machine.new (H.files host.old) (H.files host.new) }
 {
     let Work { job, names } = work;
     let terms = job.terms();
-    let promise = job.verified.promise();
+    let promise = job.accepted.promise();
     let edit = Edit {
         alloc: job.alloc,
         promise: &promise,
@@ -293,14 +294,14 @@ fn rewrite_observed<H: Host + Drop, O: Write, E: Ending, V: Observer<H>>(
     requires fresh { H.files host ≡ Notes [] }
     requires name { length work.name.now < NAME }
     ensures edits { OnTerms work.entry.job.task.now.is_strict
-        (record { promise = promise_of work.entry.job.verified.now; given = work.entry.job.task.now.argument })
+        (record { promise = promise_of work.entry.job.accepted.now; given = work.entry.job.task.now.argument })
         (λ order. IsRewritten work.entry.job.task.now.pages order work.entry.name.now E.replaces
         machine.old machine.new (H.files result.host) (H.failures host)
         (O.contents out.old) (O.contents out.new) result.edited) }
 {
     let OneWork { job, name, ending } = work;
     let terms = job.terms();
-    let promise = job.verified.promise();
+    let promise = job.accepted.promise();
     let rewrite = Rewrite {
         alloc: job.alloc,
         promise: &promise,
@@ -482,14 +483,14 @@ fn apply_subject<H: Host + Reporting, O: Write + Drop, E: Write + Drop>(
 {
     match subject.accepted(console.alloc, task.entry) {
         Ok(_) if errand.is_one_file => refuse_names(console),
-        Ok(verified) => {
-            let editions = subject.sourced.editions;
-            tell_edition(&mut console.voice, editions, &verified);
-            warn_empty(console, &subject.sourced, &verified)?;
+        Ok(accepted) => {
+            let method = subject.sourced.method;
+            tell_edition(&mut console.voice, method, accepted.rules());
+            warn_empty(console, &subject.sourced, &accepted)?;
             let job = Job {
                 alloc: console.alloc,
                 task,
-                verified: &verified,
+                accepted: &accepted,
             };
             let work = Work {
                 job,

@@ -4,10 +4,10 @@ ghost use Rattle.teco_poly.specs.Polynomial.{value};
 ghost use Rattle.teco_verdicts.specs.Premise.{IsPremise, IsWithin};
 
 use teco_poly::Poly;
+use teco_promise::Promise;
 use teco_verdicts::Premise;
-use teco_verify::Verified;
 
-/// The most commands of a run of a verified macro, and up to which N it takes no more.
+/// The most commands of a run that are promised, and up to which N it takes no more.
 #[derive(Clone, Copy)]
 pub struct Bound {
     pub commands: Poly,
@@ -15,16 +15,15 @@ pub struct Bound {
 }
 
 impl Bound {
-    /// The bound of a verified macro.
-    pub fn of(verified: &Verified<'_>) -> Bound
-        ensures commands { result.commands ≡ verified.now.fields.commands }
-        ensures premise { IsPremise verified.now.fields.size verified.now.fields.commands
-            result.premise.last }
+    /// The bound of a promise.
+    pub fn of(promise: &Promise<'_>) -> Bound
+        ensures commands { result.commands ≡ promise.now.commands }
+        ensures premise { IsPremise promise.now.size promise.now.commands result.premise.last }
     {
-        let commands = verified.commands();
+        let commands = promise.commands();
         Bound {
             commands,
-            premise: Premise::of_macro(verified),
+            premise: Premise::of_promise(promise),
         }
     }
 

@@ -567,7 +567,7 @@ where
 // Edits files by a macro that was accepted, unless its promise holds for no text, or it turns pages
 // itself and files are edited whole.
 #[tactic(auto, using(crate::proofs::Tasks::no_line, crate::proofs::Tasks::failed, crate::proofs::Tasks::nothing))]
-fn edit_by_verified<R, O, E>(
+fn edit_by_accepted<R, O, E>(
     rt: &R,
     console: &mut Console<O, E>,
     job: Job<'_>,
@@ -581,12 +581,12 @@ where
     ensures { EditsIfAny given.now job.entry
         (O.contents console.old.out) (O.contents console.new.out) result }
 {
-    if job.task.is_strict && Premise::of_macro(job.verified).is_empty() {
-        return refuse_empty(console, sourced, job.verified);
+    if job.task.is_strict && Premise::of_promise(&job.accepted.promise()).is_empty() {
+        return refuse_empty(console, sourced, job.accepted);
     }
-    tell_edition(&mut console.voice, sourced.editions, job.verified);
+    tell_edition(&mut console.voice, sourced.method, job.accepted.rules());
     if job.task.tells_promise {
-        tell_promise(&mut console.voice, job.verified)?;
+        tell_promise(&mut console.voice, &job.accepted.promise())?;
     }
     say_findings(console, sourced, job.task);
     if is_lost(job) {
@@ -611,13 +611,13 @@ where
         (O.contents console.old.out) (O.contents console.new.out) result }
 {
     match subject.accepted(console.alloc, task.entry) {
-        Ok(verified) => {
+        Ok(accepted) => {
             let job = Job {
                 alloc: console.alloc,
                 task,
-                verified: &verified,
+                accepted: &accepted,
             };
-            edit_by_verified(rt, console, job, given, &subject.sourced)
+            edit_by_accepted(rt, console, job, given, &subject.sourced)
         }
         Err(refusal) => refuse_subject(console, subject, task.entry, refusal),
     }

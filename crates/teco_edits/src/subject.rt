@@ -10,10 +10,11 @@ use std::rt::Files;
 use teco_base::Reg;
 use teco_tools::{Case, ToolFault};
 use teco_verdicts::{
-    AnswerFault, Claim, Console, Outcome, Sourced, Voice, accepted, lint, read_claim,
-    read_library_for, refuse_claim, refuse_macro, tell_no_text, tell_second_edition, warn_no_text,
+    Accepted, AnswerFault, Claim, Console, Outcome, Sourced, Voice, accepted, lint, read_claim,
+    read_library_for, refuse, refuse_claim, refuse_macro, tell_no_text, tell_second_edition,
+    warn_no_text,
 };
-use teco_verify::{Refusal, Verified};
+use teco_verify::Refusal;
 
 /// A library, and the certificate of a macro of it, if one is named.
 #[derive(Drop)]
@@ -24,15 +25,15 @@ pub struct Subject<'a> {
 
 impl Subject<'_> {
     /// The macro, by its certificate if there is one, or verified.
-    pub fn accepted(&self, alloc: Global, entry: Reg) -> Result<Verified<'_>, Refusal>
+    pub fn accepted(&self, alloc: Global, entry: Reg) -> Result<Accepted<'_>, Refusal>
         ensures { IfOk result (IsAccepted self.now.sourced.library entry) }
     {
         let claim = self.claim.as_ref();
         let library = &self.sourced.library;
-        match accepted(alloc, library, entry, self.sourced.editions, claim) {
-            Ok(verified) => {
-                verified.is_certified();
-                Ok(verified)
+        match accepted(alloc, library, entry, self.sourced.method, claim) {
+            Ok(accepted) => {
+                accepted.is_proved();
+                Ok(accepted)
             }
             Err(refusal) => Err(refusal),
         }
@@ -87,13 +88,13 @@ pub fn read_subject<'a, R: Files + Input, O: Write + Drop, E: Write + Drop>(
 pub fn refuse_empty<O: Write + Drop, E: Write + Drop>(
     console: &mut Console<O, E>,
     sourced: &Sourced,
-    verified: &Verified<'_>,
+    accepted: &Accepted<'_>,
 ) -> Result<Outcome, ToolFault>
     ensures printed { console.new.out ≡ console.old.out }
     ensures outcome { IfOk result (λ outcome. outcome ≡ Refused) }
 {
     let mut apart = console.apart();
-    let outcome = tell_no_text(&mut apart, sourced, verified)?;
+    let outcome = tell_no_text(&mut apart, sourced, accepted)?;
     say_apart(&mut console.voice, apart);
     Ok(outcome)
 }
@@ -102,12 +103,12 @@ pub fn refuse_empty<O: Write + Drop, E: Write + Drop>(
 pub fn warn_empty<O: Write + Drop, E: Write + Drop>(
     console: &mut Console<O, E>,
     sourced: &Sourced,
-    verified: &Verified<'_>,
+    accepted: &Accepted<'_>,
 ) -> Result<(), ToolFault>
     ensures { console.new.out ≡ console.old.out }
 {
     let mut apart = console.apart();
-    warn_no_text(&mut apart, sourced, verified)?;
+    warn_no_text(&mut apart, sourced, accepted)?;
     say_apart(&mut console.voice, apart);
     Ok(())
 }
@@ -136,9 +137,10 @@ fn refuse_verified<O: Write + Drop, E: Write + Drop>(
 ) -> Result<Outcome, AnswerFault>
     ensures { Refuses (O.contents console.old.out) (O.contents console.new.out) result }
 {
-    let account = sourced
-        .editions
-        .account(console.alloc, &sourced.library, entry)?;
+    let Some(editions) = sourced.method.editions() else {
+        return refuse(console, &sourced.source, refusal, sourced.method.newest());
+    };
+    let account = editions.account(console.alloc, &sourced.library, entry)?;
     refuse_macro(console, sourced, &account, refusal)
 }
 
@@ -152,7 +154,7 @@ fn refuse_by_both<O: Write + Drop, E: Write + Drop>(
     ensures { Refuses (O.contents console.old.out) (O.contents console.new.out) result }
 {
     let outcome = refuse_verified(console, sourced, entry, refusal)?;
-    tell_second_edition(console, &sourced.library, entry, sourced.editions);
+    tell_second_edition(console, &sourced.library, entry, sourced.method);
     Ok(outcome)
 }
 

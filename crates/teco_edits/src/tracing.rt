@@ -267,17 +267,17 @@ fn is_refused<O: Write + Drop, E: Write + Drop>(
     task: &Task<'_, '_>,
     sourced: &Sourced,
 ) -> Result<bool, ToolFault> {
-    let Ok(verified) = sourced
-        .editions
+    let Ok(accepted) = sourced
+        .method
         .verify(console.alloc, &sourced.library, task.entry)
     else {
         return Ok(false);
     };
-    if task.is_strict && Premise::of_macro(&verified).is_empty() {
-        refuse_empty(console, sourced, &verified)?;
+    if task.is_strict && Premise::of_promise(&accepted.promise()).is_empty() {
+        refuse_empty(console, sourced, &accepted)?;
         return Ok(true);
     }
-    tell_edition(&mut console.voice, sourced.editions, &verified);
+    tell_edition(&mut console.voice, sourced.method, accepted.rules());
     Ok(false)
 }
 

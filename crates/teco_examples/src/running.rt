@@ -51,8 +51,8 @@ impl Subject {
 
 // The pages that a macro of a library is run on.
 fn pages_of(alloc: Global, sourced: &Sourced, entry: Reg) -> Pages {
-    match sourced.editions.verify(alloc, &sourced.library, entry) {
-        Ok(verified) => pages_for(verified.needs()),
+    match sourced.method.verify(alloc, &sourced.library, entry) {
+        Ok(accepted) => pages_for(accepted.promise().needs()),
         Err(_) => Pages::Whole,
     }
 }

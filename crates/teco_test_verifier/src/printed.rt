@@ -18,18 +18,18 @@ fn kept(rt: &HostRuntime) -> Console<Vec<u8>, Vec<u8>> {
 }
 
 // A library in its file, to be judged by some editions.
-fn library(rt: &HostRuntime, text: &[u8], editions: Editions) -> io::Result<Request<'static>> {
+fn library(rt: &HostRuntime, text: &[u8], method: Method) -> io::Result<Request<'static>> {
     fs::write(rt, NAME, text)?;
     Ok(Request {
         library: Origin::of_file(NAME),
         escape: Escape::Mark(b'$'),
-        editions,
+        method,
     })
 }
 
-const FIRST: Editions = Editions::Only(Rules::First);
+const FIRST: Method = Method::Tables(Editions::Only(Rules::First));
 
-const SECOND: Editions = Editions::Only(Rules::Second);
+const SECOND: Method = Method::Tables(Editions::Only(Rules::Second));
 
 const LAST: &str =
     "holds for texts up to 0 characters (N up to 20,648,880, of which the macro takes \
@@ -134,10 +134,10 @@ fn certificates_are_of_an_edition(rt: HostRuntime) -> Result<(), Fail> {
     let rows = [
         (SECOND, "accepted\n"),
         (FIRST, "refused X18\n"),
-        (Editions::Best, "accepted\n"),
+        (Method::Tables(Editions::Best), "accepted\n"),
     ];
-    for (editions, wanted) in rows {
-        let request = Request { editions, ..second };
+    for (method, wanted) in rows {
+        let request = Request { method, ..second };
         assert!(rt; is_checked(&rt, request, wanted), "{wanted}");
     }
     fs::remove_file(&rt, NAME)?;
@@ -158,16 +158,21 @@ const BEST: &[(&[u8], &[u8])] = &[
 #[test]
 fn the_best_edition_is_taken_or_one_that_is_named(rt: HostRuntime) -> Result<(), Fail> {
     for (text, front) in BEST {
-        let request = library(&rt, text, editions_for(None, true))?;
+        let request = library(&rt, text, method_for(None, true))?;
         assert!(rt; is_certified(&rt, request, front), "{front:?}");
     }
     fs::remove_file(&rt, NAME)?;
     fs::remove_file(&rt, CERTIFICATE)?;
-    let named = editions_for(Some(Rules::Second), false);
-    assert!(rt; matches!(named, Editions::Only(Rules::Second)));
-    let named = editions_for(Some(Rules::First), true);
-    assert!(rt; matches!(named, Editions::Only(Rules::First)));
-    assert!(rt; matches!(editions_for(None, false), Editions::Only(Rules::First)));
+    let named = method_for(Some(SECOND), false);
+    assert!(rt; matches!(named, Method::Tables(Editions::Only(Rules::Second))));
+    let named = method_for(Some(FIRST), true);
+    assert!(rt; matches!(named, Method::Tables(Editions::Only(Rules::First))));
+    assert!(rt;
+        matches!(
+            method_for(None, false),
+            Method::Tables(Editions::Only(Rules::First))
+        )
+    );
     Ok(())
 }
 

@@ -1,7 +1,7 @@
 -- Answers, by what was written.
-use Rattle.std.proofs.Common.{◌≡◌, ◌≢◌, ℕ, ◌⊎◌, inl, inr, List, Option, Some, None, Result, Ok, Err, IfOk, IsErr}
+use Rattle.std.proofs.Common.{◌≡◌, ◌≢◌, ℕ, inl, inr, List, Option, Result, Ok, Err, IfOk, IsErr}
 use Rattle.std.proofs.Common.{refl, sym, ap, subst, ◌∙◌, codes}
-use Rattle.std.specs.Io.KnownBytes.{Appends, Keeps}
+use Rattle.std.specs.Io.KnownBytes.{Keeps}
 use Rattle.teco_library.specs.Library.{LibraryFile}
 use Rattle.teco_library.specs.Reads.{Reads}
 use Rattle.teco_certificate.specs.Text.{certificate_text}
@@ -19,6 +19,7 @@ use Rattle.teco_verify.specs.Telling.{Telling}
 use Rattle.teco_verdicts.specs.Answers.{Answer, Answers, AnswersIn, CheckIn, IsDenied, IsDeniedBy, IsRefusal}
 use Rattle.teco_verdicts.specs.Answers.{IsStraightVerdict, OfText, ReadsNone, Refuses, VerdictIn}
 use Rattle.teco_verdicts.specs.Certificates.{IsAmong, IsCertificate, newest_of}
+use Rattle.teco_verdicts.specs.Linear.{ChecksByClaims, RefusesCertificate, VerdictByClaims}
 use Rattle.teco_verdicts.specs.Lines.{refused_line}
 use Rattle.teco_verdicts.specs.Output.{Writes}
 use Rattle.teco_verdicts.specs.declared.editions.Editions.{Editions}
@@ -197,3 +198,25 @@ pub refused_account : {E : Type 0} (rules : Rules) (library : LibraryFile) (entr
 refused_account rules library entry (Ok it) straight unexpanded derived unclosed overflow printed =
     refused_verdict rules library entry it.verdict straight unexpanded derived unclosed overflow printed
 refused_account rules library entry (Err fault) straight unexpanded derived unclosed overflow printed = tt
+
+-- the answers by claims
+pub refused_by_claims : {E : Type 0} (library : LibraryFile) (entry : ℕ) (old new : Option (List ℕ))
+    (refusal : Refusal) (result : Result Outcome E) → IfOk result (λ o. o ≡ Refused) → Refuses old new refusal result
+    → Answers (VerdictByClaims library entry) old new result
+refused_by_claims library entry old new refusal result refused p =
+    of_refusal (VerdictByClaims library entry) old new refusal result (refusal, refl) refused p
+
+denied_as : {E : Type 0} (bytes : List ℕ) (library : LibraryFile) (entry : ℕ) (old new : Option (List ℕ))
+    (refusal : Refusal) (result : Result Outcome E) → IsOfCertificate refusal → IfOk result (λ o. o ≡ Refused)
+    → Refuses old new refusal result → Answers (ChecksByClaims bytes library entry) old new result
+denied_as bytes library entry old new (No reason register place) result spelled refused p =
+    of_refusal (ChecksByClaims bytes library entry) old new (No reason register place) result
+    (ap refused_line spelled) refused p
+denied_as bytes library entry old new Memory result spelled refused p =
+    of_none (ChecksByClaims bytes library entry) old new result p.0 p.1
+
+pub denied_by_claims : {E : Type 0} (bytes : List ℕ) (library : LibraryFile) (entry : ℕ) (old new : Option (List ℕ))
+    (result : Result Outcome E) → IfOk result (λ o. o ≡ Refused) → RefusesCertificate old new result
+    → Answers (ChecksByClaims bytes library entry) old new result
+denied_by_claims bytes library entry old new result refused p =
+    denied_as bytes library entry old new p.refusal result p.of_certificate refused p.line

@@ -1,5 +1,5 @@
 -- The macro of a certificate ends.
-use Rattle.std.proofs.Common.{◌≡◌, ℕ, subst}
+use Rattle.std.proofs.Common.{subst}
 use Rattle.teco_law_expansion.specs.Linked.{ExpansionsAreLinked}
 use Rattle.teco_law_facts.specs.SoundSteps.{AreOpen}
 use Rattle.teco_law_tables.specs.Verified.{RunsAreVerified}

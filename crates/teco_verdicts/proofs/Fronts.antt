@@ -1,5 +1,5 @@
 -- Fronts of bytes that are written.
-use Rattle.std.proofs.Common.{◌≡◌, arith, IsErr, Result, Ok, Err, ℕ, ◌+◌, List, length, take, drop, Option, Some}
+use Rattle.std.proofs.Common.{arith, IsErr, Result, Ok, Err, ℕ, ◌+◌, List, length, take, drop, Option, Some}
 use Rattle.std.proofs.Common.{None, IfSome, sym, subst}
 use Rattle.std.proofs.KnownBytes.{Appends-trans, Appends-nil, Appends-kept}
 use Rattle.std.proofs.Math.Seq.{take-add}

@@ -1,5 +1,5 @@
 -- A printed certificate is accepted.
-use Rattle.std.proofs.Common.{◌≡◌, sym, ◌∙◌}
+use Rattle.std.proofs.Common.{sym, ◌∙◌}
 use Rattle.teco_verdicts.specs.RoundTrip.{PrintedIsAccepted}
 
 pub printed_is_accepted : PrintedIsAccepted

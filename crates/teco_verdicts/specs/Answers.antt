@@ -1,5 +1,5 @@
 -- What `verify` and `check` answer of an entry, and what is written of an answer.
-use Rattle.std.specs.Prelude.{ℕ, ◌≡◌, ◌≢◌, ◌⊎◌, ⊤, List, codes, Option, None, Result, Ok, Err, IsErr, IfOk, IfSome}
+use Rattle.std.specs.Prelude.{ℕ, ◌≡◌, ◌≢◌, ◌⊎◌, ⊤, List, codes, Option, None, Result, Ok, Err, IsErr}
 use Rattle.std.specs.Io.KnownBytes.{Appends, Keeps}
 use Rattle.teco_certificate.specs.Text.{certificate_text}
 use Rattle.teco_law_tables.specs.straight_text.Straight.{IsStraight}
@@ -148,15 +148,3 @@ abbrev pub AnswersFor : {E : Type 0} → (List ℕ → Option (List ℕ)) → Re
     → Option (List ℕ) → Option (List ℕ) → Result Outcome E → Type 0
 AnswersFor holds request In old new result =
     (IsErr result × Keeps old new) ⊎ AnswersOn holds request In old new result
-
--- what `check` answers of the bytes that a file of a name has
-pub record ChecksOn {E : Type 0} (holds : List ℕ → Option (List ℕ)) (request : Request) (entry : ℕ)
-    (name : List ℕ) (old new : Option (List ℕ)) (result : Result Outcome E) : Type 0 where
-  pub bytes : List ℕ
-  pub told : IfSome (holds name) (λ known. bytes ≡ known)
-  pub answers : AnswersFor holds request (λ library. CheckIn request.editions bytes library entry) old new result
-
-abbrev pub ChecksFor : {E : Type 0} → (List ℕ → Option (List ℕ)) → Request → ℕ → List ℕ
-    → Option (List ℕ) → Option (List ℕ) → Result Outcome E → Type 0
-ChecksFor holds request entry name old new result =
-    (IsErr result × Keeps old new) ⊎ ChecksOn holds request entry name old new result

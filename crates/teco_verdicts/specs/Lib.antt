@@ -7,3 +7,6 @@ pub mod Answers
 pub mod Ending
 pub mod RoundTrip
 pub mod Premise
+pub mod Accepted
+pub mod Linear
+pub mod Methods

@@ -2,6 +2,7 @@
 ghost use Rattle.std.specs.Prelude.{◌≡◌, IfOk};
 ghost use Rattle.teco_verdicts.specs.declared.outcome.Outcome.TheVariants.{Refused};
 
+use crate::acceptance::Accepted;
 use crate::console::{Console, Voice};
 use crate::fault::AnswerFault;
 use crate::library::Sourced;
@@ -13,8 +14,10 @@ use std::io::Write;
 use teco_base::Reg;
 use teco_explain::position_in;
 use teco_poly::Poly;
+use teco_promise::Promise;
 use teco_source::{Position, Shown, Source};
-use teco_verify::{Account, Verified, account_by};
+use teco_verifier::Rules;
+use teco_verify::{Account, account_by};
 
 /// How large a count is, at the least, that is to blame.
 const LARGE: u64 = 1000;
@@ -93,15 +96,19 @@ impl fmt::Display for Blame {
     }
 }
 
-// What keeps the promise of a macro from holding for any text.
-fn blame_of(alloc: Global, source: &Source, verified: &Verified<'_>) -> Result<Blame, AllocError> {
-    let account = account_by(
-        alloc,
-        verified.library(),
-        verified.entry(),
-        verified.rules(),
-    )?;
-    Ok(Blame::of(source, &account, Premise::of_macro(verified)))
+// What keeps the promise of a macro from holding for any text. By claims no count is told.
+fn blame_of(
+    alloc: Global,
+    source: &Source,
+    promise: &Promise<'_>,
+    rules: Option<Rules>,
+) -> Result<Blame, AllocError> {
+    let premise = Premise::of_promise(promise);
+    let Some(rules) = rules else {
+        return Ok(Blame::Growth(premise));
+    };
+    let account = account_by(alloc, promise.library(), promise.entry(), rules)?;
+    Ok(Blame::of(source, &account, premise))
 }
 
 /// Up to which texts the promise of a macro holds, in words; where it holds for none, what count is
@@ -116,11 +123,16 @@ pub struct Held {
 impl Held {
     /// Up to which texts the promise of a macro of a source holds. Where it holds for none, that
     /// takes one more search.
-    pub fn of(alloc: Global, source: &Source, verified: &Verified<'_>) -> Result<Held, AllocError> {
-        let premise = Premise::of_macro(verified);
-        let entry = verified.entry();
+    pub fn of(
+        alloc: Global,
+        source: &Source,
+        promise: &Promise<'_>,
+        rules: Option<Rules>,
+    ) -> Result<Held, AllocError> {
+        let premise = Premise::of_promise(promise);
+        let entry = promise.entry();
         let blame = if premise.is_empty() {
-            Some(blame_of(alloc, source, verified)?)
+            Some(blame_of(alloc, source, promise, rules)?)
         } else {
             None
         };
@@ -157,9 +169,10 @@ impl fmt::Display for Held {
 pub fn tell_premise<E: Write + Drop>(
     voice: &mut Voice<E>,
     source: &Source,
-    verified: &Verified<'_>,
+    promise: &Promise<'_>,
+    rules: Option<Rules>,
 ) -> Result<(), AllocError> {
-    let held = Held::of(voice.alloc(), source, verified)?;
+    let held = Held::of(voice.alloc(), source, promise, rules)?;
     voice.say(held);
     Ok(())
 }
@@ -176,13 +189,13 @@ fn growth(alloc: Global, size: &Poly) -> Result<String, AllocError> {
 /// Says what is promised of a macro, in one line.
 pub fn tell_promise<E: Write + Drop>(
     voice: &mut Voice<E>,
-    verified: &Verified<'_>,
+    promise: &Promise<'_>,
 ) -> Result<(), AllocError> {
     let alloc = voice.alloc();
-    let name = char::from(verified.entry().name());
-    let commands = verified.commands().print(alloc)?;
-    let growth = growth(alloc, &verified.size())?;
-    let premise = Premise::of_macro(verified);
+    let name = char::from(promise.entry().name());
+    let commands = promise.commands().print(alloc)?;
+    let growth = growth(alloc, &promise.size())?;
+    let premise = Premise::of_promise(promise);
     voice.say(format_args!(
         "{name} ends within {commands} commands and adds {growth} characters; that {premise}"
     ));
@@ -194,9 +207,14 @@ pub fn tell_promise<E: Write + Drop>(
 pub fn warn_no_text<O: Write + Drop, E: Write + Drop>(
     console: &mut Console<O, E>,
     sourced: &Sourced,
-    verified: &Verified<'_>,
+    accepted: &Accepted<'_>,
 ) -> Result<(), AnswerFault> {
-    let held = Held::of(console.alloc, &sourced.source, verified)?;
+    let held = Held::of(
+        console.alloc,
+        &sourced.source,
+        &accepted.promise(),
+        accepted.rules(),
+    )?;
     if held.is_empty() {
         console.say(held);
     }
@@ -207,13 +225,18 @@ pub fn warn_no_text<O: Write + Drop, E: Write + Drop>(
 pub fn tell_no_text<O: Write + Drop, E: Write + Drop>(
     console: &mut Console<O, E>,
     sourced: &Sourced,
-    verified: &Verified<'_>,
+    accepted: &Accepted<'_>,
 ) -> Result<Outcome, AnswerFault>
     ensures { IfOk result (λ outcome. outcome ≡ Refused) }
 {
     let file = Shown(sourced.source.name().as_bytes());
-    let name = char::from(verified.entry().name());
-    let blame = blame_of(console.alloc, &sourced.source, verified)?;
+    let name = char::from(accepted.entry().name());
+    let blame = blame_of(
+        console.alloc,
+        &sourced.source,
+        &accepted.promise(),
+        accepted.rules(),
+    )?;
     console.complain(format_args!("{file}: the promise of {name} holds for no text: {blame}"));
     Ok(Outcome::Refused)
 }

@@ -1,6 +1,7 @@
 //! `check`: certificates are checked.
 ghost use Rattle.std.specs.Prelude.{◌≡◌, IfOk, codes};
-ghost use Rattle.teco_verdicts.specs.Answers.{Answers, AnswersFor, CheckIn, ChecksFor, OfText, Refuses};
+ghost use Rattle.teco_verdicts.specs.Answers.{Answers, AnswersFor, CheckIn, OfText, Refuses};
+ghost use Rattle.teco_verdicts.specs.Methods.{ChecksBy, ChecksFor};
 ghost use Rattle.teco_verdicts.specs.Output.{Writes};
 ghost use Rattle.teco_verdicts.specs.declared.outcome.Outcome.TheVariants.{Done, Refused};
 
@@ -8,10 +9,12 @@ use crate::blame::tell_premise;
 use crate::claim::{Claim, edition_of, split_line};
 use crate::console::Console;
 use crate::dollars::tell_dollars;
-use crate::editions::{Editions, tell_edition};
+use crate::editions::Editions;
 use crate::fault::AnswerFault;
 use crate::files::Shelf;
 use crate::library::{Sourced, explained, library_of};
+use crate::linear::check_claims;
+use crate::method::{Method, tell_edition};
 use crate::outcome::Outcome;
 use crate::request::Request;
 use crate::verdict::Verdict;
@@ -83,10 +86,10 @@ fn tell_difference<O: Write + Drop, E: Write + Drop>(
 
 // The edition of the rules that a certificate says it is of, if it is another than the one by which
 // it is checked.
-fn other_edition(text: &[u8], editions: Editions) -> Option<Rules> {
-    match (edition_of(text), editions) {
-        (Rules::First, Editions::Only(Rules::Second)) => Some(Rules::First),
-        (Rules::Second, Editions::Only(Rules::First)) => Some(Rules::Second),
+fn other_edition(text: &[u8], method: Method) -> Option<Rules> {
+    match (edition_of(text), method) {
+        (Rules::First, Method::Tables(Editions::Only(Rules::Second))) => Some(Rules::First),
+        (Rules::Second, Method::Tables(Editions::Only(Rules::First))) => Some(Rules::Second),
         _ => None,
     }
 }
@@ -148,7 +151,10 @@ fn tell_why<O: Write + Drop, E: Write + Drop>(
 ) -> Result<(), AnswerFault>
     ensures { console.new.out ≡ console.old.out }
 {
-    let rules = claim.edition_among(sourced.editions);
+    let Some(editions) = sourced.method.editions() else {
+        return Ok(());
+    };
+    let rules = claim.edition_among(editions);
     match verify_by(console.alloc, &sourced.library, entry, rules) {
         Ok(verified) => tell_wanted(console, claim, &verified),
         Err(refusal) => {
@@ -175,7 +181,7 @@ pub fn refuse_claim<O: Write + Drop, E: Write + Drop>(
         return Err(AnswerFault::Memory);
     };
     console.answer(format_args!("{verdict}\n"))?;
-    match other_edition(&claim.bytes, sourced.editions) {
+    match other_edition(&claim.bytes, sourced.method) {
         Some(edition) => tell_other_edition(console, claim.name, edition),
         None => tell_why(console, sourced, entry, claim)?,
     }
@@ -194,8 +200,14 @@ fn tell_accepted<O: Write + Drop, E: Write + Drop>(
         (codes "accepted\n") result }
 {
     console.answer("accepted\n")?;
-    tell_edition(&mut console.voice, sourced.editions, verified);
-    tell_premise(&mut console.voice, &sourced.source, verified)?;
+    let rules = Some(verified.rules());
+    tell_edition(&mut console.voice, sourced.method, rules);
+    tell_premise(
+        &mut console.voice,
+        &sourced.source,
+        &verified.promise(),
+        rules,
+    )?;
     Ok(Outcome::Done)
 }
 
@@ -204,13 +216,14 @@ fn tell_accepted<O: Write + Drop, E: Write + Drop>(
 fn check_claim<O: Write + Drop, E: Write + Drop>(
     console: &mut Console<O, E>,
     sourced: &Sourced,
+    editions: Editions,
     entry: Reg,
     claim: &Claim<'_>,
 ) -> Result<Outcome, AnswerFault>
-    ensures { Answers (CheckIn sourced.now.editions claim.now.bytes.items sourced.now.library entry)
+    ensures { Answers (CheckIn editions claim.now.bytes.items sourced.now.library entry)
         (O.contents console.old.out) (O.contents console.new.out) result }
 {
-    match claim.accept(console.alloc, &sourced.library, entry, sourced.editions) {
+    match claim.accept(console.alloc, &sourced.library, entry, editions) {
         Ok(verified) => {
             verified.is_certified();
             tell_accepted(console, sourced, &verified)
@@ -219,16 +232,32 @@ fn check_claim<O: Write + Drop, E: Write + Drop>(
     }
 }
 
+// Accepts a certificate by a method, or says why not.
+fn check_by_method<O: Write + Drop, E: Write + Drop>(
+    console: &mut Console<O, E>,
+    sourced: &Sourced,
+    entry: Reg,
+    claim: &Claim<'_>,
+) -> Result<Outcome, AnswerFault>
+    ensures { Answers (ChecksBy sourced.now.method claim.now.bytes.items sourced.now.library entry)
+        (O.contents console.old.out) (O.contents console.new.out) result }
+{
+    match sourced.method {
+        Method::Tables(editions) => check_claim(console, sourced, editions, entry, claim),
+        Method::Claims => check_claims(console, &sourced.source, &sourced.library, entry, claim),
+    }
+}
+
 // Checks a certificate of a macro of the library that a source says.
 #[tactic(auto, using(crate::proofs::Answering::of_library, crate::proofs::Answering::of_no_library))]
 fn check_source<O: Write + Drop, E: Write + Drop>(
     console: &mut Console<O, E>,
     source: Source,
-    editions: Editions,
+    method: Method,
     entry: Reg,
     claim: &Claim<'_>,
 ) -> Result<Outcome, AnswerFault>
-    ensures { Answers (OfText (λ library. CheckIn editions claim.now.bytes.items library entry)
+    ensures { Answers (OfText (λ library. ChecksBy method claim.now.bytes.items library entry)
         source) (O.contents console.old.out) (O.contents console.new.out) result }
 {
     match library_of(console.alloc, &source) {
@@ -236,9 +265,9 @@ fn check_source<O: Write + Drop, E: Write + Drop>(
             let sourced = Sourced {
                 source,
                 library,
-                editions,
+                method,
             };
-            check_claim(console, &sourced, entry, claim)
+            check_by_method(console, &sourced, entry, claim)
         }
         Err(refusal) => refuse(console, &source, refusal, Rules::First),
     }
@@ -253,11 +282,11 @@ fn check_in<R: Shelf, O: Write + Drop, E: Write + Drop>(
     claim: &Claim<'_>,
 ) -> Result<Outcome, AnswerFault>
     ensures { AnswersFor (R.holds rt.now) request.entry
-        (λ library. CheckIn request.entry.editions claim.now.bytes.items library entry)
+        (λ library. ChecksBy request.entry.method claim.now.bytes.items library entry)
         (O.contents console.old.out) (O.contents console.new.out) result }
 {
     let source = read_source(rt, console.alloc, request)?;
-    check_source(console, source, request.editions, entry, claim)
+    check_source(console, source, request.method, entry, claim)
 }
 
 /// Checks a certificate of a macro of a library.

@@ -5,12 +5,16 @@ ghost use Rattle.teco_base.specs.declared.TheConstants.{LIMIT};
 ghost use Rattle.teco_certificate.specs.Text.{certificate_text};
 ghost use Rattle.teco_verdicts.specs.Answers.{IsDeniedBy};
 ghost use Rattle.teco_verdicts.specs.Certificates.{IsAmong};
+ghost use Rattle.teco_verdicts.specs.Accepted.{IsOf, certificate_of};
 ghost use Rattle.teco_verify.specs.Certified.{TakesDeclared};
 ghost use Rattle.teco_verify.specs.Refusing.{IsOfCertificate};
 
+use crate::acceptance::Accepted;
 use crate::editions::Editions;
 use crate::fault::AnswerFault;
 use crate::files::{Shelf, read_file};
+use crate::linear::{accepted_by_claims, refusal_of_text};
+use crate::method::Method;
 use std::alloc::Global;
 use teco_base::Reg;
 use teco_base::bytes::LF;
@@ -113,22 +117,43 @@ pub fn read_claim<'a, R: Shelf>(
     }
 }
 
+// The macro that a file is the certificate of, if that is the entry.
+fn accepted_by<'l>(
+    alloc: Global,
+    library: &'l Library,
+    entry: Reg,
+    method: Method,
+    claim: &Claim<'_>,
+) -> Result<Accepted<'l>, Refusal>
+    ensures is { IfOk result (IsOf library.now entry) }
+    ensures text { IfOk result (λ accepted. certificate_of accepted ≡ claim.now.bytes.items) }
+{
+    match method {
+        Method::Tables(editions) => {
+            let verified = claim.accept(alloc, library, entry, editions)?;
+            Ok(Accepted::Table(verified))
+        }
+        Method::Claims => match accepted_by_claims(alloc, library, entry, &claim.bytes) {
+            Ok(claimed) => Ok(Accepted::Claims(claimed)),
+            Err(refused) => Err(refusal_of_text(&refused)),
+        },
+    }
+}
+
 /// A macro of a library, by its certificate if there is one, or verified anew.
 pub fn accepted<'l>(
     alloc: Global,
     library: &'l Library,
     entry: Reg,
-    editions: Editions,
+    method: Method,
     claim: Option<&Claim<'_>>,
-) -> Result<Verified<'l>, Refusal>
-    ensures library { IfOk result (λ verified. verified.library ≡ library.now.texts) }
-    ensures declared { IfOk result (λ verified. TakesDeclared library.now verified.fields) }
-    ensures entry { IfOk result (λ verified. verified.fields.entry ≡ entry) }
+) -> Result<Accepted<'l>, Refusal>
+    ensures is { IfOk result (IsOf library.now entry) }
     ensures text { IfSome claim.entry (λ claim. IfOk result
-        (λ verified. certificate_text verified.fields ≡ claim.now.bytes.items)) }
+        (λ accepted. certificate_of accepted ≡ claim.now.bytes.items)) }
 {
     match claim {
-        None => editions.verify(alloc, library, entry),
-        Some(claim) => claim.accept(alloc, library, entry, editions),
+        None => method.verify(alloc, library, entry),
+        Some(claim) => accepted_by(alloc, library, entry, method, claim),
     }
 }

@@ -7,10 +7,8 @@ ghost use Rattle.teco_verify.specs.Again.{AreMadeAgain};
 ghost use Rattle.teco_verify.specs.Certified.{TakesDeclared};
 ghost use Rattle.teco_verifier.specs.declared.rules.Rules.TheVariants.{Second};
 
-use crate::console::Voice;
 use crate::premise::Premise;
 use std::alloc::{AllocError, Global};
-use std::io::Write;
 use teco_base::Reg;
 use teco_library::Library;
 use teco_verifier::Rules;
@@ -26,16 +24,6 @@ pub enum Editions {
     Best,
 }
 
-/// By which editions macros are verified, where the words name one or none; `is_best` where the best
-/// verdict is wanted, and not that of the first edition.
-pub fn editions_for(named: Option<Rules>, is_best: bool) -> Editions {
-    match named {
-        Some(rules) => Editions::Only(rules),
-        None if is_best => Editions::Best,
-        None => Editions::Only(Rules::First),
-    }
-}
-
 /// A promise for texts of so many characters is taken at once.
 const AMPLE: u64 = 16_777_216;
 
@@ -44,7 +32,7 @@ const AMPLE: u64 = 16_777_216;
 fn reach(verified: Option<&Verified<'_>>) -> u64
     ensures { verified.entry ≡ None → result ≡ 0 }
 {
-    let longest = verified.and_then(|verified| Premise::of_macro(verified).longest());
+    let longest = verified.and_then(|verified| Premise::of_promise(&verified.promise()).longest());
     longest.map_or(0, |longest| longest.saturating_add(1))
 }
 
@@ -157,24 +145,5 @@ impl Editions {
             Editions::Only(rules) => account_by(alloc, library, entry, rules),
             Editions::Best => account_by_best(alloc, library, entry),
         }
-    }
-
-    /// Was the second edition taken where the words name none?
-    pub fn chose_second(self, verified: &Verified<'_>) -> bool {
-        matches!((self, verified.rules()), (Editions::Best, Rules::Second))
-    }
-}
-
-/// What is said of a macro that is verified by the second edition, where the words name none.
-pub const BY_SECOND: &str = "verified by the second edition of the rules";
-
-/// Says that a macro is verified by the second edition, where the words name no edition.
-pub fn tell_edition<E: Write + Drop>(
-    voice: &mut Voice<E>,
-    editions: Editions,
-    verified: &Verified<'_>,
-) {
-    if editions.chose_second(verified) {
-        voice.say(BY_SECOND);
     }
 }

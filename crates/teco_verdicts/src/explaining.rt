@@ -3,11 +3,13 @@ ghost use Rattle.std.specs.Prelude.{◌≡◌};
 
 use crate::blame::tell_premise;
 use crate::console::Console;
-use crate::editions::tell_edition;
+use crate::editions::Editions;
 use crate::fault::{AnswerFault, written};
 use crate::files::Shelf;
 use crate::known::{words_of, words_of_choice};
 use crate::library::{Sourced, read_library};
+use crate::linear::verify_claims;
+use crate::method::tell_edition;
 use crate::naming::element_at;
 use crate::outcome::Outcome;
 use crate::request::Request;
@@ -135,11 +137,17 @@ fn conclude<O: Write + Drop, E: Write + Drop>(
     match account.verdict() {
         Ok(verified) => {
             console.answer("accepted\n")?;
-            tell_edition(&mut console.voice, sourced.editions, verified);
-            tell_premise(&mut console.voice, &sourced.source, verified)?;
+            let rules = Some(verified.rules());
+            tell_edition(&mut console.voice, sourced.method, rules);
+            tell_premise(
+                &mut console.voice,
+                &sourced.source,
+                &verified.promise(),
+                rules,
+            )?;
             Ok(Outcome::Done)
         }
-        Err(refusal) => refuse(console, &sourced.source, refusal, sourced.editions.newest()),
+        Err(refusal) => refuse(console, &sourced.source, refusal, sourced.method.newest()),
     }
 }
 
@@ -154,15 +162,14 @@ fn list_account<O: Write + Drop, E: Write + Drop>(
     conclude(console, sourced, account)
 }
 
-// Explains a macro of a library.
+// Explains a macro of a library by tables.
 fn explain_entry<O: Write + Drop, E: Write + Drop>(
     console: &mut Console<O, E>,
     sourced: &Sourced,
+    editions: Editions,
     entry: Reg,
 ) -> Result<Outcome, AnswerFault> {
-    let account = sourced
-        .editions
-        .account(console.alloc, &sourced.library, entry)?;
+    let account = editions.account(console.alloc, &sourced.library, entry)?;
     list_account(console, sourced, &account)
 }
 
@@ -172,9 +179,12 @@ fn explain_by_both<O: Write + Drop, E: Write + Drop>(
     sourced: &Sourced,
     entry: Reg,
 ) -> Result<Outcome, AnswerFault> {
-    let outcome = explain_entry(console, sourced, entry)?;
+    let Some(editions) = sourced.method.editions() else {
+        return verify_claims(console, &sourced.source, &sourced.library, entry);
+    };
+    let outcome = explain_entry(console, sourced, editions, entry)?;
     if let Outcome::Refused = outcome {
-        tell_second_edition(console, &sourced.library, entry, sourced.editions);
+        tell_second_edition(console, &sourced.library, entry, sourced.method);
     }
     Ok(outcome)
 }

@@ -1,9 +1,9 @@
 //! Verdicts for machines: an object of JSON in each line.
 use crate::console::Console;
-use crate::editions::Editions;
 use crate::fault::AnswerFault;
 use crate::files::Shelf;
 use crate::library::{NAMES, library_of, macro_named};
+use crate::method::Method;
 use crate::outcome::Outcome;
 use crate::premise::Premise;
 use crate::request::Request;
@@ -16,8 +16,9 @@ use teco_base::Reg;
 use teco_explain::{number_of, position_in};
 use teco_library::Library;
 use teco_poly::Poly;
+use teco_promise::Promise;
 use teco_source::{Position, Source};
-use teco_verify::{Refusal, Verified};
+use teco_verify::Refusal;
 
 /// How many coefficients a polynomial has at most.
 const COEFFICIENTS: usize = 9;
@@ -94,15 +95,15 @@ impl fmt::Display for Nullable {
 // Prints that a macro is accepted, and what it promises.
 fn answer_accepted<O: Write + Drop, E: Write + Drop>(
     console: &mut Console<O, E>,
-    verified: &Verified<'_>,
+    promise: &Promise<'_>,
 ) -> Result<Outcome, AnswerFault> {
-    let name = char::from(verified.entry().name());
-    let commands = Coefficients::of(console.alloc, &verified.commands())?;
-    let size = Coefficients::of(console.alloc, &verified.size())?;
-    let needs = verified.needs();
+    let name = char::from(promise.entry().name());
+    let commands = Coefficients::of(console.alloc, &promise.commands())?;
+    let size = Coefficients::of(console.alloc, &promise.size())?;
+    let needs = promise.needs();
     let input = needs.input;
     let output = needs.output;
-    let premise = Premise::of_macro(verified);
+    let premise = Premise::of_promise(promise);
     let greatest = Nullable(premise.longest().and(premise.last));
     console.answer(format_args!(
         "{{\"macro\": \"{name}\", \"accepted\": true, \"commands\": {commands}, \"size\": {size}, \"needs_input\": {input}, \"needs_output\": {output}, \"greatest_n\": {greatest}}}\n"
@@ -178,10 +179,10 @@ fn answer_verdict<O: Write + Drop, E: Write + Drop>(
     source: &Source,
     library: &Library,
     entry: Reg,
-    editions: Editions,
+    method: Method,
 ) -> Result<Outcome, AnswerFault> {
-    match editions.verify(console.alloc, library, entry) {
-        Ok(verified) => answer_accepted(console, &verified),
+    match method.verify(console.alloc, library, entry) {
+        Ok(accepted) => answer_accepted(console, &accepted.promise()),
         Err(refusal) => answer_refused(console, source, Some(entry), &refusal),
     }
 }
@@ -191,10 +192,10 @@ fn answer_macro<O: Write + Drop, E: Write + Drop>(
     console: &mut Console<O, E>,
     source: &Source,
     entry: Reg,
-    editions: Editions,
+    method: Method,
 ) -> Result<Outcome, AnswerFault> {
     match library_of(console.alloc, source) {
-        Ok(library) => answer_verdict(console, source, &library, entry, editions),
+        Ok(library) => answer_verdict(console, source, &library, entry, method),
         Err(refusal) => answer_refused(console, source, None, &refusal),
     }
 }
@@ -207,7 +208,7 @@ pub fn verify_macro_as_json<R: Shelf, O: Write + Drop, E: Write + Drop>(
     entry: Reg,
 ) -> Result<Outcome, AnswerFault> {
     let source = read_source(rt, console.alloc, request)?;
-    answer_macro(console, &source, entry, request.editions)
+    answer_macro(console, &source, entry, request.method)
 }
 
 // Prints the verdict on each macro of a library.
@@ -215,12 +216,12 @@ fn answer_each<O: Write + Drop, E: Write + Drop>(
     console: &mut Console<O, E>,
     source: &Source,
     library: &Library,
-    editions: Editions,
+    method: Method,
 ) -> Result<Outcome, AnswerFault> {
     let mut outcome = Outcome::Done;
     for name in NAMES {
         if let Some(entry) = macro_named(library, *name) {
-            outcome = outcome.worse(answer_verdict(console, source, library, entry, editions)?);
+            outcome = outcome.worse(answer_verdict(console, source, library, entry, method)?);
         }
     }
     Ok(outcome)
@@ -230,10 +231,10 @@ fn answer_each<O: Write + Drop, E: Write + Drop>(
 fn answer_library<O: Write + Drop, E: Write + Drop>(
     console: &mut Console<O, E>,
     source: &Source,
-    editions: Editions,
+    method: Method,
 ) -> Result<Outcome, AnswerFault> {
     match library_of(console.alloc, source) {
-        Ok(library) => answer_each(console, source, &library, editions),
+        Ok(library) => answer_each(console, source, &library, method),
         Err(refusal) => answer_refused(console, source, None, &refusal),
     }
 }
@@ -246,5 +247,5 @@ pub fn verify_library_as_json<R: Shelf, O: Write + Drop, E: Write + Drop>(
     request: Request<'_>,
 ) -> Result<Outcome, AnswerFault> {
     let source = read_source(rt, console.alloc, request)?;
-    answer_library(console, &source, request.editions)
+    answer_library(console, &source, request.method)
 }

@@ -1,6 +1,7 @@
 //! What `verify`, `check`, `explain` and `show` print.
 #![tactic(auto)]
 
+mod acceptance;
 mod blame;
 mod checking;
 mod claim;
@@ -16,7 +17,9 @@ mod json;
 mod known;
 pub mod laws;
 mod library;
+mod linear;
 mod linting;
+mod method;
 mod naming;
 mod outcome;
 mod premise;
@@ -27,11 +30,12 @@ mod verdict;
 mod verifying;
 mod written;
 
+pub use acceptance::Accepted;
 pub use blame::{tell_no_text, tell_promise, warn_no_text};
 pub use checking::{check_macro, refuse_claim};
 pub use claim::{Claim, accepted, read_claim};
 pub use console::{Console, Voice};
-pub use editions::{Editions, editions_for, tell_edition};
+pub use editions::Editions;
 pub use explaining::explain_macro;
 pub use fault::AnswerFault;
 pub use files::{STREAM, Shelf, read_file};
@@ -39,6 +43,7 @@ pub use forms::{Escape, form_of, form_of_word, is_readable};
 pub use json::{verify_library_as_json, verify_macro_as_json};
 pub use library::{Setup, Sourced, read_library, read_library_for};
 pub use linting::lint;
+pub use method::{Method, method_for, tell_edition};
 pub use naming::{element_at, letters};
 pub use outcome::Outcome;
 pub use premise::{Grouped, Known, Premise};
@@ -47,4 +52,4 @@ pub use setting::Setting;
 pub use showing::{explain, explain_all, show, show_source};
 pub use teco_verifier::Rules;
 pub use verdict::Verdict;
-pub use verifying::{refuse_macro, tell_second_edition, verify_library, verify_macro};
+pub use verifying::{refuse, refuse_macro, tell_second_edition, verify_library, verify_macro};

@@ -6,9 +6,9 @@ ghost use Rattle.teco_library.specs.Reads.{Reads};
 ghost use Rattle.teco_verdicts.specs.Answers.{ReadsNone};
 
 use crate::console::Console;
-use crate::editions::Editions;
 use crate::fault::AnswerFault;
 use crate::files::Shelf;
+use crate::method::Method;
 use crate::request::Request;
 use crate::setting::Setting;
 use crate::verifying::refuse;
@@ -41,25 +41,25 @@ pub fn library_of(alloc: Global, source: &Source) -> Result<Library, Refusal>
     }
 }
 
-/// A library, with the source that says it, and the editions of the rules for its macros.
+/// A library, with the source that says it, and how its macros are verified.
 #[derive(Drop)]
 pub struct Sourced {
     pub source: Source,
     pub library: Library,
-    pub editions: Editions,
+    pub method: Method,
 }
 
 // The library that a source says. Where it says none, the refusal is printed, and there is none.
 fn library_in<O: Write + Drop, E: Write + Drop>(
     console: &mut Console<O, E>,
     source: Source,
-    editions: Editions,
+    method: Method,
 ) -> Result<Option<Sourced>, AnswerFault> {
     match library_of(console.alloc, &source) {
         Ok(library) => Ok(Some(Sourced {
             source,
             library,
-            editions,
+            method,
         })),
         Err(refusal) => {
             refuse(console, &source, refusal, Rules::First)?;
@@ -75,7 +75,7 @@ pub fn read_library<R: Shelf, O: Write + Drop, E: Write + Drop>(
     request: Request<'_>,
 ) -> Result<Option<Sourced>, AnswerFault> {
     let source = read_source(rt, console.alloc, request)?;
-    library_in(console, source, request.editions)
+    library_in(console, source, request.method)
 }
 
 /// The macro of a library that is to be run, and what registers are given before.
@@ -102,7 +102,7 @@ fn check_settings(library: &Library, settings: &[Setting]) -> Result<(), AnswerF
 // Is a library better that has the texts which registers are given? Not where the macro writes one of
 // them, and not where it alone is refused.
 fn is_better(alloc: Global, fixed: &Sourced, plain: &Sourced, entry: Reg) -> bool {
-    match fixed.editions.verify(alloc, &fixed.library, entry) {
+    match fixed.method.verify(alloc, &fixed.library, entry) {
         Ok(_) => true,
         Err(
             Refusal::No {
@@ -110,7 +110,7 @@ fn is_better(alloc: Global, fixed: &Sourced, plain: &Sourced, entry: Reg) -> boo
                 ..
             },
         ) => false,
-        Err(_) => plain.editions.verify(alloc, &plain.library, entry).is_err(),
+        Err(_) => plain.method.verify(alloc, &plain.library, entry).is_err(),
     }
 }
 
@@ -119,10 +119,10 @@ fn fixed_library<O: Write + Drop, E: Write + Drop>(
     console: &mut Console<O, E>,
     written: &Written<'_>,
     settings: &[Setting],
-    editions: Editions,
+    method: Method,
 ) -> Result<Option<Sourced>, AnswerFault> {
     let source = written.source_with(console.alloc, settings)?;
-    library_in(console, source, editions)
+    library_in(console, source, method)
 }
 
 /// Reads a library for the run of a macro. What registers are given is a part of it, if that may be
@@ -135,14 +135,14 @@ pub fn read_library_for<R: Shelf, O: Write + Drop, E: Write + Drop>(
 ) -> Result<Option<Sourced>, AnswerFault> {
     let written = Written::read(rt, console.alloc, request)?;
     let source = written.source(console.alloc)?;
-    let Some(plain) = library_in(console, source, request.editions)? else {
+    let Some(plain) = library_in(console, source, request.method)? else {
         return Ok(None);
     };
     check_settings(&plain.library, setup.settings)?;
     if setup.settings.is_empty() || !setup.is_open {
         return Ok(Some(plain));
     }
-    match fixed_library(console, &written, setup.settings, request.editions)? {
+    match fixed_library(console, &written, setup.settings, request.method)? {
         Some(fixed) if is_better(console.alloc, &fixed, &plain, setup.entry) => Ok(Some(fixed)),
         _ => Ok(Some(plain)),
     }

@@ -8,7 +8,7 @@ use teco_base::{LIMIT, Reg};
 use teco_library::Library;
 use teco_poly::Poly;
 use teco_poly::laws::values_grow;
-use teco_verify::Verified;
+use teco_promise::Promise;
 
 /// The greatest N at which a promise holds: the printed size may be held, and the printed number of
 /// commands is one of 64 bits.
@@ -38,14 +38,14 @@ impl Premise {
         }
     }
 
-    /// The premise of the promise of a verified macro.
-    pub fn of_macro(verified: &Verified<'_>) -> Premise
-        ensures { IsPremise verified.now.fields.size verified.now.fields.commands result.last }
+    /// The premise of a promise.
+    pub fn of_promise(promise: &Promise<'_>) -> Premise
+        ensures { IsPremise promise.now.size promise.now.commands result.last }
     {
         Premise::of(
-            &verified.size(),
-            &verified.commands(),
-            characters_of(verified.library()),
+            &promise.size(),
+            &promise.commands(),
+            characters_of(promise.library()),
         )
     }
 

@@ -1,6 +1,6 @@
 //! What is asked of a library.
-use crate::editions::Editions;
 use crate::forms::{Escape, is_readable};
+use crate::method::Method;
 
 /// What a library is read from: a file, texts of the command line, or both.
 #[derive(Clone, Copy)]
@@ -30,11 +30,11 @@ impl<'a> Origin<'a> {
     }
 }
 
-/// A library, how it writes ESC, and by which editions of the rules it is verified.
+/// A library, how it writes ESC, and how it is verified.
 #[derive(Clone, Copy)]
 pub struct Request<'a> {
     pub library: Origin<'a>,
     pub escape: Escape,
-    /// The editions of the rules that its macros are verified by.
-    pub editions: Editions,
+    /// How its macros are verified.
+    pub method: Method,
 }

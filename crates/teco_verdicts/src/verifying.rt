@@ -2,18 +2,22 @@
 ghost use Rattle.std.specs.Prelude.{◌≡◌, IfOk};
 ghost use Rattle.teco_certificate.specs.Text.{certificate_text};
 ghost use Rattle.teco_verdicts.specs.Answers.{Answers, AnswersFor, OfText, Refuses, VerdictIn};
+ghost use Rattle.teco_verdicts.specs.Methods.{VerdictBy};
 ghost use Rattle.teco_verdicts.specs.Output.{Writes};
 ghost use Rattle.teco_verdicts.specs.declared.outcome.Outcome.TheVariants.{Done, Refused};
 
+use crate::acceptance::Accepted;
 use crate::blame::{Held, tell_premise};
 use crate::console::{Console, write_bytes};
 use crate::dollars::tell_dollars;
-use crate::editions::{BY_SECOND, Editions, tell_edition};
+use crate::editions::Editions;
 use crate::explaining::tell_known;
 use crate::fault::AnswerFault;
 use crate::files::Shelf;
 use crate::library::{NAMES, Sourced, explained, library_of, macro_named, read_library};
+use crate::linear::verify_claims;
 use crate::linting::Findings;
+use crate::method::{BY_SECOND, Method, chose_second, tell_edition};
 use crate::outcome::Outcome;
 use crate::request::Request;
 use crate::verdict::Verdict;
@@ -101,7 +105,7 @@ pub fn refuse_macro<O: Write + Drop, E: Write + Drop>(
     ensures line { Refuses (O.contents console.old.out) (O.contents console.new.out) refusal
         result }
 {
-    let rules = sourced.editions.newest();
+    let rules = sourced.method.newest();
     refuse_known(console, &sourced.source, account, refusal, rules)
 }
 
@@ -115,11 +119,11 @@ pub fn tell_second_edition<O: Write + Drop, E: Write + Drop>(
     console: &mut Console<O, E>,
     library: &Library,
     entry: Reg,
-    editions: Editions,
+    method: Method,
 )
     ensures { console.new.out ≡ console.old.out }
 {
-    let Editions::Only(Rules::First) = editions else {
+    let Method::Tables(Editions::Only(Rules::First)) = method else {
         return;
     };
     match trial_by(
@@ -152,8 +156,9 @@ fn accept<O: Write + Drop, E: Write + Drop>(
         (certificate_text verified.now.fields) result }
 {
     print_certificate(console, verified)?;
-    tell_edition(&mut console.voice, editions, verified);
-    tell_premise(&mut console.voice, source, verified)?;
+    let rules = Some(verified.rules());
+    tell_edition(&mut console.voice, Method::Tables(editions), rules);
+    tell_premise(&mut console.voice, source, &verified.promise(), rules)?;
     let library = verified.library();
     Findings::new(console.alloc, source, false).tell(&mut console.voice, library, verified.entry());
     Ok(Outcome::Done)
@@ -180,10 +185,27 @@ fn verify_entry<O: Write + Drop, E: Write + Drop>(
         Err(refusal) => {
             let outcome = refuse_known(console, source, &account, refusal, editions.newest());
             if outcome.is_ok() {
-                tell_second_edition(console, library, entry, editions);
+                tell_second_edition(console, library, entry, Method::Tables(editions));
             }
             outcome
         }
+    }
+}
+
+// Prints the certificate of a macro of a library by a method, or why it is refused.
+fn verify_by_method<O: Write + Drop, E: Write + Drop>(
+    console: &mut Console<O, E>,
+    source: &Source,
+    library: &Library,
+    entry: Reg,
+    method: Method,
+) -> Result<Outcome, AnswerFault>
+    ensures { Answers (VerdictBy method library.now entry)
+        (O.contents console.old.out) (O.contents console.new.out) result }
+{
+    match method {
+        Method::Tables(editions) => verify_entry(console, source, library, entry, editions),
+        Method::Claims => verify_claims(console, source, library, entry),
     }
 }
 
@@ -193,14 +215,14 @@ fn verify_source<O: Write + Drop, E: Write + Drop>(
     console: &mut Console<O, E>,
     source: &Source,
     entry: Reg,
-    editions: Editions,
+    method: Method,
 ) -> Result<Outcome, AnswerFault>
-    ensures { Answers (OfText (λ library. VerdictIn editions library entry) source.now)
+    ensures { Answers (OfText (λ library. VerdictBy method library entry) source.now)
         (O.contents console.old.out) (O.contents console.new.out) result }
 {
     match library_of(console.alloc, source) {
-        Ok(library) => verify_entry(console, source, &library, entry, editions),
-        Err(refusal) => refuse(console, source, refusal, editions.newest()),
+        Ok(library) => verify_by_method(console, source, &library, entry, method),
+        Err(refusal) => refuse(console, source, refusal, method.newest()),
     }
 }
 
@@ -212,24 +234,25 @@ pub fn verify_macro<R: Shelf, O: Write + Drop, E: Write + Drop>(
     entry: Reg,
 ) -> Result<Outcome, AnswerFault>
     ensures { AnswersFor (R.holds rt.now) request.entry
-        (λ library. VerdictIn request.entry.editions library entry)
+        (λ library. VerdictBy request.entry.method library entry)
         (O.contents console.old.out) (O.contents console.new.out) result }
 {
     let source = read_source(rt, console.alloc, request)?;
-    verify_source(console, &source, entry, request.editions)
+    verify_source(console, &source, entry, request.method)
 }
 
 // Prints that one macro of several is accepted.
 fn tell_accepted<O: Write + Drop, E: Write + Drop>(
     console: &mut Console<O, E>,
     sourced: &Sourced,
-    verified: &Verified<'_>,
+    accepted: &Accepted<'_>,
 ) -> Result<Outcome, AnswerFault> {
-    let name = char::from(verified.entry().name());
-    let held = Held::of(console.alloc, &sourced.source, verified)?;
+    let name = char::from(accepted.entry().name());
+    let rules = accepted.rules();
+    let held = Held::of(console.alloc, &sourced.source, &accepted.promise(), rules)?;
     let scope = if held.is_empty() { ", for no text" } else { "" };
     console.answer(format_args!("{name}: accepted{scope}\n"))?;
-    if sourced.editions.chose_second(verified) {
+    if chose_second(sourced.method, rules) {
         console.say(format_args!("{name}: {BY_SECOND}"));
     }
     console.say(format_args!("{name}: {held}"));
@@ -247,7 +270,7 @@ fn tell_refused<O: Write + Drop, E: Write + Drop>(
         return Err(AnswerFault::Memory);
     };
     console.answer(format_args!("{name}: {verdict}\n"))?;
-    if let Some(told) = explained(&sourced.source, &refusal, sourced.editions.newest()) {
+    if let Some(told) = explained(&sourced.source, &refusal, sourced.method.newest()) {
         console.say(told);
     }
     Ok(Outcome::Refused)
@@ -262,15 +285,15 @@ fn verify_one<O: Write + Drop, E: Write + Drop>(
 ) -> Result<Outcome, AnswerFault> {
     let name = char::from(entry.name());
     let library = &sourced.library;
-    match sourced.editions.verify(console.alloc, library, entry) {
-        Ok(verified) => {
-            let outcome = tell_accepted(console, sourced, &verified)?;
+    match sourced.method.verify(console.alloc, library, entry) {
+        Ok(accepted) => {
+            let outcome = tell_accepted(console, sourced, &accepted)?;
             findings.tell(&mut console.voice, library, entry);
             Ok(outcome)
         }
         Err(refusal) => {
             let outcome = tell_refused(console, sourced, name, refusal)?;
-            tell_second_edition(console, library, entry, sourced.editions);
+            tell_second_edition(console, library, entry, sourced.method);
             Ok(outcome)
         }
     }

@@ -14,6 +14,6 @@ pub use fault::WordsFault;
 pub use words::{
     cap, case, change, check_streams, check_tested, check_texts, choice, entry, escape_of,
     file_name, file_names, form_of_source, given, has_macro_options, keeping, limit, look, mark_of,
-    names_macro, names_register, naming, origin, pages, rules_of, scripts, setting_files, settings,
-    source_name, target_name, word,
+    method_of, names_macro, names_register, naming, origin, pages, scripts, setting_files,
+    settings, source_name, target_name, word,
 };

@@ -12,7 +12,7 @@ use teco_base::bytes::ESC;
 use teco_edits::{Change, Choice, Keeping, Look, Naming};
 use teco_source::{Form, Shown};
 use teco_tools::{Case, INPUT, OUTPUT, Script};
-use teco_verdicts::{Escape, Origin, Rules, STREAM, Setting};
+use teco_verdicts::{Editions, Escape, Method, Origin, Rules, STREAM, Setting};
 
 /// The register of the macro where an option names the library, and none the register.
 const DEFAULT_ENTRY: &str = "A";
@@ -150,12 +150,13 @@ pub fn escape_of(words: &ArgMatches<'_>) -> Result<Escape, WordsFault> {
     }
 }
 
-/// The edition of the rules, if one is named.
-pub fn rules_of(words: &ArgMatches<'_>) -> Result<Option<Rules>, WordsFault> {
+/// How macros are verified, if that is named.
+pub fn method_of(words: &ArgMatches<'_>) -> Result<Option<Method>, WordsFault> {
     match words.get_str("rules") {
         None => Ok(None),
-        Some("1") => Ok(Some(Rules::First)),
-        Some("2") => Ok(Some(Rules::Second)),
+        Some("1") => Ok(Some(Method::Tables(Editions::Only(Rules::First)))),
+        Some("2") => Ok(Some(Method::Tables(Editions::Only(Rules::Second)))),
+        Some("3") => Ok(Some(Method::Claims)),
         Some(_) => Err(WordsFault::Rules),
     }
 }

@@ -5,6 +5,9 @@ pub returns-clause-edits : goal.returns-clause-edits
 returns-clause-edits g c =
     rw (← c.promise-promise.ensures) (
       c.terms-terms.result,
-      record { strict = c.terms-terms.ensures.strict; premise = rw c.promise-promise.ensures (c.terms-terms.ensures.premise) },
+      record {
+        strict = c.terms-terms.ensures.strict;
+        premise = rw c.promise-promise.ensures (c.terms-terms.ensures.premise);
+      },
       c.edit_file.ensures.edits,
     )

@@ -15,8 +15,9 @@ returns-in-Ok-clause-accepted c = λ steps most takes_none accepted.
     c.requires in
     let plain = plain_fields asked.rules asked.entry steps most in
     c.found_with.ensures.again plain
-    (subst (λ those. AreMadeBy (given_by asked.rules asked.library.now asked.entry) c.args.nodes.now those asked.entry
-    plain) (sym (c.deref.ensures.value ∙ c.in-Ok.ensures.none none))
+    (subst
+    (λ those. AreMadeBy (given_by asked.rules asked.library.now asked.entry) c.args.nodes.now those asked.entry plain)
+    (sym (c.deref.ensures.value ∙ c.in-Ok.ensures.none none))
     (accepted_made asked.rules asked.library.now asked.entry steps most takes_none accepted c.args.nodes.now c.requires))
 
 pub returns-in-Err-clause-accepted : goal.returns-in-Err-clause-accepted

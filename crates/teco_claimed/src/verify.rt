@@ -1,0 +1,155 @@
+//! Looking for a certificate of the linear rules.
+ghost use Rattle.std.specs.Prelude.{◌≡◌, IfOk};
+ghost use Rattle.teco_claimed.specs.Claimed.{TakesDeclared};
+
+use crate::certificate::LinearCertificate;
+use crate::check::{check_linear, lengths_of};
+use crate::claimed::Claimed;
+use crate::refusal::LinearRefusal;
+use std::alloc::Global;
+use teco_base::Reg;
+use teco_expansion::{Nodes, expand};
+use teco_infer::{ATTEMPTS, Refusal as Unfound, infer_by, is_worth_another};
+use teco_library::Library;
+use teco_model::kind::{Page, Search};
+use teco_model::{Kind, Needs};
+use teco_paths::claimed::Called;
+
+// The files that an element wants.
+fn wanted_by(kind: Kind) -> Needs {
+    Needs {
+        input: matches!(kind, Kind::Page(Page::Yank)),
+        output: matches!(
+            kind,
+            Kind::Page(Page::Next | Page::Write)
+                | Kind::Search(Search::FindInPages | Search::ReplaceInPages)
+        ),
+    }
+}
+
+// The files that some element of a macro wants.
+fn needs_of(nodes: &Nodes<'_>) -> Needs {
+    let mut needs = Needs {
+        input: false,
+        output: false,
+    };
+    for before in 0..nodes.len() {
+        if let Some(element) = nodes.element(before + 1) {
+            let wanted = wanted_by(element.kind);
+            needs.input = needs.input || wanted.input;
+            needs.output = needs.output || wanted.output;
+        }
+    }
+    needs
+}
+
+// The macro by the claims that one way of looking for them finds.
+fn attempt<'l>(
+    library: &'l Library,
+    entry: Reg,
+    called: &Called<'_>,
+    attempt: usize,
+    alloc: Global,
+) -> Result<Claimed<'l>, LinearRefusal>
+    ensures library { IfOk result (λ found. found.library ≡ library.now) }
+    ensures declared { IfOk result (λ found. TakesDeclared library.now found.certificate) }
+    ensures entry { IfOk result (λ found. found.certificate.entry ≡ entry) }
+{
+    let claims = match infer_by(called, attempt, alloc) {
+        Ok(claims) => claims,
+        Err(refused) => return Err(LinearRefusal::of_search(called.nodes, refused)),
+    };
+    let certificate = LinearCertificate {
+        entry,
+        argument: called.argument,
+        needs: called.needs,
+        claims,
+    };
+    let text = certificate.write(alloc)?;
+    let claimed = check_linear(library, &text, alloc)?;
+    if claimed.entry().index() == entry.index() {
+        Ok(claimed)
+    } else {
+        Err(LinearRefusal::NotACertificate)
+    }
+}
+
+// Is another way of looking worth its time behind this refusal?
+fn goes_on(refused: LinearRefusal) -> bool {
+    match refused {
+        LinearRefusal::NotFound { why, .. } => is_worth_another(why),
+        LinearRefusal::NotCertain { .. } => true,
+        _ => false,
+    }
+}
+
+// The macro by claims that are looked for where these files are open. A refusal is that of the first way
+// of looking for them.
+fn attempts<'l>(
+    library: &'l Library,
+    entry: Reg,
+    nodes: &Nodes<'_>,
+    needs: Needs,
+    alloc: Global,
+) -> Result<Claimed<'l>, LinearRefusal>
+    ensures library { IfOk result (λ found. found.library ≡ library.now) }
+    ensures declared { IfOk result (λ found. TakesDeclared library.now found.certificate) }
+    ensures entry { IfOk result (λ found. found.certificate.entry ≡ entry) }
+{
+    let lengths = lengths_of(alloc, library)?;
+    let called = Called {
+        nodes,
+        lengths: &lengths,
+        argument: library.argument(entry),
+        needs,
+    };
+    let mut first = None;
+    for at in 0..ATTEMPTS {
+        match attempt(library, entry, &called, at, alloc) {
+            Ok(claimed) => return Ok(claimed),
+            Err(refused) => {
+                first = first.or(Some(refused));
+                if !goes_on(refused) {
+                    break;
+                }
+            }
+        }
+    }
+    Err(first.unwrap_or(LinearRefusal::NotACertificate))
+}
+
+// Is it a file that was not open?
+fn wants_file(refused: LinearRefusal) -> bool {
+    matches!(
+        refused,
+        LinearRefusal::NotFound {
+            why: Unfound::NotOpen(_),
+            ..
+        }
+    )
+}
+
+/// A macro of a library, by claims that are looked for and checked. `A` alone wants an input, and `nA`
+/// none: so where no input is known to be wanted, claims are looked for without one first.
+pub fn verify_linear<'l>(
+    library: &'l Library,
+    entry: Reg,
+    alloc: Global,
+) -> Result<Claimed<'l>, LinearRefusal>
+    ensures library { IfOk result (λ found. found.library ≡ library.now) }
+    ensures declared { IfOk result (λ found. TakesDeclared library.now found.certificate) }
+    ensures entry { IfOk result (λ found. found.certificate.entry ≡ entry) }
+{
+    let nodes = expand(alloc, library, entry)?;
+    let needs = needs_of(&nodes);
+    match attempts(library, entry, &nodes, needs, alloc) {
+        Err(refused) if wants_file(refused) && !needs.input => {
+            let needs = Needs {
+                input: true,
+                output: needs.output,
+            };
+            attempts(library, entry, &nodes, needs, alloc)
+        }
+        answer => answer,
+    }
+}

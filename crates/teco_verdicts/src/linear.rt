@@ -1,0 +1,236 @@
+//! Verdicts by claims: the linear rules.
+ghost use Rattle.std.specs.Prelude.{◌≡◌, IfOk, codes};
+ghost use Rattle.teco_claimed.specs.Claimed.{TakesDeclared};
+ghost use Rattle.teco_claimed.specs.Text.{linear_text};
+ghost use Rattle.teco_verdicts.specs.Answers.{Answers, Refuses};
+ghost use Rattle.teco_verdicts.specs.Linear.{ChecksByClaims, RefusesCertificate, VerdictByClaims};
+ghost use Rattle.teco_verdicts.specs.Output.{Writes};
+ghost use Rattle.teco_verdicts.specs.declared.outcome.Outcome.TheVariants.{Done, Refused};
+ghost use Rattle.teco_verify.specs.Refusing.{IsOfCertificate};
+
+use crate::blame::tell_premise;
+use crate::claim::Claim;
+use crate::console::{Console, write_bytes};
+use crate::fault::AnswerFault;
+use crate::library::{NAMES, library_of};
+use crate::linting::Findings;
+use crate::outcome::Outcome;
+use crate::verifying::refuse;
+use std::alloc::Global;
+use std::io::Write;
+use teco_base::Reg;
+use teco_claimed::{Claimed, LinearRefusal, NodePlace, check_linear, verify_linear};
+use teco_expansion::ExpandFault;
+use teco_infer::Refusal as Unfound;
+use teco_library::Library;
+use teco_source::{Shown, Source};
+use teco_verifier::{Refusal as Why, Rules};
+use teco_verify::Refusal;
+
+// The register at a place, if there is one.
+fn register_at(place: usize) -> Option<Reg> {
+    NAMES.get(place).and_then(|name| Reg::of(*name))
+}
+
+// The text in which an element stands.
+fn text_at(library: &Library, at: NodePlace) -> &[u8] {
+    register_at(at.register)
+        .and_then(|register| library.text(register))
+        .unwrap_or(&[])
+}
+
+// Why an element is refused of which a condition is not shown, by its letter.
+fn why_of_letter(letter: u8) -> Why {
+    match letter.to_ascii_uppercase() {
+        b'C' | b'R' | b'J' => Why::Place,
+        b'D' | b'K' => Why::Deletion,
+        b'/' => Why::Divisor,
+        b']' => Why::Pop,
+        _ => Why::Argument,
+    }
+}
+
+// The same, by the text behind its place: its modifiers stand before its letter.
+fn why_of_condition(text: &[u8]) -> Why {
+    for byte in text {
+        if *byte != b'@' && *byte != b':' {
+            return why_of_letter(*byte);
+        }
+    }
+    Why::Argument
+}
+
+// The reason why no claims are found.
+fn why_of(library: &Library, why: Unfound, at: NodePlace) -> Why {
+    match why {
+        Unfound::NotTold(_) | Unfound::NotOpen(_) => Why::Unverified,
+        Unfound::Condition(_) => {
+            why_of_condition(text_at(library, at).get(at.place..).unwrap_or(&[]))
+        }
+        Unfound::Steps(_) => Why::Fall,
+        _ => Why::Bound,
+    }
+}
+
+// Why a macro of a library is refused, as it is printed. What has no place is told at the entry's first
+// element.
+fn refusal_of(library: &Library, entry: Reg, refused: &LinearRefusal) -> Refusal {
+    match *refused {
+        LinearRefusal::NotExpanded(refusal) => Refusal::from(ExpandFault::Refused(refusal)),
+        LinearRefusal::NotFound { why, at } => {
+            let at = at.unwrap_or(NodePlace {
+                register: entry.index(),
+                place: 0,
+            });
+            Refusal::No {
+                why: why_of(library, why, at),
+                register: register_at(at.register),
+                place: at.place,
+            }
+        }
+        LinearRefusal::Memory => Refusal::Memory,
+        _ => Refusal::certificate(),
+    }
+}
+
+/// The refusal of a certificate by claims.
+pub fn refusal_of_text(refused: &LinearRefusal) -> Refusal
+    ensures { IsOfCertificate result }
+{
+    match refused {
+        LinearRefusal::Memory => Refusal::Memory,
+        _ => Refusal::certificate(),
+    }
+}
+
+/// A macro of a library, by claims that are found and checked.
+pub fn verified_by_claims<'l>(
+    alloc: Global,
+    library: &'l Library,
+    entry: Reg,
+) -> Result<Claimed<'l>, Refusal>
+    ensures library { IfOk result (λ claimed. claimed.library ≡ library.now) }
+    ensures declared { IfOk result (λ claimed. TakesDeclared library.now claimed.certificate) }
+    ensures entry { IfOk result (λ claimed. claimed.certificate.entry ≡ entry) }
+{
+    match verify_linear(library, entry, alloc) {
+        Ok(claimed) => Ok(claimed),
+        Err(refused) => Err(refusal_of(library, entry, &refused)),
+    }
+}
+
+/// The macro that a text is the certificate of, if that is the entry.
+pub fn accepted_by_claims<'l>(
+    alloc: Global,
+    library: &'l Library,
+    entry: Reg,
+    text: &[u8],
+) -> Result<Claimed<'l>, LinearRefusal>
+    ensures library { IfOk result (λ claimed. claimed.library ≡ library.now) }
+    ensures declared { IfOk result (λ claimed. TakesDeclared library.now claimed.certificate) }
+    ensures entry { IfOk result (λ claimed. claimed.certificate.entry ≡ entry) }
+    ensures text { IfOk result (λ claimed. linear_text claimed.certificate ≡ text.now) }
+{
+    let claimed = check_linear(library, text, alloc)?;
+    if claimed.entry().index() == entry.index() {
+        Ok(claimed)
+    } else {
+        Err(LinearRefusal::NotACertificate)
+    }
+}
+
+// Prints the certificate of a macro of a source, and says what it promises.
+fn accept<O: Write + Drop, E: Write + Drop>(
+    console: &mut Console<O, E>,
+    source: &Source,
+    claimed: &Claimed<'_>,
+) -> Result<Outcome, AnswerFault>
+    ensures outcome { IfOk result (λ outcome. outcome ≡ Done) }
+    ensures text { Writes (O.contents console.old.out) (O.contents console.new.out)
+        (linear_text claimed.now.certificate) result }
+{
+    let text = claimed.certificate(console.alloc)?;
+    write_bytes(&mut console.out, text.as_slice())?;
+    tell_premise(&mut console.voice, source, &claimed.promise(), None)?;
+    let library = claimed.library();
+    Findings::new(console.alloc, source, false).tell(&mut console.voice, library, claimed.entry());
+    Ok(Outcome::Done)
+}
+
+// Says why a macro of a library is refused by claims.
+fn refuse_claims<O: Write + Drop, E: Write + Drop>(
+    console: &mut Console<O, E>,
+    source: &Source,
+    refusal: Refusal,
+    refused: &LinearRefusal,
+) -> Result<Outcome, AnswerFault>
+    ensures outcome { IfOk result (λ outcome. outcome ≡ Refused) }
+    ensures line { Refuses (O.contents console.old.out) (O.contents console.new.out) refusal
+        result }
+{
+    let outcome = refuse(console, source, refusal, Rules::Second)?;
+    console.say(format_args!("  {refused}"));
+    Ok(outcome)
+}
+
+/// Prints the certificate of a macro of a library by claims, or why it is refused.
+pub fn verify_claims<O: Write + Drop, E: Write + Drop>(
+    console: &mut Console<O, E>,
+    source: &Source,
+    library: &Library,
+    entry: Reg,
+) -> Result<Outcome, AnswerFault>
+    ensures { Answers (VerdictByClaims library.now entry)
+        (O.contents console.old.out) (O.contents console.new.out) result }
+{
+    match verify_linear(library, entry, console.alloc) {
+        Ok(claimed) => {
+            claimed.is_checked();
+            accept(console, source, &claimed)
+        }
+        Err(refused) => {
+            let refusal = refusal_of(library, entry, &refused);
+            refuse_claims(console, source, refusal, &refused)
+        }
+    }
+}
+
+// Prints why a certificate by claims is refused.
+fn refuse_linear<O: Write + Drop, E: Write + Drop>(
+    console: &mut Console<O, E>,
+    source: &Source,
+    claim: &Claim<'_>,
+    refused: &LinearRefusal,
+) -> Result<Outcome, AnswerFault>
+    ensures outcome { IfOk result (λ outcome. outcome ≡ Refused) }
+    ensures line { RefusesCertificate (O.contents console.old.out) (O.contents console.new.out)
+        result }
+{
+    let outcome = refuse(console, source, refusal_of_text(refused), Rules::Second)?;
+    let name = Shown(claim.name.as_bytes());
+    console.say(format_args!("{name}: {refused}"));
+    Ok(outcome)
+}
+
+/// Checks a certificate by claims of a macro of a library.
+#[tactic(auto, using(crate::proofs::Fronts::whole_front))]
+pub fn check_claims<O: Write + Drop, E: Write + Drop>(
+    console: &mut Console<O, E>,
+    source: &Source,
+    library: &Library,
+    entry: Reg,
+    claim: &Claim<'_>,
+) -> Result<Outcome, AnswerFault>
+    ensures { Answers (ChecksByClaims claim.now.bytes.items library.now entry)
+        (O.contents console.old.out) (O.contents console.new.out) result }
+{
+    match accepted_by_claims(console.alloc, library, entry, &claim.bytes) {
+        Ok(claimed) => {
+            claimed.is_checked();
+            console.answer("accepted\n")?;
+            tell_premise(&mut console.voice, source, &claimed.promise(), None)?;
+            Ok(Outcome::Done)
+        }
+        Err(refused) => refuse_linear(console, source, claim, &refused),
+    }
+}
