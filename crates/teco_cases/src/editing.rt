@@ -8,11 +8,11 @@ use std::alloc::{AllocError, Global};
 use teco_apply::{Edit, Edited, Pages, Willing, edit_file};
 use teco_base::bytes::FF;
 use teco_pages::Host;
+use teco_promise::Promise;
 use teco_run::Machine;
 use teco_session::SessionFault;
 use teco_text::TextStore;
 use teco_verdicts::Premise;
-use teco_verify::Verified;
 
 /// The names of the file that is edited, and of the one that is made.
 const SOURCE: &[u8] = b"in";
@@ -25,7 +25,7 @@ const NOT_TAKEN: u64 = 2;
 /// What is edited, and how.
 #[derive(Clone, Copy)]
 pub struct Task<'a> {
-    pub verified: &'a Verified<'a>,
+    pub promise: &'a Promise<'a>,
     pub argument: Option<i32>,
     pub pages: Pages,
     pub input: &'a [u8],
@@ -58,10 +58,10 @@ impl Task<'_> {
             return None;
         };
         let n = self.held();
-        if !Premise::of_macro(self.verified).holds_at(u128::from(n)) {
+        if !Premise::of_promise(self.promise).holds_at(u128::from(n)) {
             return None;
         }
-        self.verified.commands().at(n)
+        self.promise.commands().at(n)
     }
 
     /// How many characters are held as the run on the first page begins: the texts of the library,
@@ -71,7 +71,7 @@ impl Task<'_> {
         if self.input.contains(&FF) {
             held = held.saturating_sub(1);
         }
-        for text in self.verified.library().texts() {
+        for text in self.promise.library().texts() {
             held = held.saturating_add(text.unwrap_or(b"").len() as u64);
         }
         held
@@ -119,10 +119,9 @@ impl<'a> Trial<'a> {
         host: &mut H,
         typed: &mut Vec<u8>,
     ) -> Result<(u64, u64), SessionFault> {
-        let promise = self.task.verified.promise();
         let edit = Edit {
             alloc: self.alloc,
-            promise: &promise,
+            promise: self.task.promise,
             source: SOURCE,
             target: TARGET,
             given: self.task.argument,

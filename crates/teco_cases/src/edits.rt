@@ -7,7 +7,7 @@ use crate::subject::{Subject, library_of};
 use std::alloc::Global;
 use teco_apply::Pages;
 use teco_verdicts::Verdict;
-use teco_verify::{Refusal, verify_by};
+use teco_verify::Refusal;
 
 const KEYS: &[&str] = &[
     "library", "entry", "rules", "argument", "pages", "in", "typed", "status", "out",
@@ -49,14 +49,14 @@ pub fn refused(alloc: Global, refusal: &Refusal) -> Result<Findings, CaseFault> 
 pub fn run_edit(rt: &HostRuntime, case: &Case<'_>) -> Result<Findings, CaseFault> {
     let alloc = rt.alloc();
     case.check(Keys::of_texts(KEYS))?;
-    let Subject { entry, rules } = Subject::of(case)?;
+    let Subject { entry, method } = Subject::of(case)?;
     let library = library_of(alloc, case)?;
-    let verified = match verify_by(alloc, &library, entry, rules) {
-        Ok(verified) => verified,
+    let accepted = match method.verify(alloc, &library, entry) {
+        Ok(accepted) => accepted,
         Err(refusal) => return refused(alloc, &refusal),
     };
     let task = Task {
-        verified: &verified,
+        promise: &accepted.promise(),
         argument: argument_of(case)?,
         pages: pages_of(case)?,
         input: case.text("in")?,

@@ -4,14 +4,17 @@ use crate::editing::{Task, Wanted, try_edit};
 use crate::edits::refused;
 use crate::fault::CaseFault;
 use crate::findings::Findings;
-use crate::subject::{Subject, library_of};
+use crate::subject::{METHODS, Subject, library_of};
+use crate::verdicts::accepted_by;
 use std::alloc::Global;
 use std::str;
 use teco_apply::Pages;
-use teco_base::{LIMIT, Reg};
+use teco_base::Reg;
 use teco_library::Library;
-use teco_verdicts::{Rules, Verdict};
-use teco_verify::{Refusal, Verified, check_certificate_by, verify_by};
+use teco_poly::Poly;
+use teco_promise::Promise;
+use teco_verdicts::{Accepted, Verdict};
+use teco_verify::Refusal;
 
 const KEYS: Keys = Keys {
     plain: &[
@@ -28,7 +31,7 @@ const KEYS: Keys = Keys {
         "typed",
         "out",
     ],
-    named: &["verdict"],
+    named: &["verdict", "bound"],
     bare: &[],
 };
 
@@ -38,15 +41,15 @@ const PROMISE_KEYS: &[&str] = &["commands", "size", "needs", "certificate"];
 /// What a case tells of a run that keeps the promise.
 const RUN_KEYS: &[&str] = &["held", "steps", "in", "typed", "out"];
 
+/// The N at which what is promised is compared with the bound that a case tells.
+const BOUND_AT: u64 = 2_000;
+
 /// The lines of a certificate that a case may tell.
 const LINES: &[&str] = &["commands", "size", "needs"];
 
-/// The editions of the rules, by their names.
-const EDITIONS: &[(&str, Rules)] = &[("1", Rules::First), ("2", Rules::Second)];
-
 // What a case says of a verdict: that the macro is accepted, or why and where it is refused.
-fn words_of(alloc: Global, verified: Result<Verified<'_>, Refusal>) -> Result<String, CaseFault> {
-    let refusal = match verified {
+fn words_of(alloc: Global, accepted: Result<Accepted<'_>, Refusal>) -> Result<String, CaseFault> {
+    let refusal = match accepted {
         Ok(_) => return Ok(String::from_str(alloc, "accepted")?),
         Err(refusal) => refusal,
     };
@@ -66,6 +69,32 @@ fn as_said<'a>(words: &'a str, wanted: &[u8]) -> &'a str {
     }
 }
 
+// How many commands an accepted macro takes at most, at the N where bounds are compared.
+fn most_of(accepted: &Result<Accepted<'_>, Refusal>) -> Option<u64> {
+    match accepted {
+        Ok(accepted) => accepted.promise().commands().at(BOUND_AT),
+        Err(_) => None,
+    }
+}
+
+// Finds that more commands are promised than the bound that a case tells.
+fn compare_bound(
+    alloc: Global,
+    findings: &mut Findings,
+    wanted: &[u8],
+    most: Option<u64>,
+) -> Result<(), CaseFault> {
+    let bound = Poly::read(wanted).and_then(|bound| bound.at(BOUND_AT));
+    match (bound, most) {
+        (Some(bound), Some(most)) if most <= bound => Ok(()),
+        (Some(bound), Some(most)) => {
+            let wanted = format!(in alloc; "at most {bound}")?;
+            Ok(findings.add("commands at 2000", wanted.as_str(), most)?)
+        }
+        _ => Ok(findings.add("commands at 2000", "a number", "none")?),
+    }
+}
+
 // Compares the verdicts of the editions that a case names.
 fn compare_verdicts(
     alloc: Global,
@@ -74,11 +103,15 @@ fn compare_verdicts(
     library: &Library,
     entry: Reg,
 ) -> Result<(), CaseFault> {
-    for (name, rules) in EDITIONS {
+    for (name, method) in METHODS.iter() {
         let Some(wanted) = case.named_text("verdict", name.as_bytes()) else {
             continue;
         };
-        let words = words_of(alloc, verify_by(alloc, library, entry, *rules))?;
+        let accepted = method.verify(alloc, library, entry);
+        if let Some(bound) = case.named_text("bound", name.as_bytes()) {
+            compare_bound(alloc, findings, bound, most_of(&accepted))?;
+        }
+        let words = words_of(alloc, accepted)?;
         let said = as_said(words.as_str(), wanted);
         let what = format!(in alloc; "verdict {name}")?;
         findings.compare(what.as_str(), wanted, said.as_bytes())?;
@@ -117,17 +150,14 @@ fn compare_promise(
 
 // Checks the certificate of a macro, which is to be accepted.
 fn compare_checked(
-    alloc: Global,
+    rt: &HostRuntime,
     findings: &mut Findings,
     library: &Library,
+    subject: Subject,
     certificate: &[u8],
-    rules: Rules,
 ) -> Result<(), CaseFault> {
-    if certificate.len() > LIMIT {
-        return Err(CaseFault::Memory);
-    }
-    let checked = check_certificate_by(alloc, library, certificate, rules);
-    let words = words_of(alloc, checked)?;
+    let checked = accepted_by(rt, library, subject, certificate)?;
+    let words = words_of(rt.alloc(), checked)?;
     findings.compare("check", b"accepted", words.as_bytes())?;
     Ok(())
 }
@@ -136,10 +166,10 @@ fn compare_checked(
 fn run_task(
     rt: &HostRuntime,
     case: &Case<'_>,
-    verified: &Verified<'_>,
+    promise: &Promise<'_>,
 ) -> Result<Findings, CaseFault> {
     let task = Task {
-        verified,
+        promise,
         argument: None,
         pages: Pages::First,
         input: case.text("in")?,
@@ -168,19 +198,18 @@ fn run_promise(
     subject: Subject,
 ) -> Result<Findings, CaseFault> {
     let alloc = rt.alloc();
-    let Subject { entry, rules } = subject;
-    let verified = match verify_by(alloc, library, entry, rules) {
-        Ok(verified) => verified,
+    let accepted = match subject.method.verify(alloc, library, subject.entry) {
+        Ok(accepted) => accepted,
         Err(refusal) => return refused(alloc, &refusal),
     };
-    let certificate = verified.certificate(alloc)?;
+    let certificate = accepted.certificate(alloc)?;
     let mut findings = Findings::new(alloc);
     compare_promise(&mut findings, case, &certificate)?;
-    compare_checked(alloc, &mut findings, library, &certificate, rules)?;
+    compare_checked(rt, &mut findings, library, subject, &certificate)?;
     if !findings.is_empty() || !case.has_any(RUN_KEYS) {
         return Ok(findings);
     }
-    run_task(rt, case, &verified)
+    run_task(rt, case, &accepted.promise())
 }
 
 /// Verifies the macro of a case and, where it tells what is promised, runs it on its file.

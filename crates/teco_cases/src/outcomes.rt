@@ -44,6 +44,8 @@ const SINGLES: &[(&str, Single)] = &[
     ("e", Single::LineEnd),
     ("s", Single::LineStart),
     ("m", Single::LastLength),
+    ("a", Single::CodeHere),
+    ("b", Single::CodeBefore),
 ];
 
 /// The measures that there are of each register, by the letter before its name.
@@ -67,7 +69,8 @@ fn add_register(forms: &mut Vec<Option<Form>>, alloc: Global) -> Result<(), Faul
 }
 
 // The forms of a state at the start of a run: the pointer, the size, what is held, and the line's
-// end and start are the symbols 0 to 4, and all else is 0.
+// end and start are the symbols 0 to 4, the characters at the pointer and before it 5 and 6, and all
+// else is 0.
 fn start_forms(alloc: Global) -> Result<Vec<Option<Form>>, Fault> {
     let mut forms = Vec::new(alloc);
     forms.push(Some(Form::zero(alloc)))?;
@@ -75,6 +78,9 @@ fn start_forms(alloc: Global) -> Result<Vec<Option<Form>>, Fault> {
         forms.push(Some(Form::symbol(symbol, alloc)?))?;
     }
     forms.push(Some(Form::zero(alloc)))?;
+    for symbol in 5..7 {
+        forms.push(Some(Form::symbol(symbol, alloc)?))?;
+    }
     for _ in 0..REGISTERS {
         add_register(&mut forms, alloc)?;
     }
@@ -86,7 +92,7 @@ fn start(alloc: Global) -> Result<case::Case, Fault> {
     let mut operators = Vec::new(alloc);
     operators.push(None)?;
     Ok(case::Case {
-        symbols: 5,
+        symbols: 7,
         forms: start_forms(alloc)?,
         constraints: Vec::new(alloc),
         shape: Shape {

@@ -4,13 +4,20 @@ use crate::fault::CaseFault;
 use std::alloc::Global;
 use teco_base::{LIMIT, Reg};
 use teco_library::{Library, LibraryFault};
-use teco_verdicts::Rules;
+use teco_verdicts::{Editions, Method, Rules};
 
-/// A macro of a library, and the edition of the rules that it is verified by.
+/// The editions of the rules, by their names.
+pub const METHODS: &[(&str, Method)] = &[
+    ("1", Method::Tables(Editions::Only(Rules::First))),
+    ("2", Method::Tables(Editions::Only(Rules::Second))),
+    ("3", Method::Claims),
+];
+
+/// A macro of a library, and how it is verified.
 #[derive(Clone, Copy)]
 pub struct Subject {
     pub entry: Reg,
-    pub rules: Rules,
+    pub method: Method,
 }
 
 impl Subject {
@@ -22,7 +29,7 @@ impl Subject {
         };
         Ok(Subject {
             entry: entry.ok_or(case.wrong("entry"))?,
-            rules: rules_of(case)?,
+            method: method_of(case)?,
         })
     }
 }
@@ -40,11 +47,13 @@ pub fn library_of(alloc: Global, case: &Case<'_>) -> Result<Library, CaseFault> 
     }
 }
 
-// The edition of the rules that a case names.
-fn rules_of(case: &Case<'_>) -> Result<Rules, CaseFault> {
-    match case.word_if_any("rules")? {
-        None | Some("1") => Ok(Rules::First),
-        Some("2") => Ok(Rules::Second),
-        Some(_) => Err(case.wrong("rules")),
+// The way of verifying that a case names by its edition of the rules.
+fn method_of(case: &Case<'_>) -> Result<Method, CaseFault> {
+    let name = case.word_if_any("rules")?.unwrap_or("1");
+    for (edition, method) in METHODS.iter() {
+        if *edition == name {
+            return Ok(*method);
+        }
     }
+    Err(case.wrong("rules"))
 }

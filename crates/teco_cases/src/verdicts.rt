@@ -4,12 +4,12 @@ use crate::fault::CaseFault;
 use crate::findings::Findings;
 use crate::subject::{Subject, library_of};
 use std::fs;
-use teco_base::LIMIT;
+use teco_library::Library;
 use teco_verdicts::{
-    AnswerFault, Console, Editions, Escape, Origin, Outcome, Request, Rules, check_macro,
-    verify_macro,
+    Accepted, AnswerFault, Console, Escape, Method, Origin, Outcome, Request, accepted,
+    check_macro, read_claim, verify_macro,
 };
-use teco_verify::check_certificate_by;
+use teco_verify::Refusal;
 
 const VERDICT_KEYS: &[&str] = &["library", "entry", "rules", "output", "status"];
 
@@ -53,31 +53,31 @@ fn printed_by(
 }
 
 // What is asked of a library, once it is a file.
-fn request(rules: Rules) -> Request<'static> {
+fn request(method: Method) -> Request<'static> {
     Request {
         library: Origin::of_file(LIBRARY_FILE),
         escape: Escape::ByName,
-        editions: Editions::Only(rules),
+        method,
     }
 }
 
 // What `verify` prints of the macro of a case.
 fn verified(rt: &HostRuntime, case: &Case<'_>) -> Result<Printed, CaseFault> {
-    let Subject { entry, rules } = Subject::of(case)?;
+    let Subject { entry, method } = Subject::of(case)?;
     let mut console = console(rt);
     fs::write(rt, LIBRARY_FILE, case.text("library")?)?;
-    let outcome = verify_macro(rt, &mut console, request(rules), entry);
+    let outcome = verify_macro(rt, &mut console, request(method), entry);
     fs::remove_file(rt, LIBRARY_FILE)?;
     printed_by(console, outcome)
 }
 
 // What `check` prints of it with this certificate.
 fn checked(rt: &HostRuntime, case: &Case<'_>, certificate: &[u8]) -> Result<Printed, CaseFault> {
-    let Subject { entry, rules } = Subject::of(case)?;
+    let Subject { entry, method } = Subject::of(case)?;
     let mut console = console(rt);
     fs::write(rt, LIBRARY_FILE, case.text("library")?)?;
     fs::write(rt, CERTIFICATE_FILE, certificate)?;
-    let outcome = check_macro(rt, &mut console, request(rules), entry, CERTIFICATE_FILE);
+    let outcome = check_macro(rt, &mut console, request(method), entry, CERTIFICATE_FILE);
     fs::remove_file(rt, LIBRARY_FILE)?;
     fs::remove_file(rt, CERTIFICATE_FILE)?;
     printed_by(console, outcome)
@@ -90,6 +90,20 @@ fn compare(findings: &mut Findings, case: &Case<'_>, printed: &Printed) -> Resul
     Ok(())
 }
 
+/// The macro of a case by this certificate, or why it is refused.
+pub fn accepted_by<'l>(
+    rt: &HostRuntime,
+    library: &'l Library,
+    subject: Subject,
+    certificate: &[u8],
+) -> Result<Result<Accepted<'l>, Refusal>, CaseFault> {
+    let Subject { entry, method } = subject;
+    fs::write(rt, CERTIFICATE_FILE, certificate)?;
+    let claim = read_claim(rt, rt.alloc(), Some(CERTIFICATE_FILE));
+    fs::remove_file(rt, CERTIFICATE_FILE)?;
+    Ok(accepted(rt.alloc(), library, entry, method, claim?.as_ref()))
+}
+
 // Compares a certificate that is accepted with the one that is printed of its promise.
 fn compare_certificate(
     rt: &HostRuntime,
@@ -98,14 +112,10 @@ fn compare_certificate(
     certificate: &[u8],
 ) -> Result<(), CaseFault> {
     let alloc = rt.alloc();
-    let Subject { rules, .. } = Subject::of(case)?;
     let library = library_of(alloc, case)?;
-    if certificate.len() > LIMIT {
-        return Err(CaseFault::Memory);
-    }
-    match check_certificate_by(alloc, &library, certificate, rules) {
-        Ok(verified) => {
-            findings.compare("certificate", certificate, &verified.certificate(alloc)?)?;
+    match accepted_by(rt, &library, Subject::of(case)?, certificate)? {
+        Ok(accepted) => {
+            findings.compare("certificate", certificate, &accepted.certificate(alloc)?)?;
             Ok(())
         }
         Err(_) => Err(CaseFault::Memory),
