@@ -4,10 +4,10 @@ use std::alloc::{AllocError, Global};
 use std::convert::AsStr;
 use std::env::{Env, FillError};
 use teco_tools::Script;
-use teco_verdicts::Rules;
+use teco_verdicts::{Editions, Method, Rules};
 use teco_words::{
     Arguments, cap, check_streams, check_texts, command, entry, escape_of, file_name, given, limit,
-    pages, rules_of, scripts, settings,
+    method_of, pages, scripts, settings,
 };
 
 // The words of a line.
@@ -48,6 +48,15 @@ fn is_edit(alloc: Global, matches: &ArgMatches<'_>) -> bool {
     }
 }
 
+// The number of the edition that a method is named by.
+fn edition_of(method: Method) -> i64 {
+    match method {
+        Method::Tables(Editions::Only(Rules::First)) => 1,
+        Method::Tables(_) => 2,
+        Method::Claims => 3,
+    }
+}
+
 // What is given for something, as a number: the name of a register, say, and -1 where nothing is given.
 // None where it is refused.
 fn number_of(alloc: Global, what: &str, matches: &ArgMatches<'_>) -> Option<i64> {
@@ -55,11 +64,7 @@ fn number_of(alloc: Global, what: &str, matches: &ArgMatches<'_>) -> Option<i64>
         "limit" => i64::from(limit(matches)),
         "cap" => i64::try_from(cap(matches)).ok()?,
         "entry" => i64::from(entry(matches).ok()?.name()),
-        "rules" => match rules_of(matches).ok()? {
-            None => -1,
-            Some(Rules::First) => 1,
-            Some(Rules::Second) => 2,
-        },
+        "rules" => method_of(matches).ok()?.map_or(-1, edition_of),
         "argument" => given(matches).ok()?.map_or(-1, i64::from),
         _ => return is_edit(alloc, matches).then_some(1),
     })
@@ -90,7 +95,8 @@ const READ: &[&str] = &[
     "entry -2 teco verify LIB \u{c4}",
     "rules -1 teco verify LIB A",
     "rules 2 teco check --rules 2 LIB A CERT",
-    "rules -2 teco verify --rules 3 LIB A",
+    "rules 3 teco verify --rules 3 LIB A",
+    "rules -2 teco verify --rules 4 LIB A",
     "argument -1 teco apply LIB A in out",
     "argument 2147483647 teco apply --arg=2147483647 LIB A in out",
     "argument -2 teco apply --arg=2147483648 LIB A in out",
