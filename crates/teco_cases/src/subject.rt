@@ -4,13 +4,12 @@ use crate::fault::CaseFault;
 use std::alloc::Global;
 use teco_base::{LIMIT, Reg};
 use teco_library::{Library, LibraryFault};
-use teco_verdicts::{Editions, Method, Rules};
+use teco_verdicts::{Edition, Method};
 
 /// The editions of the rules, by their names.
 pub const METHODS: &[(&str, Method)] = &[
-    ("1", Method::Tables(Editions::Only(Rules::First))),
-    ("2", Method::Tables(Editions::Only(Rules::Second))),
-    ("3", Method::Claims),
+    ("1", Method::Only(Edition::First)),
+    ("2", Method::Only(Edition::Second)),
 ];
 
 /// A macro of a library, and how it is verified.

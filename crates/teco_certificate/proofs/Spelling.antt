@@ -8,16 +8,13 @@ use Rattle.std.specs.Cmp.Lexicographic.{pointwise}
 use Rattle.std.specs.Fmt.{decimal}
 use Rattle.std.specs.List.{AllByRecursion}
 use Rattle.std.specs.Option.{MatchOption}
-use Rattle.std.specs.Prelude.{codes, ◌≢◌, take, nat_eq, unwrap_or, if◌then◌else◌}
+use Rattle.std.specs.Prelude.{codes, ◌≢◌, take, nat_eq, unwrap_or}
 use Rattle.teco_base.specs.Register.{register_name}
 use Rattle.teco_base.specs.declared.bytes.TheConstants.{LF}
-use Rattle.teco_verifier.specs.declared.rules.Rules.{Rules}
-use Rattle.teco_verifier.specs.declared.rules.Rules.TheVariants.{First, Second}
-use Rattle.teco_verifier.specs.declared.values.Distances.{Distances}
 use Rattle.teco_verifier.specs.certificate.Fields.{Fields}
 use Rattle.teco_certificate.specs.Front.{EndsPolynomial, LooksFor, LacksWord}
-use Rattle.teco_certificate.specs.Text.{line, version_text, rules_line, letters_of, kept_text, distances_text}
-use Rattle.teco_certificate.specs.Text.{longer_text, longer_texts, behind_comma, chosen_text}
+use Rattle.teco_certificate.specs.Text.{line, version_text, letters_of, kept_text, longer_text, longer_texts}
+use Rattle.teco_certificate.specs.Text.{behind_comma, chosen_text}
 use Rattle.teco_certificate.specs.WellFormed.{IsLongerText}
 use Rattle.teco_poly.specs.Polynomial.{Polynomial}
 use Rattle.teco_poly.specs.Text.{text as poly_text}
@@ -125,62 +122,34 @@ ends_kept true rest = refl
 ends_kept false rest = refl
 
 -- the parts of a line one after another
-pub parts_of_line : (rules : Rules) (chosen : Chosen) (rest : List ℕ)
-    → line (chosen_text rules chosen) ++ rest ≡ decimal chosen.begin
+pub parts_of_line : (chosen : Chosen) (rest : List ℕ)
+    → line (chosen_text chosen) ++ rest ≡ decimal chosen.begin
     ++ (codes " held " ++ (poly_text chosen.held
-    ++ (codes " " ++ (kept_text chosen.kept
-    ++ (distances_text rules chosen.distances ++ (codes " texts " ++ (longer_texts chosen.longer ++ LF ∷ rest)))))))
-parts_of_line rules chosen rest = simp append_assoc
+    ++ (codes " " ++ (kept_text chosen.kept ++ (codes " texts " ++ (longer_texts chosen.longer ++ LF ∷ rest))))))
+parts_of_line chosen rest = simp append_assoc
 
-pub parts_of_distances : (distances : Distances) (rest : List ℕ)
-    → distances_text Second distances ++ rest ≡ codes " back "
-    ++ (decimal distances.back ++ (codes " fore " ++ (decimal distances.fore ++ rest)))
-parts_of_distances distances rest = simp append_assoc
-
--- The line of the edition, or what has to stand behind it.
-pub rules_read : (text behind : List ℕ) (found : Bool) (rules : Rules) (rest : List ℕ)
-    → LooksFor text (codes "rules 2" ++ LF ∷ []) found behind → text ≡ rules_line rules ++ (codes "needs " ++ rest)
-    → ((if found then Second else First) ≡ rules) × (behind ≡ codes "needs " ++ rest)
-rules_read text behind found First rest looks e =
-    let none = looks.not_there (other_byte text (codes "ules 2" ++ LF ∷ []) (codes "eeds " ++ rest) 110 114 e
-    (λ (same : 110 ≡ 114). omega arith)) in
-    (rw none.0 refl, none.1 ∙ e)
-rules_read text behind found Second rest looks e =
-    let one = looks.there (codes "needs " ++ rest) e in
-    (rw one.0 refl, one.1)
-
-pub no_argument : (rules : Rules) (rest : List ℕ)
-    → LacksWord (rules_line rules ++ (codes "needs " ++ rest)) (codes "argument ")
-no_argument First rest =
+-- the line of the files is not that of an argument
+pub no_argument : (rest : List ℕ) → LacksWord (codes "needs " ++ rest) (codes "argument ")
+no_argument rest =
     other_byte (codes "needs " ++ rest) (codes "rgument ") (codes "eeds " ++ rest) 110 97 refl
     (λ (same : 110 ≡ 97). omega arith)
-no_argument Second rest =
-    other_byte (line (codes "rules 2") ++ (codes "needs " ++ rest)) (codes "rgument ")
-    (codes "ules 2" ++ LF ∷ (codes "needs " ++ rest)) 114 97 refl (λ (same : 114 ≡ 97). omega arith)
 
 -- fields that are those of another are it
-pub same_chosen : (chosen : Chosen) {begin : ℕ} {held : Polynomial} {kept : Bool} {distances : Distances}
-    {longer : List LongerText}
-    → begin ≡ chosen.begin → held ≡ chosen.held → kept ≡ chosen.kept → distances ≡ chosen.distances
-    → longer ≡ chosen.longer
-    → record { begin = begin; held = held; kept = kept; distances = distances; longer = longer } ≡ chosen
-same_chosen chosen b h k d l = rw (b, h, k, d, l) refl
+pub same_chosen : (chosen : Chosen) {begin : ℕ} {held : Polynomial} {kept : Bool} {longer : List LongerText}
+    → begin ≡ chosen.begin → held ≡ chosen.held → kept ≡ chosen.kept → longer ≡ chosen.longer
+    → record { begin = begin; held = held; kept = kept; longer = longer } ≡ chosen
+same_chosen chosen b h k l = rw (b, h, k, l) refl
 
-pub same_fields : (fields : Fields) {entry : ℕ} {argument : Option ArgumentRange} {rules : Rules} {needs : Needs}
+pub same_fields : (fields : Fields) {entry : ℕ} {argument : Option ArgumentRange} {needs : Needs}
     {commands size : Polynomial} {loops : List Chosen}
-    → entry ≡ fields.entry → argument ≡ fields.argument → rules ≡ fields.rules → needs ≡ fields.needs
-    → commands ≡ fields.commands → size ≡ fields.size → loops ≡ fields.loops
+    → entry ≡ fields.entry → argument ≡ fields.argument → needs ≡ fields.needs → commands ≡ fields.commands
+    → size ≡ fields.size → loops ≡ fields.loops
     → record {
       entry = entry;
       argument = argument;
-      rules = rules;
       needs = needs;
       commands = commands;
       size = size;
       loops = loops;
     } ≡ fields
-same_fields fields e a r n c s l = rw (e, a, r, n, c, s, l) refl
-
-pub distances_are : (distances : Distances) {back fore : ℕ} → back ≡ distances.back → fore ≡ distances.fore
-    → record { back = back; fore = fore } ≡ distances
-distances_are distances b f = rw (b, f) refl
+same_fields fields e a n c s l = rw (e, a, n, c, s, l) refl

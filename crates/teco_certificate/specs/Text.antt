@@ -4,9 +4,6 @@ use Rattle.std.specs.Fmt.{decimal}
 use Rattle.std.specs.List.{flat_map}
 use Rattle.teco_base.specs.Register.{register_name}
 use Rattle.teco_base.specs.declared.bytes.TheConstants.{LF}
-use Rattle.teco_verifier.specs.declared.rules.Rules.{Rules}
-use Rattle.teco_verifier.specs.declared.rules.Rules.TheVariants.{First, Second}
-use Rattle.teco_verifier.specs.declared.values.Distances.{Distances}
 use Rattle.teco_verifier.specs.certificate.Fields.{Fields}
 use Rattle.teco_poly.specs.Text.{text}
 use Rattle.teco_model.specs.Macros.{ArgumentRange, Needs}
@@ -42,21 +39,14 @@ abbrev pub kept_text : Bool → List ℕ
 kept_text true = codes "kept"
 kept_text false = codes "lost"
 
--- the least distances, which the second edition chooses
-abbrev pub distances_text : Rules → Distances → List ℕ
-distances_text First distances = []
-distances_text Second distances =
-    codes " back " ++ (decimal distances.back ++ (codes " fore " ++ decimal distances.fore))
-
--- what is chosen for a <: its number, how much is held, whether it is kept, the least distances, and the texts
-abbrev pub chosen_text : Rules → Chosen → List ℕ
-chosen_text rules chosen =
+-- what is chosen for a <: its number, how much is held, whether it is kept, and the texts
+abbrev pub chosen_text : Chosen → List ℕ
+chosen_text chosen =
     decimal chosen.begin ++ (codes " held " ++ (text chosen.held ++ (codes " "
-    ++ (kept_text chosen.kept ++ (distances_text rules chosen.distances
-    ++ (codes " texts " ++ longer_texts chosen.longer))))))
+    ++ (kept_text chosen.kept ++ (codes " texts " ++ longer_texts chosen.longer)))))
 
-abbrev pub loop_line : Rules → Chosen → List ℕ
-loop_line rules chosen = line (codes "loop " ++ chosen_text rules chosen)
+abbrev pub loop_line : Chosen → List ℕ
+loop_line chosen = line (codes "loop " ++ chosen_text chosen)
 
 -- a certificate for an argument is of version 2, and has the least and the greatest
 abbrev pub version_text : Option ArgumentRange → List ℕ
@@ -67,19 +57,13 @@ abbrev pub argument_line : Option ArgumentRange → List ℕ
 argument_line None = []
 argument_line (Some range) = line (codes "argument " ++ range_text range)
 
--- the second edition of the rules has a line
-abbrev pub rules_line : Rules → List ℕ
-rules_line First = []
-rules_line Second = line (codes "rules 2")
-
 abbrev pub certificate_text : Fields → List ℕ
 certificate_text fields =
     line (codes "TECO-CERT " ++ version_text fields.argument)
     ++ (line (codes "entry " ++ register_name fields.entry ∷ [])
     ++ (argument_line fields.argument
-    ++ (rules_line fields.rules
     ++ (line (codes "needs " ++ needs_text fields.needs)
     ++ (line (codes "commands " ++ text fields.commands)
     ++ (line (codes "size " ++ text fields.size)
-    ++ (flat_map (loop_line fields.rules) fields.loops
-    ++ line (codes "end"))))))))
+    ++ (flat_map loop_line fields.loops
+    ++ line (codes "end")))))))

@@ -1,11 +1,7 @@
 -- Which fields a certificate may have.
-use Rattle.std.specs.Prelude.{◌≡◌, ◌<◌, ◌^◌, ⊤, List, IfSome, length}
+use Rattle.std.specs.Prelude.{◌<◌, ◌^◌, List, IfSome, length}
 use Rattle.std.specs.List.{AllAdjacentBelow, AllByRecursion}
 use Rattle.teco_base.specs.declared.TheConstants.{REGISTERS}
-use Rattle.teco_verifier.specs.declared.rules.Rules.{Rules}
-use Rattle.teco_verifier.specs.declared.rules.Rules.TheVariants.{First, Second}
-use Rattle.teco_verifier.specs.declared.values.Distances.{Distances}
-use Rattle.teco_verifier.specs.facts.Facts.{nowhere}
 use Rattle.teco_verifier.specs.certificate.Fields.{Fields}
 use Rattle.teco_poly.specs.Reading.{IsPoly}
 use Rattle.teco_model.specs.Macros.{IsArgumentRange}
@@ -20,8 +16,6 @@ pub record IsLongerText (longer : LongerText) : Type 0 where
 pub record IsChosen (chosen : Chosen) : Type 0 where
   pub begin : chosen.begin < 2 ^ 64
   pub held : IsPoly chosen.held
-  pub back : chosen.distances.back < 2 ^ 32
-  pub fore : chosen.distances.fore < 2 ^ 32
   pub longer : AllByRecursion IsLongerText chosen.longer
 
 pub record HasText (fields : Fields) : Type 0 where
@@ -54,15 +48,6 @@ pub record IsInOrder (loops : List Chosen) : Type 0 where
   pub numbers : NumbersRise loops
   pub registers : AllByRecursion RegistersRise loops
 
--- The first edition chooses no distances.
-abbrev pub AreDistancesOf : Rules → Distances → Type 0
-AreDistancesOf First distances = distances ≡ nowhere
-AreDistancesOf Second distances = ⊤
-
-abbrev pub HasDistancesOf : Rules → Chosen → Type 0
-HasDistancesOf rules chosen = AreDistancesOf rules chosen.distances
-
 pub record IsWellFormed (fields : Fields) : Type 0 where
   pub parts : HasText fields
-  pub distances : AllByRecursion (HasDistancesOf fields.rules) fields.loops
   pub order : IsInOrder fields.loops

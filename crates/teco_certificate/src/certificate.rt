@@ -7,14 +7,14 @@ ghost use Rattle.teco_certificate.specs.WellFormed.{HasText};
 use crate::fault::CertificateFault;
 use crate::lines::{letters, name_of, push_argument, push_line, version};
 use crate::order::numbers_rise;
-use crate::printing::{push_loops, push_rules};
+use crate::printing::push_loops;
 use crate::reading::certificate_in;
 use std::alloc::{AllocError, Global};
 use std::marker::Model;
 use teco_base::Reg;
 use teco_model::{ArgumentRange, Needs};
 use teco_poly::Poly;
-use teco_verifier::{LoopLine, Rules};
+use teco_verifier::LoopLine;
 
 /// What the verifier has found of a macro.
 #[derive(Drop)]
@@ -23,8 +23,6 @@ pub struct Certificate {
     pub entry: Reg,
     /// The argument that it takes, if any.
     pub argument: Option<ArgumentRange>,
-    /// The edition of the rules.
-    pub rules: Rules,
     /// The files that must be open.
     pub needs: Needs,
     /// The most commands that a run takes.
@@ -43,7 +41,6 @@ impl Model for Certificate {
     ghost view = { λ c. record {
       entry = c.entry;
       argument = c.argument;
-      rules = c.rules;
       needs = c.needs;
       commands = c.commands;
       size = c.size;
@@ -62,13 +59,12 @@ impl Certificate {
         push_line(&mut text, b"TECO-CERT ", version(self.argument).as_bytes())?;
         push_line(&mut text, b"entry ", &[name_of(self.entry)])?;
         push_argument(&mut text, alloc, self.argument)?;
-        push_rules(&mut text, self.rules)?;
         push_line(&mut text, b"needs ", letters(self.needs).as_bytes())?;
         let commands = self.commands.print(alloc)?;
         push_line(&mut text, b"commands ", commands.as_bytes())?;
         let size = self.size.print(alloc)?;
         push_line(&mut text, b"size ", size.as_bytes())?;
-        push_loops(&mut text, alloc, self.rules, &self.loops)?;
+        push_loops(&mut text, alloc, &self.loops)?;
         push_line(&mut text, b"end", b"")?;
         Ok(text)
     }

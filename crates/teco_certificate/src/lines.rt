@@ -1,4 +1,4 @@
-//! The lines that certificates begin with, of whatever edition of the rules: how they are printed, and
+//! The lines that certificates begin with, of whatever rules: how they are printed, and
 //! what a text says if it has them. Where these functions read they judge nothing: of another text they
 //! read anything at all, and who calls them has to see whether what was read has this text.
 ghost use Rattle.std.specs.Prelude.{◌≡◌, ◌++◌, ◌∷◌, ◌≤◌, ◌<◌, ◌^◌, ℕ, Bool, List, length, codes, Option, Some};

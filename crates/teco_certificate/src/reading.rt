@@ -1,26 +1,21 @@
 // What a text says if it is that of a certificate. These functions judge nothing but that the
 // registers of a line rise: of another text they read anything at all, and who calls them has to
 // see whether what was read has this text.
-ghost use Rattle.std.specs.Prelude.{◌≡◌, ◌++◌, ◌∷◌, [], ◌≤◌, ◌<◌, ◌^◌, ◌↔◌, ℕ, Bool, true, IsTrue, List, length};
-ghost use Rattle.std.specs.Prelude.{flat_map, codes, IfOk, OnOk, if◌then◌else◌};
+ghost use Rattle.std.specs.Prelude.{◌≡◌, ◌++◌, ◌∷◌, [], ◌≤◌, ◌<◌, ◌↔◌, ℕ, Bool, true, IsTrue, List, length, flat_map};
+ghost use Rattle.std.specs.Prelude.{codes, IfOk, OnOk};
 ghost use Rattle.std.specs.List.{AllByRecursion, list_all, prefix_len};
-ghost use Rattle.std.specs.Fmt.{decimal};
 ghost use Rattle.teco_base.specs.declared.TheConstants.{REGISTERS};
 ghost use Rattle.teco_base.specs.declared.bytes.TheConstants.{LF};
 ghost use Rattle.teco_verifier.specs.certificate.Fields.{Fields};
 ghost use Rattle.teco_certificate.specs.Front as front;
 ghost use Rattle.teco_certificate.specs.Front.{EndsPolynomial};
-ghost use Rattle.teco_certificate.specs.Text.{longer_text, longer_texts};
-ghost use Rattle.teco_certificate.specs.Text.{behind_comma, kept_text, rules_line, distances_text, chosen_text};
+ghost use Rattle.teco_certificate.specs.Text.{longer_text, longer_texts, behind_comma, kept_text, chosen_text};
 ghost use Rattle.teco_certificate.specs.Text.{loop_line, certificate_text, line as line_of};
 ghost use Rattle.teco_certificate.specs.WellFormed.{IsLongerText, IsChosen, TextsRise, AreOfRegisters, RegistersRise};
-ghost use Rattle.teco_certificate.specs.WellFormed.{AreDistancesOf, HasDistancesOf, IsWellFormed};
+ghost use Rattle.teco_certificate.specs.WellFormed.{IsWellFormed};
 ghost use Rattle.teco_poly.specs.Polynomial.{Polynomial};
-ghost use Rattle.teco_poly.specs.Reading.{IsPoly, EndsNumber};
+ghost use Rattle.teco_poly.specs.Reading.{IsPoly};
 ghost use Rattle.teco_poly.specs.Text.{text as poly_text};
-ghost use Rattle.teco_verifier.specs.declared.rules.Rules.{Rules as RulesOf};
-ghost use Rattle.teco_verifier.specs.declared.rules.Rules.TheVariants.{First, Second};
-ghost use Rattle.teco_verifier.specs.declared.values.Distances.{Distances as DistancesOf};
 ghost use Rattle.teco_verifier.specs.table.Choices.{LongerText as LongerTextOf, Chosen};
 
 use crate::certificate::Certificate;
@@ -30,7 +25,7 @@ use crate::lines::{
 use std::alloc::{AllocError, Global};
 use teco_base::REGISTERS;
 use teco_poly::Poly;
-use teco_verifier::{Distances, LongerText, LoopLine, Rules};
+use teco_verifier::{LongerText, LoopLine};
 
 // Is it a byte that polynomials are written with?
 fn is_of_polynomial(byte: u8) -> bool
@@ -64,23 +59,6 @@ fn cut(text: &[u8]) -> (&[u8], &[u8])
     ensures within { length result.1.now ≤ length text.now }
 {
     text.split_at(polynomial_count(text))
-}
-
-// The edition whose line a text begins with, if it does, and what comes behind that.
-fn rules_at(text: &[u8]) -> (Rules, &[u8])
-    ensures { (rules : RulesOf) (rest : List ℕ)
-        → text.now ≡ rules_line rules ++ (codes "needs " ++ rest)
-        → (result.0 ≡ rules) × (result.1.now ≡ codes "needs " ++ rest) }
-{
-    let (found, rest) = word_at(text, b"rules 2\n");
-    (edition(found), rest)
-}
-
-// The edition, by whether its line is there.
-fn edition(found: bool) -> Rules
-    ensures { result ≡ (if found then Second else First) }
-{
-    if found { Rules::Second } else { Rules::First }
 }
 
 // Whether an iteration is kept, as the front of a text has it, and what comes behind that.
@@ -186,75 +164,39 @@ fn texts_at(alloc: Global, text: &[u8]) -> Result<(Vec<LongerText>, &[u8]), Allo
     Ok((longer, rest))
 }
 
-// The distance at the front of a text, and what comes behind it.
-fn distance_at(text: &[u8]) -> (u32, &[u8])
-    ensures text { (n : ℕ) (rest : List ℕ) → n < 2 ^ 32 → EndsNumber rest
-        → text.now ≡ decimal n ++ rest
-        → (result.0 ≡ n) × (result.1.now ≡ rest) }
-    ensures within { length result.1.now ≤ length text.now }
-{
-    let (distance, rest) = number_at(text);
-    (u32::try_from(distance).unwrap_or(0), rest)
-}
-
-// The least distances of an edition, and what comes behind them.
-fn distances_at(rules: Rules, text: &[u8]) -> (Distances, &[u8])
-    ensures text { (d : DistancesOf) (rest : List ℕ) → d.back < 2 ^ 32 → d.fore < 2 ^ 32
-        → AreDistancesOf rules d → EndsNumber rest
-        → text.now ≡ distances_text rules d ++ rest
-        → (result.0 ≡ d) × (result.1.now ≡ rest) }
-    ensures distances { AreDistancesOf rules result.0 }
-    ensures within { length result.1.now ≤ length text.now }
-{
-    match rules {
-        Rules::First => (Distances { back: 0, fore: 0 }, text),
-        Rules::Second => {
-            let (back, rest) = distance_at(behind(text, b" back "));
-            let (fore, rest) = distance_at(behind(rest, b" fore "));
-            (Distances { back, fore }, rest)
-        }
-    }
-}
-
-// What was chosen for an iteration by an edition, and the lines behind it.
-fn loop_at(alloc: Global, rules: Rules, text: &[u8]) -> Result<(LoopLine, &[u8]), AllocError>
+// What was chosen for an iteration, and the lines behind it.
+fn loop_at(alloc: Global, text: &[u8]) -> Result<(LoopLine, &[u8]), AllocError>
     ensures text { (c : Chosen) (rest : List ℕ) → IsChosen c → RegistersRise c
-        → HasDistancesOf rules c
-        → text.now ≡ line_of (chosen_text rules c) ++ rest
+        → text.now ≡ line_of (chosen_text c) ++ rest
         → IfOk result (λ r. (r.0 ≡ c) × (r.1.now ≡ rest)) }
     ensures rise { IfOk result (λ r. RegistersRise r.0) }
-    ensures distances { IfOk result (λ r. HasDistancesOf rules r.0) }
     ensures few { IfOk result (λ r. length r.0.longer ≤ REGISTERS) }
     ensures within { IfOk result (λ r. length r.1.now ≤ length text.now) }
 {
     let (number, rest) = number_at(text);
     let (held, rest) = held_at(behind(rest, b" held "));
     let (kept, rest) = kept_at(rest);
-    let (distances, rest) = distances_at(rules, rest);
     let (longer, rest) = texts_at(alloc, behind(rest, b" texts "))?;
     let line = LoopLine {
         number,
         held,
         kept,
-        distances,
         longer,
     };
     Ok((line, behind(rest, b"\n")))
 }
 
-// The loops whose lines of an edition a text begins with.
-fn loops_at(alloc: Global, rules: Rules, text: &[u8]) -> Result<Vec<LoopLine>, AllocError>
+// The loops whose lines a text begins with.
+fn loops_at(alloc: Global, text: &[u8]) -> Result<Vec<LoopLine>, AllocError>
     ensures text { (cs : List Chosen) → AllByRecursion IsChosen cs → AllByRecursion RegistersRise cs
-        → AllByRecursion (HasDistancesOf rules) cs
-        → text.now ≡ flat_map (loop_line rules) cs ++ line_of (codes "end")
+        → text.now ≡ flat_map loop_line cs ++ line_of (codes "end")
         → IfOk result (λ r. r.items ≡ cs) }
     ensures rise { IfOk result (λ r. AllByRecursion RegistersRise r.items) }
-    ensures distances { IfOk result (λ r. AllByRecursion (HasDistancesOf rules) r.items) }
 {
     let mut loops = Vec::new(alloc);
     let mut rest = text;
     while let Some(words) = rest.strip_prefix(b"loop ") {
-        let (line, lines) = loop_at(alloc, rules, words)?;
+        let (line, lines) = loop_at(alloc, words)?;
         loops.push(line)?;
         rest = lines;
     }
@@ -266,19 +208,16 @@ pub fn certificate_in(alloc: Global, text: &[u8]) -> Result<Certificate, AllocEr
     ensures text { (f : Fields) → IsWellFormed f → text.now
         ≡ certificate_text f → IfOk result (λ c. c ≡ f) }
     ensures rise { IfOk result (λ c. AllByRecursion RegistersRise c.loops) }
-    ensures distances { IfOk result (λ c. AllByRecursion (HasDistancesOf c.rules) c.loops) }
 {
     let (entry, rest) = register_at(behind(behind_version(text), b"\nentry "));
     let (argument, rest) = argument_at(behind(rest, b"\n"));
-    let (rules, rest) = rules_at(rest);
     let (needs, rest) = needs_at(behind(rest, b"needs "));
     let (commands, rest) = polynomial_at(behind(rest, b"\ncommands "));
     let (size, rest) = polynomial_at(behind(rest, b"\nsize "));
-    let loops = loops_at(alloc, rules, behind(rest, b"\n"))?;
+    let loops = loops_at(alloc, behind(rest, b"\n"))?;
     Ok(Certificate {
         entry,
         argument,
-        rules,
         needs,
         commands,
         size,

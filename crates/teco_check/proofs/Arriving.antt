@@ -10,8 +10,9 @@ use Rattle.std.specs.Option.{option_and_then}
 use Rattle.teco_verifier.specs.expansion.Node.{Node}
 use Rattle.teco_verifier.specs.declared.refusal.Refusal.{Refusal}
 use Rattle.teco_verifier.specs.facts.Attempt.{◌>>=◌}
+use Rattle.teco_model.specs.Macros.{ArgumentRange}
 use Rattle.teco_verifier.specs.facts.Argument.{facts_given}
-use Rattle.teco_verifier.specs.facts.Facts.{Facts, Entry}
+use Rattle.teco_verifier.specs.facts.Facts.{Facts}
 use Rattle.teco_verifier.specs.table.Behind.{edges_at}
 use Rattle.teco_verifier.specs.table.Choices.{Chosen}
 use Rattle.teco_verifier.specs.table.Deriving.{Arrival, Derived, met, met_with, derived_at, derive, derive_from}
@@ -174,29 +175,30 @@ nothing_at (suc count) zero h = refl
 nothing_at (suc count) (suc k) h = nothing_at count k (omega arith)
 
 -- the edges that arrived before the node behind a number
-unfoldable pub arrivals_before : Entry → List Node → List Chosen → ℕ → List Arrival
-arrivals_before entry nodes chosen zero = record { target = 1; facts = facts_given entry } ∷ []
-arrivals_before entry nodes chosen (suc k) =
-    let before = arrivals_before entry nodes chosen k in
+unfoldable pub arrivals_before : Option ArgumentRange → List Node → List Chosen → ℕ → List Arrival
+arrivals_before argument nodes chosen zero = record { target = 1; facts = facts_given argument } ∷ []
+arrivals_before argument nodes chosen (suc k) =
+    let before = arrivals_before argument nodes chosen k in
     before ++ arrivals_of (met (suc k) before None >>= derived_at nodes chosen (suc k) (node_at nodes (suc k)))
 
 -- so far a table is derived
-pub record AreDerived (entry : Entry) (nodes : List Node) (chosen : List Chosen) (k : ℕ) (slots : Slots)
-    (table : Table) : Type 0 where
-  pub met : AreMet slots (arrivals_before entry nodes chosen k) k (length nodes)
+pub record AreDerived (argument : Option ArgumentRange) (nodes : List Node) (chosen : List Chosen) (k : ℕ)
+    (slots : Slots) (table : Table) : Type 0 where
+  pub met : AreMet slots (arrivals_before argument nodes chosen k) k (length nodes)
   pub ahead : (rest : List Node) → derive_from nodes chosen 1 (take k nodes ++ rest)
-      (record { target = 1; facts = facts_given entry } ∷ []) ≡
-      (derive_from nodes chosen (suc k) rest (arrivals_before entry nodes chosen k) >>= (λ rows. Ok (table ++ rows)))
+      (record { target = 1; facts = facts_given argument } ∷ []) ≡
+      (derive_from nodes chosen (suc k) rest (arrivals_before argument nodes chosen k) >>= (λ rows. Ok (table ++ rows)))
   pub rows : length table ≡ k
 
 -- the whole of it
-derived_so : (entry : Entry) (nodes : List Node) (chosen : List Chosen) (k : ℕ) (slots : Slots) (table : Table)
-    → AreDerived entry nodes chosen k slots table
-    → derive entry nodes chosen ≡ (derive_from nodes chosen (suc k) (drop k nodes)
-    (arrivals_before entry nodes chosen k) >>= (λ rows. Ok (table ++ rows)))
+derived_so : (argument : Option ArgumentRange) (nodes : List Node) (chosen : List Chosen) (k : ℕ) (slots : Slots)
+    (table : Table) → AreDerived argument nodes chosen k slots table
+    → derive argument nodes chosen ≡
+    (derive_from nodes chosen (suc k) (drop k nodes) (arrivals_before argument nodes chosen k)
+    >>= (λ rows. Ok (table ++ rows)))
 unfolding derive
-derived_so entry nodes chosen k slots table a =
-    ap (λ those. derive_from nodes chosen 1 those (record { target = 1; facts = facts_given entry } ∷ []))
+derived_so argument nodes chosen k slots table a =
+    ap (λ those. derive_from nodes chosen 1 those (record { target = 1; facts = facts_given argument } ∷ []))
     (sym (take-append-drop k nodes)) ∙ a.ahead (drop k nodes)
 
 -- one node more
@@ -207,23 +209,24 @@ take_more [] rest k h = absurd (omega arith)
 take_more (node ∷ nodes) rest zero h = refl
 take_more (node ∷ nodes) rest (suc k) h = ap (λ those. node ∷ those) (take_more nodes rest k (omega arith))
 
-pub begun : (entry : Entry) (nodes : List Node) (chosen : List Chosen) (slots : Slots)
-    → slots ≡ arrived_at 1 (facts_given entry) (replicate (length nodes) (Ok None))
-    → AreDerived entry nodes chosen 0 slots []
+pub begun : (argument : Option ArgumentRange) (nodes : List Node) (chosen : List Chosen) (slots : Slots)
+    → slots ≡ arrived_at 1 (facts_given argument) (replicate (length nodes) (Ok None))
+    → AreDerived argument nodes chosen 0 slots []
 unfolding arrivals_before
-begun entry nodes chosen slots e = record {
-  met = rw e (met_one (replicate (length nodes) (Ok None)) [] 0 (length nodes) 1 (facts_given entry)
+begun argument nodes chosen slots e = record {
+  met = rw e (met_one (replicate (length nodes) (Ok None)) [] 0 (length nodes) 1 (facts_given argument)
       (record { long = length-replicate (length nodes) (Ok None); each = λ k h l. nothing_at (length nodes) k l }));
-  ahead = λ rest. sym (done (derive_from nodes chosen 1 rest (record { target = 1; facts = facts_given entry } ∷ [])));
+  ahead = λ rest.
+      sym (done (derive_from nodes chosen 1 rest (record { target = 1; facts = facts_given argument } ∷ [])));
   rows = refl;
 }
 
 -- what is derived at the node behind a number
-derived_is : (entry : Entry) (nodes : List Node) (chosen : List Chosen) (k : ℕ) (slots : Slots) → k < length nodes
-    → AreMet slots (arrivals_before entry nodes chosen k) k (length nodes)
-    → derived_from nodes chosen (k + 1) slots ≡ (met (suc k) (arrivals_before entry nodes chosen k) None
+derived_is : (argument : Option ArgumentRange) (nodes : List Node) (chosen : List Chosen) (k : ℕ) (slots : Slots)
+    → k < length nodes → AreMet slots (arrivals_before argument nodes chosen k) k (length nodes)
+    → derived_from nodes chosen (k + 1) slots ≡ (met (suc k) (arrivals_before argument nodes chosen k) None
     >>= derived_at nodes chosen (suc k) (node_at nodes (suc k)))
-derived_is entry nodes chosen k slots h m =
+derived_is argument nodes chosen k slots h m =
     let same : k + 1 - 1 ≡ k = omega arith in
     rw (same, add-one) (ap (λ r. r >>= derived_at nodes chosen (suc k) (node_at nodes (suc k)))
     (m.each k (omega arith) h))
@@ -257,50 +260,51 @@ refused_node nodes rest chosen k before why e = by_met (met (suc k) before None)
     by_met (Ok known) e = rw e refl
 
 -- one row more
-pub row_more : (entry : Entry) (nodes : List Node) (chosen : List Chosen) (k : ℕ) (slots new : Slots) (table : Table)
-    (row : Row) → k < length nodes → AreDerived entry nodes chosen k slots table
+pub row_more : (argument : Option ArgumentRange) (nodes : List Node) (chosen : List Chosen) (k : ℕ) (slots new : Slots)
+    (table : Table) (row : Row) → k < length nodes → AreDerived argument nodes chosen k slots table
     → DerivesTo (derived_from nodes chosen (k + 1) slots) (set slots (k + 1 - 1) (Ok None)) new row
-    → AreDerived entry nodes chosen (k + 1) new (table ++ row ∷ [])
+    → AreDerived argument nodes chosen (k + 1) new (table ++ row ∷ [])
 unfolding arrivals_before
-row_more entry nodes chosen k slots new table row h a d =
-    let before = arrivals_before entry nodes chosen k in
-    let is = derived_is entry nodes chosen k slots h a.met in
+row_more argument nodes chosen k slots new table row h a d =
+    let before = arrivals_before argument nodes chosen k in
+    let is = derived_is argument nodes chosen k slots h a.met in
     let derived = rw is at d.derived in
     let same : k + 1 - 1 ≡ k = omega arith in
     rw add-one (record {
       met = rw (d.arrived, is, same) (met_all (set slots k (Ok None)) before _ (suc k) (length nodes)
           (met_behind slots before k (length nodes) a.met));
       ahead = λ rest. ap (λ those. derive_from nodes chosen 1 those
-          (record { target = 1; facts = facts_given entry } ∷ [])) (take_more nodes rest k h)
+          (record { target = 1; facts = facts_given argument } ∷ [])) (take_more nodes rest k h)
           ∙ (a.ahead (node_at nodes (suc k) ∷ rest) ∙ rw (from_node nodes rest chosen k before row _ derived)
           (rows_more _ row table));
       rows = length-append table (row ∷ []) ∙ ap (λ n. n + 1) a.rows ∙ add-one k;
     })
 
 -- a row that is refused
-module _ (entry : Entry) (nodes : List Node) (chosen : List Chosen) (k : ℕ) (slots : Slots) (table : Table)
-    (why : Refusal) (h : k < length nodes) (a : AreDerived entry nodes chosen k slots table)
+module _ (argument : Option ArgumentRange) (nodes : List Node) (chosen : List Chosen) (k : ℕ) (slots : Slots)
+    (table : Table) (why : Refusal) (h : k < length nodes) (a : AreDerived argument nodes chosen k slots table)
     (e : derived_from nodes chosen (k + 1) slots ≡ Err why) where
   refused_with : (rest : List Node)
-      → (derive_from nodes chosen (suc k) (node_at nodes (suc k) ∷ rest) (arrivals_before entry nodes chosen k)
+      → (derive_from nodes chosen (suc k) (node_at nodes (suc k) ∷ rest) (arrivals_before argument nodes chosen k)
       >>= (λ rows. Ok (table ++ rows))) ≡ Err why
-  refused_with rest = rw (refused_node nodes rest chosen k (arrivals_before entry nodes chosen k) why
-      (sym (derived_is entry nodes chosen k slots h a.met) ∙ e)) refl
+  refused_with rest = rw (refused_node nodes rest chosen k (arrivals_before argument nodes chosen k) why
+      (sym (derived_is argument nodes chosen k slots h a.met) ∙ e)) refl
 
-  pub row_refused : derive entry nodes chosen ≡ Err why
-  row_refused = derived_so entry nodes chosen k slots table a
+  pub row_refused : derive argument nodes chosen ≡ Err why
+  row_refused = derived_so argument nodes chosen k slots table a
       ∙ rw (nodes_from nodes k h) (refused_with (drop (suc k) nodes))
 
-  refused_here : table_up_to entry nodes chosen (suc k) ≡ Err why
-  refused_here = ap (λ those. derive_from nodes chosen 1 those (record { target = 1; facts = facts_given entry } ∷ []))
+  refused_here : table_up_to argument nodes chosen (suc k) ≡ Err why
+  refused_here =
+      ap (λ those. derive_from nodes chosen 1 those (record { target = 1; facts = facts_given argument } ∷ []))
       (sym (append-nil (take (suc k) nodes)) ∙ take_more nodes [] k h)
       ∙ (a.ahead (node_at nodes (suc k) ∷ []) ∙ refused_with [])
 
-  up_to_here : table_up_to entry nodes chosen k ≡ Ok (table ++ [])
-  up_to_here = ap (λ those. derive_from nodes chosen 1 those (record { target = 1; facts = facts_given entry } ∷ []))
+  up_to_here : table_up_to argument nodes chosen k ≡ Ok (table ++ [])
+  up_to_here = ap (λ those. derive_from nodes chosen 1 those (record { target = 1; facts = facts_given argument } ∷ []))
       (sym (append-nil (take k nodes))) ∙ a.ahead []
 
-  refused_at : IsRefusedAt entry nodes chosen (k + 1) why
+  refused_at : IsRefusedAt argument nodes chosen (k + 1) why
   refused_at =
       let same : k + 1 - 1 ≡ k = omega arith in
       record {
@@ -309,9 +313,10 @@ module _ (entry : Entry) (nodes : List Node) (chosen : List Chosen) (k : ℕ) (s
         refused = rw (add-one k) refused_here;
       }
 
-pub all_derived : (entry : Entry) (nodes : List Node) (chosen : List Chosen) (k : ℕ) (slots : Slots) (table : Table)
-    → length nodes ≤ k → AreDerived entry nodes chosen k slots table → derive entry nodes chosen ≡ Ok table
-all_derived entry nodes chosen k slots table h a = derived_so entry nodes chosen k slots table a
+pub all_derived : (argument : Option ArgumentRange) (nodes : List Node) (chosen : List Chosen) (k : ℕ) (slots : Slots)
+    (table : Table) → length nodes ≤ k → AreDerived argument nodes chosen k slots table
+    → derive argument nodes chosen ≡ Ok table
+all_derived argument nodes chosen k slots table h a = derived_so argument nodes chosen k slots table a
     ∙ rw (drop_all k nodes h, append-nil) refl
 
 -- what the row of a node that is reached says
@@ -340,21 +345,21 @@ table_of : Result Table Refusal → Table
 table_of (Ok table) = table
 table_of (Err why) = []
 
-large_in : (entry : Entry) (nodes : List Node) (chosen : List Chosen) (k : ℕ) (slots : Slots) (table : Table)
-    → k < length nodes → AreDerived entry nodes chosen k slots table
+large_in : (argument : Option ArgumentRange) (nodes : List Node) (chosen : List Chosen) (k : ℕ) (slots : Slots)
+    (table : Table) → k < length nodes → AreDerived argument nodes chosen k slots table
     → HasLarge (derived_from nodes chosen (k + 1) slots) (k + 1) (k + 1) → (whole : Table)
-    → derive entry nodes chosen ≡ Ok whole → AreLarge (facts_at whole (k + 1))
+    → derive argument nodes chosen ≡ Ok whole → AreLarge (facts_at whole (k + 1))
 unfolding ok_of table_of
-large_in entry nodes chosen k slots table h a l whole e =
-    let before = arrivals_before entry nodes chosen k in
+large_in argument nodes chosen k slots table h a l whole e =
+    let before = arrivals_before argument nodes chosen k in
     let rows = ok_of (derive_from nodes chosen (suc k) (drop k nodes) before) _ whole
-    (sym (derived_so entry nodes chosen k slots table a) ∙ e) in
+    (sym (derived_so argument nodes chosen k slots table a) ∙ e) in
     let known = ok_of (met (suc k) before None) _ rows.0
     (ap (λ nodes_here. derive_from nodes chosen (suc k) nodes_here before) (sym (nodes_from nodes k h)) ∙ rows.1) in
     let here = ok_of (derived_at nodes chosen (suc k) (node_at nodes (suc k)) known.0) _ rows.0 known.2 in
     let rest = ok_of (derive_from nodes chosen (suc (suc k)) (drop (suc k) nodes) (before ++ here.0.arrivals)) _ rows.0
     here.2 in
-    let is : derived_from nodes chosen (k + 1) slots ≡ Ok here.0 = derived_is entry nodes chosen k slots h a.met
+    let is : derived_from nodes chosen (k + 1) slots ≡ Ok here.0 = derived_is argument nodes chosen k slots h a.met
     ∙ (ap (λ r. r >>= derived_at nodes chosen (suc k) (node_at nodes (suc k))) known.1 ∙ here.1) in
     let same : table ++ here.0.row ∷ rest.0 ≡ whole = ap (λ more. table ++ more) (ap table_of rest.2)
     ∙ ap table_of rows.2 in
@@ -363,22 +368,22 @@ large_in entry nodes chosen k slots table h a l whole e =
     subst (λ n. AreLarge (facts_at whole n)) (sym (add-one k)) (subst AreLarge (sym there) (l.large here.0 is))
 
 -- what is said of a row is said of the whole
-pub row_said : (entry : Entry) (nodes : List Node) (chosen : List Chosen) (k : ℕ) (slots new : Slots) (table : Table)
-    (why : NotDerived) → k < length nodes → AreDerived entry nodes chosen k slots table
-    → DerivesFrom nodes chosen (k + 1) slots new (Err why) → Derives (derive entry nodes chosen) (Err why)
-row_said entry nodes chosen k slots new table (fault.Refused why node) h a e =
-    row_refused entry nodes chosen k slots table why h a e.refused
-row_said entry nodes chosen k slots new table (fault.Large node) h a e =
-    subst (λ n. (whole : Table) → derive entry nodes chosen ≡ Ok whole → AreLarge (facts_at whole n)) (sym e.here)
-    (large_in entry nodes chosen k slots table h a (record { here = refl; large = e.large }))
-row_said entry nodes chosen k slots new table fault.Memory h a e = tt
+pub row_said : (argument : Option ArgumentRange) (nodes : List Node) (chosen : List Chosen) (k : ℕ) (slots new : Slots)
+    (table : Table) (why : NotDerived) → k < length nodes → AreDerived argument nodes chosen k slots table
+    → DerivesFrom nodes chosen (k + 1) slots new (Err why) → Derives (derive argument nodes chosen) (Err why)
+row_said argument nodes chosen k slots new table (fault.Refused why node) h a e =
+    row_refused argument nodes chosen k slots table why h a e.refused
+row_said argument nodes chosen k slots new table (fault.Large node) h a e =
+    subst (λ n. (whole : Table) → derive argument nodes chosen ≡ Ok whole → AreLarge (facts_at whole n)) (sym e.here)
+    (large_in argument nodes chosen k slots table h a (record { here = refl; large = e.large }))
+row_said argument nodes chosen k slots new table fault.Memory h a e = tt
 
-pub row_told : (entry : Entry) (nodes : List Node) (chosen : List Chosen) (k : ℕ) (slots new : Slots) (table : Table)
-    (why : NotDerived) → k < length nodes → AreDerived entry nodes chosen k slots table
-    → DerivesFrom nodes chosen (k + 1) slots new (Err why) → DerivesUpTo entry nodes chosen (Err why)
-row_told entry nodes chosen k slots new table (fault.Refused why node) h a e =
-    subst (λ n. IsRefusedAt entry nodes chosen n why) (sym e.here)
-    (refused_at entry nodes chosen k slots table why h a e.refused)
-row_told entry nodes chosen k slots new table (fault.Large node) h a e =
+pub row_told : (argument : Option ArgumentRange) (nodes : List Node) (chosen : List Chosen) (k : ℕ) (slots new : Slots)
+    (table : Table) (why : NotDerived) → k < length nodes → AreDerived argument nodes chosen k slots table
+    → DerivesFrom nodes chosen (k + 1) slots new (Err why) → DerivesUpTo argument nodes chosen (Err why)
+row_told argument nodes chosen k slots new table (fault.Refused why node) h a e =
+    subst (λ n. IsRefusedAt argument nodes chosen n why) (sym e.here)
+    (refused_at argument nodes chosen k slots table why h a e.refused)
+row_told argument nodes chosen k slots new table (fault.Large node) h a e =
     subst (IsNumberOf nodes) (sym e.here) (record { one = omega arith; last = omega (arith, h) })
-row_told entry nodes chosen k slots new table fault.Memory h a e = tt
+row_told argument nodes chosen k slots new table fault.Memory h a e = tt

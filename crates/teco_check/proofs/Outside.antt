@@ -1,7 +1,7 @@
 -- Where no iteration begins, none is open in what is known, and nothing falls: no facts are too large.
 use Rattle.std.proofs.Common.{◌≡◌, refl, sym, ap, ◌∙◌, subst, ℕ, zero, suc, ◌+◌, ◌-◌, ◌<◌, true, false, Bool, List}
 use Rattle.std.proofs.Common.{[], ◌∷◌, ◌++◌, length, map, drop, Option, Some, None, option_map, Result, Ok, Err, IfOk}
-use Rattle.std.proofs.Common.{slice_get, slice_index_or, unwrap_or, if◌then◌else◌, ◌==◌, ◌||◌, arith}
+use Rattle.std.proofs.Common.{slice_get, slice_index_or, unwrap_or, if◌then◌else◌, ◌==◌, ◌||◌, arith, pos}
 use Rattle.std.proofs.Math.Seq.{drop-nil}
 use Rattle.std.proofs.lemmas.List.Elements.{All-nil}
 use Rattle.std.specs.List.{list_any}
@@ -30,9 +30,8 @@ use Rattle.teco_model.specs.declared.kind.Typing.TheVariants as type_
 use Rattle.teco_model.specs.declared.kind.Unit.{Unit as Counted}
 use Rattle.teco_model.specs.declared.kind.Unit.TheVariants as counted
 use Rattle.teco_model.specs.Element.{Element}
-use Rattle.teco_model.specs.Macros.{ArgumentRange}
 use Rattle.teco_verifier.specs.expansion.Node.{Node}
-use Rattle.teco_known.specs.Numbers.{AreSmall, IsSmallFalls}
+use Rattle.teco_known.specs.Numbers.{AreSmall, IsSmallFall}
 use Rattle.teco_known.specs.declared.few.TheConstants.{DEPTH}
 use Rattle.teco_poly.specs.Polynomial.{Polynomial, number}
 use Rattle.teco_verifier.specs.declared.refusal.Refusal.{Refusal}
@@ -40,9 +39,8 @@ use Rattle.teco_verifier.specs.declared.refusal.Refusal.TheVariants as refusal
 use Rattle.teco_verifier.specs.declared.values.Distances.{Distances}
 use Rattle.teco_verifier.specs.declared.values.Interval.{Interval}
 use Rattle.teco_verifier.specs.declared.values.Value.{Value}
-use Rattle.teco_verifier.specs.declared.rules.Rules.{Rules}
-use Rattle.teco_verifier.specs.facts.Argument.{facts_given, facts_with}
-use Rattle.teco_verifier.specs.facts.Falls.{By, NextPage, Refilled}
+use Rattle.teco_model.specs.Macros.{ArgumentRange}
+use Rattle.teco_verifier.specs.facts.Argument.{facts_given}
 use Rattle.teco_verifier.specs.facts.Arguments.{KnownArguments, KnownTaken, needed_value, with_level, level_with}
 use Rattle.teco_verifier.specs.facts.Arguments.{levels_after_taking, arguments_of}
 use Rattle.teco_base.specs.declared.bytes.TheConstants.{TAB}
@@ -50,25 +48,24 @@ use Rattle.teco_verifier.specs.facts.Values.{interval_of}
 use Rattle.teco_verifier.specs.table.Written.{changes_in}
 use Rattle.teco_verifier.specs.facts.Attempt.{◌>>=◌}
 use Rattle.teco_verifier.specs.facts.Bodies.{Choice, Changes}
-use Rattle.teco_verifier.specs.facts.Deletions.{deletion_of, part_deletion, range_deletion, lines_deletion}
-use Rattle.teco_verifier.specs.facts.Deletions.{character_deletion}
-use Rattle.teco_verifier.specs.facts.Facts.{Position, Answer, Pushed, Facts, Entry, with_arguments, without_digit}
-use Rattle.teco_verifier.specs.facts.Facts.{sum_of, join_of, text_of, nowhere}
+use Rattle.teco_verifier.specs.facts.Deletions.{deletion_of, part_deletion, range_deletion, character_deletion}
+use Rattle.teco_verifier.specs.facts.Facts.{Position, Answer, Pushed, Facts, with_arguments, sum_of, join_of, text_of}
+use Rattle.teco_verifier.specs.facts.Facts.{nowhere}
 use Rattle.teco_verifier.specs.facts.Flows.{Edges, leaving, turn_end, flow_edges, needed_taken, facts_taken}
 use Rattle.teco_verifier.specs.facts.Flows.{leaving_numbers, without_value}
 use Rattle.teco_verifier.specs.facts.Insertions.{insertion_with, insertion_of}
-use Rattle.teco_verifier.specs.facts.Joins.{joined, joined_position, joined_falls, none_pending, joined_pushes}
+use Rattle.teco_verifier.specs.facts.Joins.{joined, joined_position, smaller_falls, none_pending, joined_pushes}
 use Rattle.teco_verifier.specs.facts.Joins.{joined_lengths}
-use Rattle.teco_verifier.specs.facts.Motions.{motion, motion_to, goes_to_saved, target, perhaps_forward, goes_forward}
-use Rattle.teco_verifier.specs.facts.Motions.{count_of, shift_by_lines, digit_after, is_step_back}
+use Rattle.teco_verifier.specs.facts.Motions.{motion, motion_to, shift_or_saved, goes_to_saved, target}
+use Rattle.teco_verifier.specs.facts.Motions.{perhaps_forward, goes_forward, count_of, shift_by_lines}
 use Rattle.teco_verifier.specs.facts.Pages.{pages, append, turning, writing, some_pages}
 use Rattle.teco_verifier.specs.facts.Queries.{facts_after_query, query_with, facts_at_query, value_for, past_number}
 use Rattle.teco_verifier.specs.facts.Queries.{query}
 use Rattle.teco_verifier.specs.facts.Searches.{facts_found, facts_failed, facts_of_answer, position_failed}
-use Rattle.teco_verifier.specs.facts.Searches.{position_failed_in, shift_to_begin, minimum_of, facts_at_search}
-use Rattle.teco_verifier.specs.facts.Searches.{count_checked}
+use Rattle.teco_verifier.specs.facts.Searches.{position_failed_in, shift_to_begin, minimum_of, shift_found}
+use Rattle.teco_verifier.specs.facts.Searches.{facts_at_search, count_checked}
 use Rattle.teco_verifier.specs.facts.Shifts.{Shift, Foreseen, shifted, silent_behind, facts_answered, position_after}
-use Rattle.teco_verifier.specs.facts.Shifts.{falls_behind, place_of, place_or_saved, ending, moving, shift_to}
+use Rattle.teco_verifier.specs.facts.Shifts.{fall_after, shift_to, ending, moving}
 use Rattle.teco_verifier.specs.facts.Storages.{storage, stack, with_popped, text_storage, own_text_storage, retrieval}
 use Rattle.teco_verifier.specs.facts.Storages.{not_of_library, is_above}
 use Rattle.teco_verifier.specs.facts.Transfer.{Placed, edges_of, search_edges, transfer, on, answer_for}
@@ -76,9 +73,8 @@ use Rattle.teco_verifier.specs.facts.Transfer.{without_answer, execution, after_
 use Rattle.teco_verifier.specs.facts.Transfer.{search_allowed, facts_after_argument, levels_after, facts_after_value}
 use Rattle.teco_verifier.specs.facts.Transfer.{level_with_value, facts_after_command, facts_after_page}
 use Rattle.teco_verifier.specs.facts.Typings.{typing, part_named}
-use Rattle.teco_verifier.specs.facts.Ways.{Numbers, Zero, NotZero, Negative, NotNegative, Positive, NotPositive}
-use Rattle.teco_verifier.specs.facts.Ways.{Characters, Digits, All, position_near, proved, way, position_of}
-use Rattle.teco_verifier.specs.facts.Ways.{position_by, may_take, raised, other, holding}
+use Rattle.teco_verifier.specs.facts.Ways.{Numbers, Zero, NotZero, Negative, NotNegative, Positive, NotPositive, All}
+use Rattle.teco_verifier.specs.facts.Ways.{way, position_of, position_by, may_take, raised, other, holding}
 use Rattle.teco_verifier.specs.table.Behind.{edges_at, edges_behind, along, placed, begins_turn}
 use Rattle.teco_verifier.specs.table.Closed.{begins_iteration, begins_by_kind}
 use Rattle.teco_verifier.specs.table.Choices.{Chosen}
@@ -142,9 +138,8 @@ record AreOut (edges : Edges) : Type 0 where
   away : OutOr edges.away
 
 -- what an element leaves
-after_shift : (rules : Rules) (s : Shift) (held : Polynomial) (p : Position) → IsStill p
-    → IsStill (position_after rules s held p)
-after_shift rules s held p q = record { none = ap (map (falls_behind rules s)) q.none }
+after_shift : (s : Shift) (held : Polynomial) (p : Position) → IsStill p → IsStill (position_after s held p)
+after_shift s held p q = record { none = ap (map (fall_after s.fall)) q.none }
 
 with_arguments_out : (arguments : KnownArguments) (facts : Facts) → IsOutside facts
     → IsOutside (with_arguments arguments facts)
@@ -171,7 +166,7 @@ module _ (facts : Facts) (o : IsOutside facts) where
   shifted_out : (s : Shift) → IfOk (shifted s facts) IsOutside
   shifted_out s = binds IsOutside (sum_of facts.held s.growth) _
       (λ held. record {
-        position = after_shift facts.rules s held facts.position o.position;
+        position = after_shift s held facts.position o.position;
         iterations = o.iterations;
         answer = o.answer;
       })
@@ -181,28 +176,25 @@ module _ (facts : Facts) (o : IsOutside facts) where
 
   motion_to_out : (m : Motion) (colons : ℕ) (n : Option Value) → IfOk (motion_to m colons n facts) IsForeseen
   motion_to_out m zero n = binds IsForeseen
-      (place_or_saved (goes_to_saved m n) (place_of (target m n) facts.position.distances)) _
-      (λ place.
-      silent_out (record (shift_to place) {
-        digit = digit_after (is_step_back m (count_of n facts.position.distances))
-            facts.position.digit;
-      }))
+      (shift_or_saved (goes_to_saved m n) (shift_to (target m n) facts.position.distances)) _
+      (λ shift. silent_out shift)
   motion_to_out m (suc colons) n =
       let shift = perhaps_forward (goes_forward m (count_of n facts.position.distances)) in
       binds_with IsOutside IsForeseen (shifted shift facts) _ (shifted_out shift) (λ known q. q)
 
   motion_out : (m : Motion) (colons : ℕ) (taken : KnownTaken) → IfOk (motion m colons taken facts) IsForeseen
   motion_out move.Lines colons taken =
-      silent_out (shift_by_lines facts.rules facts.position.distances (count_of taken.value facts.position.distances))
+      silent_out (shift_by_lines None facts.position.distances (count_of taken.value facts.position.distances))
   motion_out m colons taken = motion_to_out m colons taken.value
 
   part_deletion_out : (first value : Option Value) → IfOk (part_deletion first value facts) IsForeseen
-  part_deletion_out (Some m) (Some n) = binds IsForeseen (range_deletion facts.rules m n facts.position.distances) _
-      (λ shift. silent_out (ending shift))
+  part_deletion_out (Some m) (Some n) =
+      binds IsForeseen (range_deletion m n facts.position.distances) _ (λ shift. silent_out (ending shift))
   part_deletion_out None value = silent_out
-      (ending (lines_deletion facts.position.distances (count_of value facts.position.distances)))
+      (ending (shift_by_lines (Some (pos 0)) facts.position.distances (count_of value facts.position.distances)))
   part_deletion_out (Some m) None =
-      silent_out (ending (lines_deletion facts.position.distances (count_of None facts.position.distances)))
+      silent_out
+      (ending (shift_by_lines (Some (pos 0)) facts.position.distances (count_of None facts.position.distances)))
 
   deletion_out : (unit : Counted) (first value : Option Value) → IfOk (deletion_of unit first value facts) IsForeseen
   deletion_out counted.Characters (Some m) (Some n) = part_deletion_out (Some m) (Some n)
@@ -225,8 +217,8 @@ module _ (facts : Facts) (o : IsOutside facts) where
   insertion_out insert.Tab text (Some n) = tt
 
   typing_out : (t : Typing) (taken : KnownTaken) → IfOk (typing t taken facts) IsForeseen
-  typing_out type_.Part taken = binds IsForeseen
-      (part_named facts.rules taken.first taken.value facts.position.distances) _ (λ named. o)
+  typing_out type_.Part taken = binds IsForeseen (part_named taken.first taken.value facts.position.distances) _
+      (λ named. o)
   typing_out type_.View taken = o
   typing_out type_.Message taken = o
   typing_out type_.Byte taken = binds IsForeseen (needed_value taken.value) _ (λ n. o)
@@ -242,9 +234,6 @@ module _ (facts : Facts) (o : IsOutside facts) where
   kept_out numbers saved texts pushes =
       record { position = record { none = o.position.none }; iterations = o.iterations; answer = o.answer }
 
-  unmarked_out : IsOutside (without_digit facts)
-  unmarked_out = record { position = record { none = o.position.none }; iterations = o.iterations; answer = o.answer }
-
   text_storage_out : (colons r : ℕ) (length : Polynomial) → IfOk (text_storage colons r length facts) IsForeseen
   text_storage_out zero r length = kept_out _ _ _ _
   text_storage_out (suc colons) r length =
@@ -258,7 +247,7 @@ module _ (facts : Facts) (o : IsOutside facts) where
 
   retrieval_out : (colons r : ℕ) → IfOk (retrieval colons r facts) IsForeseen
   retrieval_out zero r = silent_out (insertion_of 0 (text_of r facts) facts.position.distances)
-  retrieval_out (suc colons) r = unmarked_out
+  retrieval_out (suc colons) r = o
 
   storage_out : (s : Storage) (library : Bool) (colons : ℕ) (text : List ℕ) (taken : KnownTaken)
       → IfOk (storage s library colons text taken facts) IsForeseen
@@ -266,7 +255,7 @@ module _ (facts : Facts) (o : IsOutside facts) where
       binds IsForeseen (needed_value taken.value) _ (λ n. kept_out _ _ _ _)
   storage_out (store.Add r) library colons text taken = kept_out _ _ _ _
   storage_out (store.Copy r) library colons text taken =
-      binds IsForeseen (part_named facts.rules taken.first taken.value facts.position.distances) _
+      binds IsForeseen (part_named taken.first taken.value facts.position.distances) _
       (λ named. binds IsForeseen (not_of_library library) _ (λ free. text_storage_out colons r facts.held))
   storage_out (store.SetText r) library colons text taken = own_text_out library colons r text taken.value
   storage_out (store.Get r) library colons text taken = retrieval_out colons r
@@ -281,24 +270,22 @@ module _ (facts : Facts) (o : IsOutside facts) where
   stack_out (pushing.Pop r) library = binds IsOutside (not_of_library library) _ (λ free. popped_out r facts.pushes)
 
   append_out : (value : Option Value) → IfOk (append value facts) IsForeseen
-  append_out None = silent_out (record (moving facts.position.distances (Refilled 0)) { digit = facts.position.digit })
+  append_out None = silent_out (moving facts.position.distances (Some (pos 0)))
   append_out (Some n) = o
 
   turning_out : (first value : Option Value) → IfOk (turning first value facts) IsForeseen
-  turning_out (Some m) (Some n) = binds IsForeseen (part_named facts.rules (Some m) (Some n) facts.position.distances) _
-      (λ named. unmarked_out)
+  turning_out (Some m) (Some n) = binds IsForeseen (part_named (Some m) (Some n) facts.position.distances) _
+      (λ named. o)
   turning_out None value = binds IsForeseen (some_pages (count_of value facts.position.distances)) _
-      (λ some. silent_out (ending (moving nowhere NextPage)))
+      (λ some. silent_out (ending (moving nowhere (Some (pos 0)))))
   turning_out (Some m) None = binds IsForeseen (some_pages (count_of None facts.position.distances)) _
-      (λ some. silent_out (ending (moving nowhere NextPage)))
+      (λ some. silent_out (ending (moving nowhere (Some (pos 0)))))
 
   writing_out : (first value : Option Value) → IfOk (writing first value facts) IsForeseen
-  writing_out (Some m) (Some n) = binds IsForeseen (part_named facts.rules (Some m) (Some n) facts.position.distances) _
-      (λ named. unmarked_out)
-  writing_out None value = binds IsForeseen (some_pages (count_of value facts.position.distances)) _
-      (λ some. unmarked_out)
-  writing_out (Some m) None = binds IsForeseen (some_pages (count_of None facts.position.distances)) _
-      (λ some. unmarked_out)
+  writing_out (Some m) (Some n) = binds IsForeseen (part_named (Some m) (Some n) facts.position.distances) _
+      (λ named. o)
+  writing_out None value = binds IsForeseen (some_pages (count_of value facts.position.distances)) _ (λ some. o)
+  writing_out (Some m) None = binds IsForeseen (some_pages (count_of None facts.position.distances)) _ (λ some. o)
 
   pages_out : (p : Page) (taken : KnownTaken) → IfOk (pages p taken facts) IsForeseen
   pages_out page.Append taken = append_out taken.value
@@ -314,7 +301,7 @@ module _ (facts : Facts) (o : IsOutside facts) where
   execution_out (command.Storage s) x taken = storage_out s x.library x.element.colons x.element.text taken
 
   at_query_out : (q : Query) → IfOk (facts_at_query q facts) IsOutside
-  at_query_out ask.Conversion = shifted_out (past_number facts.position.digit facts.position.distances)
+  at_query_out ask.Conversion = shifted_out (past_number facts.position.distances)
   at_query_out (ask.Number r) = o
   at_query_out ask.Mode = o
 
@@ -324,22 +311,22 @@ module _ (facts : Facts) (o : IsOutside facts) where
   query_with_out ask.Conversion = silent_out (insertion_of 1 (number 11) facts.position.distances)
 
   failed_in_still : (colons : ℕ) → IsStill (position_failed_in colons facts)
-  failed_in_still zero = after_shift facts.rules (shift_to_begin facts.position.distances) facts.held facts.position
+  failed_in_still zero = after_shift (shift_to_begin facts.position.distances) facts.held facts.position o.position
+  failed_in_still (suc zero) = after_shift (shift_to_begin facts.position.distances) facts.held facts.position
       o.position
-  failed_in_still (suc zero) = after_shift facts.rules (shift_to_begin facts.position.distances) facts.held
-      facts.position o.position
   failed_in_still (suc (suc colons)) = o.position
 
   failed_still : (s : Search) (colons : ℕ) → IsStill (position_failed s colons facts)
   failed_still sought.FindInPages colons =
-      after_shift facts.rules (ending (moving nowhere (By None))) facts.held facts.position o.position
+      after_shift (ending (moving nowhere None)) facts.held facts.position o.position
   failed_still sought.ReplaceInPages colons =
-      after_shift facts.rules (ending (moving nowhere (By None))) facts.held facts.position o.position
+      after_shift (ending (moving nowhere None)) facts.held facts.position o.position
   failed_still sought.Find colons = failed_in_still colons
   failed_still sought.Replace colons = failed_in_still colons
 
   found_out : (s : Search) (e : Element) → IfOk (facts_found s e facts) IsOutside
-  found_out s e = binds IsOutside (minimum_of e.text) _ (λ least. shifted_out _)
+  found_out s e = binds IsOutside (minimum_of e.text) _
+      (λ least. shifted_out (shift_found s least (length e.second) facts.position.distances))
 
 -- what takes its arguments first
 taking_out : (act : KnownTaken → Facts → Result Foreseen Refusal) (facts : Facts) → IsOutside facts
@@ -365,8 +352,8 @@ query_out q colons (Some s) facts o =
     (λ known p. answered_out known p)
 
 -- where ways meet
-smaller_still : (p q : Position) → IsStill p → joined_falls p.falls q.falls ≡ []
-smaller_still p q h = ap (λ falls. joined_falls falls q.falls) h.none
+smaller_still : (p q : Position) → IsStill p → smaller_falls p.falls q.falls ≡ []
+smaller_still p q h = ap (λ falls. smaller_falls falls q.falls) h.none
 
 joined_still : (p q : Position) → IsStill p → IfOk (joined_position p q) IsStill
 joined_still p q h = binds IsStill (join_of p.ahead q.ahead) _ (λ ahead. record { none = smaller_still p q h })
@@ -412,10 +399,10 @@ search_out s x facts o =
     (failed_still taken p s x.element.colons)))))
 
 -- on the ways of a test
-moved_still : (rules : Rules) (n : Numbers) (s : Value) (p : Position) → IsStill p → (d : Option Distances)
-    → StillOr (option_map (λ distances. position_near rules n s p (proved n s distances)) d)
-moved_still rules n s p q None = tt
-moved_still rules n s p q (Some d) = record { none = ap (map _) q.none }
+moved_still : (p : Position) → IsStill p → (d : Option Distances)
+    → StillOr (option_map (λ distances. record p { distances = distances }) d)
+moved_still p q None = tt
+moved_still p q (Some d) = record { none = q.none }
 
 perhaps_still : (b : Bool) (p : Option Position) → StillOr p → StillOr (if b then p else None)
 perhaps_still true p q = q
@@ -429,15 +416,13 @@ by_answer_still Negative answer p a q = a.0
 by_answer_still NotNegative answer p a q = a.1
 by_answer_still Positive answer p a q = tt
 by_answer_still NotPositive answer p a q = q
-by_answer_still Characters answer p a q = q
-by_answer_still Digits answer p a q = q
 by_answer_still All answer p a q = q
 
-position_still : (rules : Rules) (n : Numbers) (answer : Option Answer) (s : Value) (p : Position) → AreStill answer
-    → IsStill p → StillOr (position_by rules n answer s p)
-position_still rules n None s p a q =
-    perhaps_still (may_take n (interval_of p.distances s)) _ (moved_still rules n s p q (raised n s p.distances))
-position_still rules n (Some answer) s p a q = by_answer_still n answer p a q
+position_still : (n : Numbers) (answer : Option Answer) (s : Value) (p : Position) → AreStill answer → IsStill p
+    → StillOr (position_by n answer s p)
+position_still n None s p a q =
+    perhaps_still (may_take n (interval_of p.distances s)) _ (moved_still p q (raised n s p.distances))
+position_still n (Some answer) s p a q = by_answer_still n answer p a q
 
 placed_out : (facts : Facts) → IsOutside facts → (p : Option Position) → StillOr p
     → OutOr (option_map (λ position. record facts { position = position }) p)
@@ -446,8 +431,8 @@ placed_out facts o (Some p) q = at_position_out facts o p q
 
 way_out : (n : Numbers) (answer : Option Answer) (s : Value) (facts : Facts) → AreStill answer → IsOutside facts
     → OutOr (way n answer s facts)
-way_out n answer s facts a o = placed_out facts o (position_by facts.rules n answer s facts.position)
-    (position_still facts.rules n answer s facts.position a o.position)
+way_out n answer s facts a o = placed_out facts o (position_by n answer s facts.position)
+    (position_still n answer s facts.position a o.position)
 
 left_out : (known : Option Facts) → OutOr known → OutOr (option_map (leaving 1) known)
 left_out None o = tt
@@ -493,7 +478,7 @@ edges_out (kind.Query q) x answer facts b s o =
     on_out (facts_after_query q x.element.colons (value_for q x.element.colons facts.arguments.level) facts)
     (query_out q x.element.colons (value_for q x.element.colons facts.arguments.level) facts o)
 edges_out (kind.Stack t) x answer facts b s o = on_out (stack t x.library facts) (stack_out facts o t x.library)
-edges_out (kind.Call c) x answer facts b s o = record { on = unmarked_out facts o; away = tt }
+edges_out (kind.Call c) x answer facts b s o = record { on = o; away = tt }
 edges_out (kind.Flow f) x answer facts b s o = flow_out f x.element.colons x.leaves answer facts b s o
 edges_out (kind.Command c) x answer facts b s o =
     on_out (facts_after_command c x facts)
@@ -514,10 +499,7 @@ no_answer_out facts o = record { position = o.position; iterations = o.iteration
 behind_out : (nodes : List Node) (node : Node) (read : Option Element) (facts : Facts) → begins_iteration read ≡ false
     → IsOutside facts → IfOk (edges_behind nodes node read facts) AreOut
 unfolding transfer
-behind_out nodes node None facts b o = record {
-  on = unmarked_out (without_answer facts) (no_answer_out facts o);
-  away = tt;
-}
+behind_out nodes node None facts b o = record { on = no_answer_out facts o; away = tt }
 behind_out nodes node (Some e) facts b o =
     edges_out e.kind (placed nodes node e) (answer_for e.kind facts) (without_answer facts) b
     (answered_still e.kind facts o) (no_answer_out facts o)
@@ -610,32 +592,26 @@ arrivals_of_out : (r : Result Derived Refusal) → IfOk r HasArrivalsOut → All
 arrivals_of_out (Ok derived) o = o
 arrivals_of_out (Err why) o = tt
 
-given_out : (argument : Option ArgumentRange) (facts : Facts) → IsOutside facts → IsOutside (facts_with argument facts)
-given_out None facts o = o
-given_out (Some range) facts o = with_arguments_out _ facts o
+begun_out : (argument : Option ArgumentRange) → IsOutside (facts_given argument)
+begun_out None = record { position = record { none = refl }; iterations = refl; answer = tt }
+begun_out (Some range) = record { position = record { none = refl }; iterations = refl; answer = tt }
 
-begun_out : (entry : Entry) → IsOutside (facts_given entry)
-begun_out entry = given_out entry.argument _ (record {
-  position = record { none = refl };
-  iterations = refl;
-  answer = tt;
-})
-
-module _ (entry : Entry) (nodes : List Node) (chosen : List Chosen) (none : list_any begins nodes ≡ false) where
-  before_out : (k : ℕ) → AllOut (arrivals_before entry nodes chosen k)
+module _ (argument : Option ArgumentRange) (nodes : List Node) (chosen : List Chosen)
+    (none : list_any begins nodes ≡ false) where
+  before_out : (k : ℕ) → AllOut (arrivals_before argument nodes chosen k)
   unfolding arrivals_before node_at
-  before_out zero = (begun_out entry, tt)
+  before_out zero = (begun_out argument, tt)
   before_out (suc k) =
       let before = before_out k in
-      all_out_more (arrivals_before entry nodes chosen k) _ before
-      (arrivals_of_out _ (binds_with OutOr HasArrivalsOut (met (suc k) (arrivals_before entry nodes chosen k) None) _
-      (met_out (suc k) (arrivals_before entry nodes chosen k) None before tt)
+      all_out_more (arrivals_before argument nodes chosen k) _ before
+      (arrivals_of_out _ (binds_with OutOr HasArrivalsOut (met (suc k) (arrivals_before argument nodes chosen k) None) _
+      (met_out (suc k) (arrivals_before argument nodes chosen k) None before tt)
       (λ known o. derived_out nodes chosen (suc k) (node_at nodes (suc k)) known (none_begins nodes k none) o)))
 
 -- what is known outside of iterations is kept
 kept : (facts : Facts) → IsOutside facts → AreKept facts
 kept facts o = record {
-  small = subst AreSmall (sym o.position.none) (All-nil IsSmallFalls);
+  small = subst AreSmall (sym o.position.none) (All-nil IsSmallFall);
   room = record {
     falls = subst (λ fs. length fs < DEPTH) (sym o.position.none) (omega arith);
     iterations = subst (λ is. length is < DEPTH) (sym o.iterations) (omega arith);
@@ -647,15 +623,16 @@ not_large (Err why) o l = l
 not_large (Ok None) o l = l
 not_large (Ok (Some facts)) o l = l (kept facts o)
 
-pub row_small : (entry : Entry) (nodes : List Node) (chosen : List Chosen) (k : ℕ) (slots : Slots) (table : Table)
-    (why : NotDerived) → k < length nodes → list_any begins nodes ≡ false → AreDerived entry nodes chosen k slots table
+pub row_small : (argument : Option ArgumentRange) (nodes : List Node) (chosen : List Chosen) (k : ℕ) (slots : Slots)
+    (table : Table) (why : NotDerived) → k < length nodes → list_any begins nodes ≡ false
+    → AreDerived argument nodes chosen k slots table
     → IsLargeBy (known_of (slice_index_or slots (k + 1 - 1) (Ok None))) (Err why) → IsNotLarge (Err why)
-row_small entry nodes chosen k slots table (fault.Large node) h none a l =
+row_small argument nodes chosen k slots table (fault.Large node) h none a l =
     let same : k + 1 - 1 ≡ k = omega arith in
     let met_here = a.met.each k (omega arith) h in
-    not_large (met (suc k) (arrivals_before entry nodes chosen k) None)
-    (met_out (suc k) (arrivals_before entry nodes chosen k) None (before_out entry nodes chosen none k) tt)
+    not_large (met (suc k) (arrivals_before argument nodes chosen k) None)
+    (met_out (suc k) (arrivals_before argument nodes chosen k) None (before_out argument nodes chosen none k) tt)
     (subst (λ slot. AreLarge (known_of slot)) met_here
     (subst (λ n. AreLarge (known_of (slice_index_or slots n (Ok None)))) same l))
-row_small entry nodes chosen k slots table (fault.Refused why node) h none a l = tt
-row_small entry nodes chosen k slots table fault.Memory h none a l = tt
+row_small argument nodes chosen k slots table (fault.Refused why node) h none a l = tt
+row_small argument nodes chosen k slots table fault.Memory h none a l = tt

@@ -1,27 +1,22 @@
 -- Definitions that go through the nodes, or through a node's ways and iterations, one step further.
 use Rattle.std.proofs.Common.{◌≡◌, refl, sym, ◌∙◌, ap, ℕ, zero, suc, ◌+◌, ◌-◌, ◌<◌, ◌≤◌, Bool, true, false, ◌||◌}
-use Rattle.std.proofs.Common.{List, [], ◌∷◌, length, drop, slice_get, slice_index_or, Option, Some, None, unwrap_or}
-use Rattle.std.proofs.Common.{Ok, Err, add-one, arith, if◌then◌else◌}
+use Rattle.std.proofs.Common.{List, [], ◌∷◌, length, drop, slice_get, Option, Some, None, unwrap_or, Ok, Err, add-one}
+use Rattle.std.proofs.Common.{arith, if◌then◌else◌}
 use Rattle.std.specs.Option.{option_map_or}
-use Rattle.std.proofs.Math.Seq.{drop-nil}
 use Rattle.std.proofs.lemmas.List.{drop_all}
 use Rattle.teco_model.specs.Element.{Element}
 use Rattle.teco_verifier.specs.expansion.Ends.{ends, first_end}
 use Rattle.teco_verifier.specs.expansion.Node.{Node}
 use Rattle.teco_poly.specs.Polynomial.{Polynomial}
 use Rattle.teco_verifier.specs.declared.refusal.Refusal.{Refusal}
-use Rattle.teco_verifier.specs.declared.rules.Rules.{Rules}
-use Rattle.teco_verifier.specs.declared.rules.Rules.TheVariants.{First, Second}
-use Rattle.teco_facts.specs.Counting.{text_counts}
-use Rattle.teco_model.specs.Macros.{Needs}
-use Rattle.teco_verifier.specs.facts.Facts.{Facts, Entry, join_of}
+use Rattle.teco_model.specs.Macros.{ArgumentRange, Needs}
+use Rattle.teco_verifier.specs.facts.Facts.{Facts, join_of}
 use Rattle.teco_verifier.specs.facts.Flows.{Edges}
 use Rattle.teco_verifier.specs.facts.Printed.{no_needs}
 use Rattle.teco_verifier.specs.table.Behind.{along, begins_turn}
 use Rattle.teco_verifier.specs.table.Closed.{arrive, arrives, closed_at, check, check_from}
-use Rattle.teco_verifier.specs.table.Printed.{Counted, count_from, counted_with, multiply_from, multiplied_at}
-use Rattle.teco_verifier.specs.table.Printed.{size_from, sized_with, turns_round, turns_at, product_of, joined_with}
-use Rattle.teco_verifier.specs.table.Printed.{own_texts, needs_from, needs_of, both_needs}
+use Rattle.teco_verifier.specs.table.Printed.{count_from, counted_with, size_from, sized_with, turns_round, turns_at}
+use Rattle.teco_verifier.specs.table.Printed.{product_of, joined_with, needs_from, needs_of, both_needs}
 use Rattle.teco_verifier.specs.table.Table.{Table, facts_at}
 use Rattle.teco_check.specs.declared.bad.Bad.{Bad}
 use Rattle.teco_check.specs.declared.bad.Bad.TheVariants as bad
@@ -114,78 +109,70 @@ module _ (nodes : List Node) (table : Table) (k : ℕ) where
   check_done h = rw (drop_all k nodes h) refl
 
 -- nodes that are counted
-module _ (nodes : List Node) (table : Table) (k : ℕ) where
-  pub count_more : (counted more : Counted) → k < length nodes
-      → counted_with nodes table (k + 1) (node_at nodes (k + 1)) counted ≡ Ok more
-      → count_from nodes table (suc k) (drop k nodes) counted ≡ count_from nodes table (suc (k + 1))
-      (drop (k + 1) nodes) more
-  count_more counted more h e = let here : counted_with nodes table (suc k) (node_at nodes (suc k)) counted ≡ Ok more =
+module _ (nodes : List Node) (table : Table) (k : ℕ) (total : Polynomial) where
+  pub count_more : (more : Polynomial) → k < length nodes
+      → counted_with table (k + 1) (node_at nodes (k + 1)) total ≡ Ok more
+      → count_from table (suc k) (drop k nodes) total ≡ count_from table (suc (k + 1)) (drop (k + 1) nodes) more
+  count_more more h e = let here : counted_with table (suc k) (node_at nodes (suc k)) total ≡ Ok more =
       rw add-one at e in rw (nodes_from nodes k h, here, add-one) refl
 
-  pub count_fails : (counted : Counted) (why : Refusal) → k < length nodes
-      → counted_with nodes table (k + 1) (node_at nodes (k + 1)) counted ≡ Err why
-      → count_from nodes table (suc k) (drop k nodes) counted ≡ Err (k + 1)
-  count_fails counted why h e = let here : counted_with nodes table (suc k) (node_at nodes (suc k)) counted ≡ Err why =
+  pub count_fails : (why : Refusal) → k < length nodes
+      → counted_with table (k + 1) (node_at nodes (k + 1)) total ≡ Err why
+      → count_from table (suc k) (drop k nodes) total ≡ Err (k + 1)
+  count_fails why h e = let here : counted_with table (suc k) (node_at nodes (suc k)) total ≡ Err why =
       rw add-one at e in rw (nodes_from nodes k h, here, add-one) refl
 
-  pub count_done : (counted : Counted) → length nodes ≤ k
-      → count_from nodes table (suc k) (drop k nodes) counted ≡ Ok counted.total
-  count_done counted h = rw (drop_all k nodes h) refl
+  pub count_done : length nodes ≤ k → count_from table (suc k) (drop k nodes) total ≡ Ok total
+  count_done h = rw (drop_all k nodes h) refl
 
-  pub multiply_more : k < length nodes → multiplied_at nodes table (k + 1) (node_at nodes (k + 1)) ≡ Ok tt
-      → multiply_from nodes table (suc k) (drop k nodes) ≡ multiply_from nodes table (suc (k + 1)) (drop (k + 1) nodes)
-  multiply_more h e = let here : multiplied_at nodes table (suc k) (node_at nodes (suc k)) ≡ Ok tt = rw add-one at e in
-      rw (nodes_from nodes k h, here, add-one) refl
-
-  pub multiply_fails : (why : Refusal) → k < length nodes
-      → multiplied_at nodes table (k + 1) (node_at nodes (k + 1)) ≡ Err why
-      → multiply_from nodes table (suc k) (drop k nodes) ≡ Err (k + 1)
-  multiply_fails why h e = let here : multiplied_at nodes table (suc k) (node_at nodes (suc k)) ≡ Err why =
-      rw add-one at e in rw (nodes_from nodes k h, here, add-one) refl
-
-  pub multiply_done : length nodes ≤ k → multiply_from nodes table (suc k) (drop k nodes) ≡ Ok tt
-  multiply_done h = rw (drop_all k nodes h) refl
-
-module _ (entry : Entry) (nodes : List Node) (table : Table) (k : ℕ) (total : Polynomial) where
-  pub size_more : (more : Polynomial) → k < length nodes → sized_with entry (facts_at table (suc k)) total ≡ Ok more
-      → size_from entry table (suc k) (drop k nodes) total ≡ size_from entry table (suc (k + 1))
-      (drop (k + 1) nodes) more
+  pub size_more : (more : Polynomial) → k < length nodes → sized_with (facts_at table (suc k)) total ≡ Ok more
+      → size_from table (suc k) (drop k nodes) total ≡ size_from table (suc (k + 1)) (drop (k + 1) nodes) more
   size_more more h e = rw (nodes_from nodes k h, e, add-one) refl
 
-  pub size_fails : (why : Refusal) → k < length nodes → sized_with entry (facts_at table (suc k)) total ≡ Err why
-      → size_from entry table (suc k) (drop k nodes) total ≡ Err (k + 1)
+  pub size_fails : (why : Refusal) → k < length nodes → sized_with (facts_at table (suc k)) total ≡ Err why
+      → size_from table (suc k) (drop k nodes) total ≡ Err (k + 1)
   size_fails why h e = rw (nodes_from nodes k h, e, add-one) refl
 
-  pub size_done : length nodes ≤ k → size_from entry table (suc k) (drop k nodes) total ≡ Ok total
+  pub size_done : length nodes ≤ k → size_from table (suc k) (drop k nodes) total ≡ Ok total
   size_done h = rw (drop_all k nodes h) refl
 
 -- iterations round a node, the outermost first
-module _ (nodes : List Node) (table : Table) (iterations : List ℕ) (k begin : ℕ)
-    (is : slice_get iterations (k - 1) ≡ Some begin) (positive : 0 < k) where
+module _ (table : Table) (iterations : List ℕ) (k begin : ℕ) (is : slice_get iterations (k - 1) ≡ Some begin)
+    (positive : 0 < k) where
   from_here : drop (k - 1) iterations ≡ begin ∷ drop k iterations
   from_here = let same : suc (k - 1) ≡ k = omega arith in behind iterations (k - 1) begin is
       ∙ ap (λ k. begin ∷ drop k iterations) same
 
-  pub round_more : (rounds most next : Polynomial) → turns_round nodes table (drop k iterations) ≡ Ok rounds
-      → turns_at nodes table begin ≡ Ok most → product_of most rounds ≡ Ok next
-      → turns_round nodes table (drop (k - 1) iterations) ≡ Ok next
+  pub round_more : (rounds most next : Polynomial) → turns_round table (drop k iterations) ≡ Ok rounds
+      → turns_at table begin ≡ Ok most → product_of most rounds ≡ Ok next
+      → turns_round table (drop (k - 1) iterations) ≡ Ok next
   round_more rounds most next d e f = rw (from_here, d, e, f) refl
 
-  pub round_refused : (rounds : Polynomial) (why : Refusal) → turns_round nodes table (drop k iterations) ≡ Ok rounds
-      → turns_at nodes table begin ≡ Err why → turns_round nodes table (drop (k - 1) iterations) ≡ Err why
+  pub round_refused : (rounds : Polynomial) (why : Refusal) → turns_round table (drop k iterations) ≡ Ok rounds
+      → turns_at table begin ≡ Err why → turns_round table (drop (k - 1) iterations) ≡ Err why
   round_refused rounds why d e = rw (from_here, d, e) refl
 
-  pub round_overflows : (rounds most : Polynomial) (why : Refusal)
-      → turns_round nodes table (drop k iterations) ≡ Ok rounds → turns_at nodes table begin ≡ Ok most
-      → product_of most rounds ≡ Err why → turns_round nodes table (drop (k - 1) iterations) ≡ Err why
+  pub round_overflows : (rounds most : Polynomial) (why : Refusal) → turns_round table (drop k iterations) ≡ Ok rounds
+      → turns_at table begin ≡ Ok most → product_of most rounds ≡ Err why
+      → turns_round table (drop (k - 1) iterations) ≡ Err why
   round_overflows rounds most why d e f = rw (from_here, d, e, f) refl
 
-pub refused_inside : (nodes : List Node) (table : Table) (iterations : List ℕ) (k : ℕ) (why : Refusal)
-    → turns_round nodes table (drop k iterations) ≡ Err why → turns_round nodes table iterations ≡ Err why
-refused_inside nodes table [] zero why e = e
-refused_inside nodes table [] (suc k) why e = e
-refused_inside nodes table (begin ∷ outer) zero why e = e
-refused_inside nodes table (begin ∷ outer) (suc k) why e = rw (refused_inside nodes table outer k why e) refl
+pub refused_inside : (table : Table) (iterations : List ℕ) (k : ℕ) (why : Refusal)
+    → turns_round table (drop k iterations) ≡ Err why → turns_round table iterations ≡ Err why
+refused_inside table [] zero why e = e
+refused_inside table [] (suc k) why e = e
+refused_inside table (begin ∷ outer) zero why e = e
+refused_inside table (begin ∷ outer) (suc k) why e = rw (refused_inside table outer k why e) refl
+
+-- texts whose lengths are joined
+module _ (texts : List Polynomial) (k : ℕ) (most p : Polynomial) (h : k < length texts)
+    (is : slice_get texts k ≡ Some p) where
+  pub joined_more : (next : Polynomial) → join_of most p ≡ Ok next
+      → joined_with (drop k texts) most ≡ joined_with (drop (k + 1) texts) next
+  joined_more next e = rw (behind texts k p is, e, add-one) refl
+
+  pub joined_refused : (why : Refusal) → join_of most p ≡ Err why → joined_with (drop k texts) most ≡ Err why
+  joined_refused why e = rw (behind texts k p is, e) refl
 
 -- lists that have the same at each place
 pub same_lists : (xs ys : List ℕ) → length xs ≡ length ys → ((k : ℕ) → k < length xs → slice_get xs k ≡ slice_get ys k)
@@ -199,71 +186,6 @@ same_lists (x ∷ xs) (y ∷ ys) long same =
     let rest = same_lists xs ys (omega arith) (λ k h. same (suc k) (omega arith)) in
     rw (head, rest) refl
 
--- texts whose lengths are joined, if they count
-first_more : (rules : Rules) (l : Option ℕ) (t : Polynomial) (lengths : List (Option ℕ)) (texts : List Polynomial)
-    (most next : Polynomial) → (if text_counts rules l then join_of most t else Ok most) ≡ Ok next
-    → joined_with (own_texts rules (l ∷ lengths) (t ∷ texts)) most ≡ joined_with (own_texts rules lengths texts) next
-first_more First l t lengths texts most next f = rw f refl
-first_more Second None t lengths texts most next f = rw f refl
-first_more Second (Some n) t lengths texts most next f = let same : most ≡ next = (cc) in rw same refl
-
-first_refused : (rules : Rules) (l : Option ℕ) (t : Polynomial) (lengths : List (Option ℕ)) (texts : List Polynomial)
-    (most : Polynomial) (why : Refusal) → (if text_counts rules l then join_of most t else Ok most) ≡ Err why
-    → joined_with (own_texts rules (l ∷ lengths) (t ∷ texts)) most ≡ Err why
-first_refused First l t lengths texts most why f = rw f refl
-first_refused Second None t lengths texts most why f = rw f refl
-first_refused Second (Some n) t lengths texts most why f = absurd (cc)
-
-none_first : (rules : Rules) (t : Polynomial) (texts : List Polynomial) (most next : Polynomial)
-    → (if text_counts rules None then join_of most t else Ok most) ≡ Ok next
-    → joined_with (own_texts rules [] (t ∷ texts)) most ≡ joined_with (own_texts rules [] texts) next
-none_first First t texts most next f = rw f refl
-none_first Second t texts most next f = rw f refl
-
-none_refused : (rules : Rules) (t : Polynomial) (texts : List Polynomial) (most : Polynomial) (why : Refusal)
-    → (if text_counts rules None then join_of most t else Ok most) ≡ Err why
-    → joined_with (own_texts rules [] (t ∷ texts)) most ≡ Err why
-none_refused First t texts most why f = rw f refl
-none_refused Second t texts most why f = rw f refl
-
-pub joined_more : (rules : Rules) (lengths : List (Option ℕ)) (texts : List Polynomial) (most next text : Polynomial)
-    (k : ℕ) → k < length texts → text ≡ slice_index_or texts k text
-    → (if text_counts rules (slice_index_or lengths k None) then join_of most text else Ok most) ≡ Ok next
-    → joined_with (own_texts rules (drop k lengths) (drop k texts)) most ≡ joined_with
-    (own_texts rules (drop (k + 1) lengths) (drop (k + 1) texts)) next
-joined_more rules lengths [] most next text k h is e = absurd (omega arith)
-joined_more rules [] (t ∷ texts) most next text zero h is e = none_first rules t texts most next (rw is at e)
-joined_more rules [] (t ∷ texts) most next text (suc k) h is e =
-    let same : suc k + 1 ≡ suc (k + 1) = omega arith in
-    rw same (rw (drop-nil k, drop-nil (k + 1)) at (joined_more rules [] texts most next text k (omega arith) is e))
-joined_more rules (l ∷ lengths) (t ∷ texts) most next text zero h is e =
-    first_more rules l t lengths texts most next (rw is at e)
-joined_more rules (l ∷ lengths) (t ∷ texts) most next text (suc k) h is e =
-    let same : suc k + 1 ≡ suc (k + 1) = omega arith in
-    rw same (joined_more rules lengths texts most next text k (omega arith) is e)
-
-pub joined_refused : (rules : Rules) (lengths : List (Option ℕ)) (texts : List Polynomial) (most text : Polynomial)
-    (why : Refusal) (k : ℕ) → k < length texts → text ≡ slice_index_or texts k text
-    → (if text_counts rules (slice_index_or lengths k None) then join_of most text else Ok most) ≡ Err why
-    → joined_with (own_texts rules (drop k lengths) (drop k texts)) most ≡ Err why
-joined_refused rules lengths [] most text why k h is e = absurd (omega arith)
-joined_refused rules [] (t ∷ texts) most text why zero h is e = none_refused rules t texts most why (rw is at e)
-joined_refused rules [] (t ∷ texts) most text why (suc k) h is e =
-    rw (drop-nil k) at (joined_refused rules [] texts most text why k (omega arith) is e)
-joined_refused rules (l ∷ lengths) (t ∷ texts) most text why zero h is e =
-    first_refused rules l t lengths texts most why (rw is at e)
-joined_refused rules (l ∷ lengths) (t ∷ texts) most text why (suc k) h is e =
-    joined_refused rules lengths texts most text why k (omega arith) is e
-
-none_own : (rules : Rules) (lengths : List (Option ℕ)) → own_texts rules lengths [] ≡ []
-none_own First lengths = refl
-none_own Second [] = refl
-none_own Second (l ∷ lengths) = refl
-
-pub joined_done : (rules : Rules) (lengths : List (Option ℕ)) (texts : List Polynomial) (most : Polynomial) (k : ℕ)
-    → length texts ≤ k → joined_with (own_texts rules (drop k lengths) (drop k texts)) most ≡ Ok most
-joined_done rules lengths texts most k h = rw (drop_all k texts h, none_own rules (drop k lengths)) refl
-
 -- needs of the nodes from the last on
 pub needs_more : (nodes : List Node) (table : Table) (k : ℕ) (needs : Needs) → 0 < k → k ≤ length nodes
     → needs ≡ needs_from table (suc k) (drop k nodes)
@@ -276,12 +198,12 @@ needs_more nodes table (suc k) needs h l e =
     rw (same, nodes_from nodes k within, e, add-one) refl
 
 -- what is said of a node is said of the whole
-pub says_of : (entry : Entry) (nodes : List Node) (table : Table) (k : ℕ) (why : Bad) → k < length nodes
-    → check entry nodes table ≡ check_from nodes table (suc k) (drop k nodes)
+pub says_of : (argument : Option ArgumentRange) (nodes : List Node) (table : Table) (k : ℕ) (why : Bad)
+    → k < length nodes → check argument nodes table ≡ check_from nodes table (suc k) (drop k nodes)
     → SaysAt (k + 1) (closed_at nodes table (k + 1) (node_at nodes (k + 1))) (Err why)
-    → Says (check entry nodes table) (Err why)
-says_of entry nodes table k (bad.Edge node) h e s = e ∙ check_fails nodes table k h s.0 ∙ ap Err (sym s.1)
-says_of entry nodes table k bad.Memory h e s = tt
+    → Says (check argument nodes table) (Err why)
+says_of argument nodes table k (bad.Edge node) h e s = e ∙ check_fails nodes table k h s.0 ∙ ap Err (sym s.1)
+says_of argument nodes table k bad.Memory h e s = tt
 
 -- edges that arrive
 module _ (changes : Changes) (choice : Option Choice) (read : Option Element) (edges : Edges) (k target : ℕ)

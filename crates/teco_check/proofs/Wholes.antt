@@ -1,6 +1,5 @@
 -- The product of the turns round a node, where it is known, and a loop over the nodes.
-use Rattle.std.proofs.Common.{◌≡◌, refl, sym, ap, ◌∙◌, ℕ, ◌+◌, ◌<◌, List, length, false, true, Result, Ok, Err, arith}
-use Rattle.std.specs.Result.{is_err}
+use Rattle.std.proofs.Common.{◌≡◌, sym, ap, ◌∙◌, ℕ, ◌+◌, ◌<◌, List, length, arith}
 use Rattle.teco_verifier.specs.expansion.Node.{Node}
 use Rattle.teco_verifier.specs.table.Printed.{turns_round}
 use Rattle.teco_verifier.specs.table.Table.{Table}
@@ -14,17 +13,8 @@ module _ (nodes : List Node) (table : Table) where
   none_known rounds none = record { last = omega arith; are = λ some. absurd (omega arith) }
 
   pub known_round : (k : ℕ) (rounds : Rounds) → k < length nodes → rounds.number ≡ k + 1
-      → rounds.product ≡ turns_round nodes table (node_at nodes (k + 1)).stand.iterations → AreRounds nodes table rounds
+      → rounds.product ≡ turns_round table (node_at nodes (k + 1)).stand.iterations → AreRounds nodes table rounds
   known_round k rounds h is product = record {
     last = omega arith;
-    are = λ some. product ∙ ap (λ n. turns_round nodes table (node_at nodes n).stand.iterations) (sym is);
+    are = λ some. product ∙ ap (λ n. turns_round table (node_at nodes n).stand.iterations) (sym is);
   }
-
--- what fails says why
-pub why_err : {E : Type 0} (r : Result (Unit {0}) E) → true ≡ is_err r → (why : E) × (r ≡ Err why)
-why_err (Ok done) e = absurd (cc)
-why_err (Err why) e = (why, refl)
-
-pub is_done : {E : Type 0} (r : Result (Unit {0}) E) → false ≡ is_err r → r ≡ Ok tt
-is_done (Ok done) e = refl
-is_done (Err why) e = absurd (cc)

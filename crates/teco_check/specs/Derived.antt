@@ -1,10 +1,11 @@
 -- How a table is derived where what arrives at each node is kept, in place of all that arrived anywhere.
 use Rattle.std.specs.Prelude.{◌≡◌, ℕ, zero, suc, ◌-◌, List, [], ◌∷◌, take, slice_set, slice_index_or, Option, Some}
 use Rattle.std.specs.Prelude.{None, Result, Ok, Err, IsOk}
+use Rattle.teco_model.specs.Macros.{ArgumentRange}
 use Rattle.teco_verifier.specs.declared.refusal.Refusal.{Refusal}
 use Rattle.teco_verifier.specs.facts.Argument.{facts_given}
 use Rattle.teco_verifier.specs.facts.Attempt.{◌>>=◌}
-use Rattle.teco_verifier.specs.facts.Facts.{Facts, Entry}
+use Rattle.teco_verifier.specs.facts.Facts.{Facts}
 use Rattle.teco_verifier.specs.table.Choices.{Chosen}
 use Rattle.teco_verifier.specs.table.Deriving.{Arrival, Derived, met_with, derived_at, derive_from}
 use Rattle.teco_verifier.specs.table.Table.{Row, Table, facts_at}
@@ -93,23 +94,23 @@ Derives defined (Err (fault.Large node)) = (table : Table) → defined ≡ Ok ta
 Derives defined (Err fault.Memory) = Unit {0}
 
 -- the table of so many nodes from the first on
-abbrev pub table_up_to : Entry → List Node → List Chosen → ℕ → Result Table Refusal
-table_up_to entry nodes chosen count =
-    derive_from nodes chosen 1 (take count nodes) (record { target = 1; facts = facts_given entry } ∷ [])
+abbrev pub table_up_to : Option ArgumentRange → List Node → List Chosen → ℕ → Result Table Refusal
+table_up_to argument nodes chosen count =
+    derive_from nodes chosen 1 (take count nodes) (record { target = 1; facts = facts_given argument } ∷ [])
 
 -- The rules refuse at the node of this number: those before it have a table, and with it they have none.
-pub record IsRefusedAt
-    (entry : Entry) (nodes : List Node) (chosen : List Chosen) (number : ℕ) (why : Refusal) : Type 0 where
+pub record IsRefusedAt (argument : Option ArgumentRange) (nodes : List Node) (chosen : List Chosen) (number : ℕ)
+    (why : Refusal) : Type 0 where
   pub there : IsNumberOf nodes number
-  pub before : IsOk (table_up_to entry nodes chosen (number - 1))
-  pub refused : table_up_to entry nodes chosen number ≡ Err why
+  pub before : IsOk (table_up_to argument nodes chosen (number - 1))
+  pub refused : table_up_to argument nodes chosen number ≡ Err why
 
 -- the node that is told is the one at which the rules refuse, or one with facts that are too large
-abbrev pub DerivesUpTo : Entry → List Node → List Chosen → Result Table NotDerived → Type 0
-DerivesUpTo entry nodes chosen (Ok table) = Unit {0}
-DerivesUpTo entry nodes chosen (Err (fault.Refused why node)) = IsRefusedAt entry nodes chosen node why
-DerivesUpTo entry nodes chosen (Err (fault.Large node)) = IsNumberOf nodes node
-DerivesUpTo entry nodes chosen (Err fault.Memory) = Unit {0}
+abbrev pub DerivesUpTo : Option ArgumentRange → List Node → List Chosen → Result Table NotDerived → Type 0
+DerivesUpTo argument nodes chosen (Ok table) = Unit {0}
+DerivesUpTo argument nodes chosen (Err (fault.Refused why node)) = IsRefusedAt argument nodes chosen node why
+DerivesUpTo argument nodes chosen (Err (fault.Large node)) = IsNumberOf nodes node
+DerivesUpTo argument nodes chosen (Err fault.Memory) = Unit {0}
 
 -- no facts are too large
 abbrev pub IsNotLarge : Result Table NotDerived → Type 0

@@ -10,4 +10,4 @@ use Rattle.teco_check.specs.declared.printed.Rounds.{Rounds}
 pub record AreRounds (nodes : List Node) (table : Table) (rounds : Rounds) : Type 0 where
   pub last : rounds.number ≤ length nodes
   pub are : 0 < rounds.number → rounds.product
-      ≡ turns_round nodes table (node_at nodes rounds.number).stand.iterations
+      ≡ turns_round table (node_at nodes rounds.number).stand.iterations

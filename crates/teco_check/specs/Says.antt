@@ -30,11 +30,6 @@ abbrev pub Prints : Result Polynomial ℕ → Result Polynomial Overflow → Typ
 Prints printed (Ok number) = printed ≡ Ok number
 Prints printed (Err at) = printed ≡ Err at.node
 
--- the turns are multiplied, or the number of the node is told where that overflows
-abbrev pub Multiplies : Result (Unit {0}) ℕ → Result (Unit {0}) Overflow → Type 0
-Multiplies multiplied (Ok done) = multiplied ≡ Ok tt
-Multiplies multiplied (Err at) = multiplied ≡ Err at.node
-
 -- there is a node of that number
 abbrev pub OverflowsAt : {X : Type 0} → List Node → Result X Overflow → Type 0
 OverflowsAt nodes (Ok x) = Unit {0}

@@ -1,9 +1,7 @@
 //! What enters the body of an iteration, and what is chosen for it.
-ghost use Rattle.std.specs.Prelude.{◌≡◌, ◌<◌, ◌≤◌, length, option_map, option_copied, IfOk, Some, Ok};
+ghost use Rattle.std.specs.Prelude.{◌≡◌, option_map, option_copied, IfOk, Some, Ok};
 ghost use Rattle.teco_model.specs.Element as elements;
-ghost use Rattle.teco_verifier.specs.facts.Ranks as ranks;
 ghost use Rattle.teco_verifier.specs.table.Closed as rules;
-ghost use Rattle.teco_check.specs.Here.{node_at};
 
 use crate::iterations::{changes_in, end_of};
 use crate::same::say_same;
@@ -15,7 +13,7 @@ use teco_model::Element;
 use teco_model::kind::{Flow, Kind};
 use teco_poly::Poly;
 use teco_transfer::turns;
-use teco_verifier::{Rank, Refusal};
+use teco_verifier::Refusal;
 
 /// Whether an element is a <.
 pub fn begins_iteration(read: &Option<Element<'_>>) -> bool
@@ -49,16 +47,6 @@ fn start_stands(
     let stands = choice.stands(body.changes, most, &entering, body.end);
     let begun = body_start(choice, body.changes, entering)?;
     Ok(say_same(start, &begun) && stands)
-}
-
-/// What falls in each turn, from what is known at the > where that is reached.
-pub fn rank_at(end: Option<&Facts>) -> Option<Rank>
-    ensures { result ≡ ranks.rank_at (option_copied end.entry) }
-{
-    match end {
-        None => None,
-        Some(facts) => facts.rank(),
-    }
 }
 
 // Whether the body stands, where the choice or one of the facts may be absent; told if there is
@@ -103,7 +91,7 @@ pub fn is_entered(
                 changes: &changes,
                 end,
             };
-            let most = turns(rank_at(end), facts);
+            let most = turns(facts);
             body_stands(&body, entering, start, &table.choice(number), &most)
         }
     }

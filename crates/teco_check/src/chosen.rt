@@ -5,7 +5,6 @@ ghost use Rattle.teco_verifier.specs.table.Deriving as rules;
 
 use teco_base::REGISTERS;
 use teco_facts::{Choice, Facts};
-use teco_known::Margins;
 use teco_poly::Poly;
 use teco_verifier::{LongerText, LoopLine};
 
@@ -28,7 +27,6 @@ fn choice_of(facts: &Facts, chosen: &LoopLine) -> Choice
     Choice {
         held: chosen.held,
         kept: chosen.kept,
-        margins: Margins::of(chosen.distances),
         texts: with_longer(&chosen.longer, &facts.texts()),
     }
 }

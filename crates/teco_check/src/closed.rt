@@ -17,9 +17,9 @@ use crate::same::{is_covered, is_entry};
 use crate::table::Table;
 use std::alloc::{AllocError, Global};
 use teco_expansion::Nodes;
-use teco_facts::{Entry, Facts};
+use teco_facts::Facts;
 use teco_known::Fault;
-use teco_model::Element;
+use teco_model::{ArgumentRange, Element};
 use teco_transfer::Edges;
 
 // Whether an edge is covered where it leads. Behind all nodes nothing is known; the return of the
@@ -174,15 +174,19 @@ fn check_at(nodes: &Nodes<'_>, table: &Table, number: usize) -> Result<(), Bad>
     }
 }
 
-/// Whether a table is closed for what the entry is verified with; or
-/// else the number of the first node at which a condition fails. It takes time by the nodes and
-/// registers, and at each node by the pairs that were pushed since the entry and the parentheses
-/// that are open.
-pub fn check(alloc: Global, entry: &Entry, nodes: &Nodes<'_>, table: &Table) -> Result<(), Bad>
-    ensures value { Says (rules.check entry.now nodes.now table.now) result }
+/// Whether a table is closed for the argument of the entry; or else the number of the first node at
+/// which a condition fails. It takes time by the nodes and registers, and at each node by the pairs
+/// that were pushed since the entry and the parentheses that are open.
+pub fn check(
+    alloc: Global,
+    argument: Option<ArgumentRange>,
+    nodes: &Nodes<'_>,
+    table: &Table,
+) -> Result<(), Bad>
+    ensures value { Says (rules.check argument nodes.now table.now) result }
     ensures told { 0 < length nodes.now → IsBadAt nodes.now result }
 {
-    let Ok(begins) = is_entry(alloc, entry, table.facts(1)) else {
+    let Ok(begins) = is_entry(alloc, argument, table.facts(1)) else {
         return Err(Bad::Memory);
     };
     if !begins {

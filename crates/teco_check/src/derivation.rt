@@ -22,9 +22,9 @@ use crate::node::{element, way, ways};
 use crate::table::{Row, Table, are_kept};
 use std::alloc::{AllocError, Global};
 use teco_expansion::Nodes;
-use teco_facts::{Choice, Entry, Facts, body_start};
+use teco_facts::{Choice, Facts, body_start};
 use teco_known::Fault;
-use teco_model::Element;
+use teco_model::{ArgumentRange, Element};
 use teco_transfer::Edges;
 use teco_verifier::{LoopLine, Refusal};
 
@@ -228,30 +228,34 @@ fn row_at(
 }
 
 // Nothing but what is known at the entry has arrived at so many nodes, if there is memory.
-fn begun(alloc: Global, entry: &Entry, count: usize) -> Result<Arrived, AllocError>
-    ensures { IfOk result (λ arrived. arrived
-        ≡ arrived_at 1 (given.facts_given entry.now) (replicate count (Ok None))) }
+fn begun(
+    alloc: Global,
+    argument: Option<ArgumentRange>,
+    count: usize,
+) -> Result<Arrived, AllocError>
+    ensures { IfOk result (λ arrived. arrived ≡ arrived_at 1 (given.facts_given argument) (replicate
+        count (Ok None))) }
 {
     let mut arrived = Arrived::new(alloc, count)?;
-    arrived.put(1, Facts::entry(alloc, entry)?)?;
+    arrived.put(1, Facts::entry(alloc, argument)?)?;
     Ok(arrived)
 }
 
-/// The table that is derived with these choices, for what the entry is verified with. It takes
+/// The table that is derived with these choices, for the argument of the entry. It takes
 /// time by the nodes and registers, and where ways meet by the pairs that were pushed since the
 /// entry.
 pub fn derive(
     alloc: Global,
-    entry: &Entry,
+    argument: Option<ArgumentRange>,
     nodes: &Nodes<'_>,
     chosen: &[LoopLine],
 ) -> Result<Table, NotDerived>
-    ensures value { Derives (rules.derive entry.now nodes.now chosen.now) result }
-    ensures told { DerivesUpTo entry.now nodes.now chosen.now result }
+    ensures value { Derives (rules.derive argument nodes.now chosen.now) result }
+    ensures told { DerivesUpTo argument nodes.now chosen.now result }
     ensures small { list_any begins nodes.now ≡ false → IsNotLarge result }
     ensures kept { IfOk result (AllByRecursion RowIsKept) }
 {
-    let Ok(mut arrived) = begun(alloc, entry, nodes.len()) else {
+    let Ok(mut arrived) = begun(alloc, argument, nodes.len()) else {
         return Err(NotDerived::Memory);
     };
     let mut table = Table::new(alloc);

@@ -19,7 +19,7 @@ mod table;
 
 pub use bad::Bad;
 pub use behind::{along, begins_turn, edges_at};
-pub use bodies::{begins_iteration, rank_at};
+pub use bodies::begins_iteration;
 pub use chosen::choice_for;
 pub use closed::check;
 pub use derivation::{NotDerived, derive};

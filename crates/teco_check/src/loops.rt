@@ -62,7 +62,6 @@ pub fn line_of(
         number,
         held: choice.held,
         kept: choice.kept,
-        distances: choice.margins.told(),
         longer: longer_texts(alloc, &facts.texts(), &choice.texts)?,
     })
 }

@@ -3,7 +3,8 @@ ghost use Rattle.std.specs.Prelude.{◌≡◌, IfOk, option_copied};
 ghost use Rattle.teco_verifier.specs.table.Closed as rules;
 
 use std::alloc::{AllocError, Global};
-use teco_facts::{Entry, Facts};
+use teco_facts::Facts;
+use teco_model::ArgumentRange;
 
 /// Whether two facts say the same.
 pub fn say_same(one: &Facts, other: &Facts) -> bool
@@ -14,10 +15,14 @@ pub fn say_same(one: &Facts, other: &Facts) -> bool
 
 /// Whether nothing is known at the entry but what is always known there, and the argument that is
 /// declared; told if there is memory.
-pub fn is_entry(alloc: Global, entry: &Entry, facts: Option<&Facts>) -> Result<bool, AllocError>
-    ensures { IfOk result (λ yes. yes ≡ rules.is_entry entry.now (option_copied facts.entry)) }
+pub fn is_entry(
+    alloc: Global,
+    argument: Option<ArgumentRange>,
+    facts: Option<&Facts>,
+) -> Result<bool, AllocError>
+    ensures { IfOk result (λ yes. yes ≡ rules.is_entry argument (option_copied facts.entry)) }
 {
-    let given = Facts::entry(alloc, entry)?;
+    let given = Facts::entry(alloc, argument)?;
     Ok(match facts {
         None => false,
         Some(facts) => say_same(facts, &given),

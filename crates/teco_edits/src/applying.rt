@@ -34,9 +34,7 @@ use teco_session::SessionFault;
 use teco_source::Shown;
 use teco_text::GapText;
 use teco_tools::{Reporting, Start, ToolFault, machine_with, prepare, tell_anyway, told_name};
-use teco_verdicts::{
-    Accepted, Console, Grouped, Known, Outcome, Request, Setup, Voice, tell_edition,
-};
+use teco_verdicts::{Accepted, Console, Grouped, Known, Outcome, Request, Setup, Voice};
 
 /// A macro of a library, and how it is run on files.
 #[derive(Clone, Copy)]
@@ -484,8 +482,6 @@ fn apply_subject<H: Host + Reporting, O: Write + Drop, E: Write + Drop>(
     match subject.accepted(console.alloc, task.entry) {
         Ok(_) if errand.is_one_file => refuse_names(console),
         Ok(accepted) => {
-            let method = subject.sourced.method;
-            tell_edition(&mut console.voice, method, accepted.rules());
             warn_empty(console, &subject.sourced, &accepted)?;
             let job = Job {
                 alloc: console.alloc,

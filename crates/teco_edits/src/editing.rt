@@ -27,7 +27,7 @@ use teco_pages::{Backup, Closed, Closing, FileHost, Handling, Host, ProcessFacts
 use teco_session::SessionFault;
 use teco_source::Shown;
 use teco_tools::ToolFault;
-use teco_verdicts::{Console, Outcome, Premise, Sourced, Voice, tell_edition, tell_promise};
+use teco_verdicts::{Console, Outcome, Premise, Sourced, Voice, tell_promise};
 
 /// How files are kept as they were.
 #[derive(Clone, Copy)]
@@ -584,7 +584,6 @@ where
     if job.task.is_strict && Premise::of_promise(&job.accepted.promise()).is_empty() {
         return refuse_empty(console, sourced, job.accepted);
     }
-    tell_edition(&mut console.voice, sourced.method, job.accepted.rules());
     if job.task.tells_promise {
         tell_promise(&mut console.voice, &job.accepted.promise())?;
     }

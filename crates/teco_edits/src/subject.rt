@@ -11,8 +11,7 @@ use teco_base::Reg;
 use teco_tools::{Case, ToolFault};
 use teco_verdicts::{
     Accepted, AnswerFault, Claim, Console, Outcome, Sourced, Voice, accepted, lint, read_claim,
-    read_library_for, refuse, refuse_claim, refuse_macro, tell_no_text, tell_second_edition,
-    warn_no_text,
+    read_library_for, refuse_claim, refuse_macro, tell_no_text, warn_no_text,
 };
 use teco_verify::Refusal;
 
@@ -127,37 +126,6 @@ pub fn say_findings<O: Write + Drop, E: Write + Drop>(
     say_apart(&mut console.voice, apart);
 }
 
-// Says why a macro is refused that was verified.
-#[tactic(auto, using(crate::proofs::Tasks::refuses))]
-fn refuse_verified<O: Write + Drop, E: Write + Drop>(
-    console: &mut Console<O, E>,
-    sourced: &Sourced,
-    entry: Reg,
-    refusal: Refusal,
-) -> Result<Outcome, AnswerFault>
-    ensures { Refuses (O.contents console.old.out) (O.contents console.new.out) result }
-{
-    let Some(editions) = sourced.method.editions() else {
-        return refuse(console, &sourced.source, refusal, sourced.method.newest());
-    };
-    let account = editions.account(console.alloc, &sourced.library, entry)?;
-    refuse_macro(console, sourced, &account, refusal)
-}
-
-// Says why a macro is refused that was verified, and whether the second edition accepts it.
-fn refuse_by_both<O: Write + Drop, E: Write + Drop>(
-    console: &mut Console<O, E>,
-    sourced: &Sourced,
-    entry: Reg,
-    refusal: Refusal,
-) -> Result<Outcome, AnswerFault>
-    ensures { Refuses (O.contents console.old.out) (O.contents console.new.out) result }
-{
-    let outcome = refuse_verified(console, sourced, entry, refusal)?;
-    tell_second_edition(console, &sourced.library, entry, sourced.method);
-    Ok(outcome)
-}
-
 // Says why a macro is refused, by its certificate if there is one.
 #[tactic(auto, using(crate::proofs::Tasks::refuses))]
 fn refuse_by_claim<O: Write + Drop, E: Write + Drop>(
@@ -170,7 +138,7 @@ fn refuse_by_claim<O: Write + Drop, E: Write + Drop>(
 {
     let sourced = &subject.sourced;
     match &subject.claim {
-        None => refuse_by_both(console, sourced, entry, refusal),
+        None => refuse_macro(console, sourced, entry, refusal),
         Some(claim) => refuse_claim(console, sourced, entry, claim, refusal),
     }
 }

@@ -19,9 +19,7 @@ use teco_pages::Host;
 use teco_run::{Machine, Stopped};
 use teco_text::GapText;
 use teco_tools::{Reporting, ToolFault, code_of, machine_with, prepare, tell_macro, tell_trouble};
-use teco_verdicts::{
-    AnswerFault, Console, Outcome, Premise, Sourced, letters, read_library_for, tell_edition,
-};
+use teco_verdicts::{AnswerFault, Console, Outcome, Premise, Sourced, letters, read_library_for};
 
 /// What stands over the steps.
 const HEAD: &str = "step\tplace\telement\tpointer\tlength\tanswer\ttyped\n";
@@ -277,7 +275,6 @@ fn is_refused<O: Write + Drop, E: Write + Drop>(
         refuse_empty(console, sourced, &accepted)?;
         return Ok(true);
     }
-    tell_edition(&mut console.voice, sourced.method, accepted.rules());
     Ok(false)
 }
 

@@ -12,7 +12,7 @@ use teco_library::Library;
 use teco_model::{Element, Kind};
 use teco_source::Shown;
 use teco_tools::{Case, ToolFault};
-use teco_verdicts::{Console, Outcome, Request, Sourced, read_library, refuse, refuse_macro};
+use teco_verdicts::{Console, Outcome, Request, Sourced, read_library, refuse_macro};
 
 /// How many pieces a text has at most.
 const LONGEST: u32 = 4;
@@ -382,13 +382,7 @@ fn fuzz_library<O: Write + Drop, E: Write + Drop>(
     let verdict = sourced.method.verify(alloc, &sourced.library, entry);
     match verdict.err() {
         None => fuzz_accepted(console, sourced, entry, case),
-        Some(refusal) => {
-            let Some(editions) = sourced.method.editions() else {
-                return Ok(refuse(console, &sourced.source, refusal, sourced.method.newest())?);
-            };
-            let account = editions.account(alloc, &sourced.library, entry)?;
-            Ok(refuse_macro(console, sourced, &account, refusal)?)
-        }
+        Some(refusal) => Ok(refuse_macro(console, sourced, entry, refusal)?),
     }
 }
 

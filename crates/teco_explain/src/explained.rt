@@ -7,7 +7,7 @@ use crate::refusals::{note_of_refusal, number_of};
 use std::{fmt, str};
 use teco_base::{Code, Reg};
 use teco_source::{Shown, Source};
-use teco_verifier::{Refusal, Rules};
+use teco_verifier::Refusal;
 
 /// Why a library, or a macro of it, is refused, where in its source, and what usually mends it.
 #[derive(Clone, Copy)]
@@ -18,8 +18,8 @@ pub struct Explained<'a> {
     /// The register in whose text the place is; none where it is one of the file's.
     pub register: Option<Reg>,
     pub place: usize,
-    /// The edition of the rules that refuses it.
-    pub rules: Rules,
+    /// Was it refused for the table of what is known before each element? Some hints are on that.
+    pub is_by_table: bool,
 }
 
 // The three letters of a code.
@@ -43,6 +43,16 @@ impl Explained<'_> {
                 None => &[],
             },
         }
+    }
+
+    // What usually mends it.
+    fn remedy(&self) -> &'static str {
+        let hint = if self.is_by_table {
+            hint(self.why, self.text(), self.place)
+        } else {
+            None
+        };
+        hint.unwrap_or(note_of_refusal(self.why).remedy)
     }
 
     // What is wrong beside the reason, where that can be told.
@@ -77,7 +87,6 @@ impl fmt::Display for Explained<'_> {
         )?;
         writeln!(f, "{}", self.source.excerpt(place))?;
         self.detail(f)?;
-        let remedy = hint(self.why, self.text(), self.place, self.rules).unwrap_or(note.remedy);
-        write!(f, "  {remedy}")
+        write!(f, "  {}", self.remedy())
     }
 }

@@ -1,33 +1,25 @@
 //! Hints for macros that are refused in the form that comes to mind first.
 use crate::around::{Around, Body, Role, Sign};
-use teco_verifier::{Refusal, Rules};
+use teco_verifier::Refusal;
 
-/// What usually mends a refusal of this kind at a place of a text by an edition of the rules, where
-/// the text has one of the common forms.
-pub fn hint(why: Refusal, text: &[u8], place: usize, rules: Rules) -> Option<&'static str> {
+/// What usually mends a refusal of this kind at a place of a text by a table of what is known before each
+/// element, where the text has one of the common forms.
+pub fn hint(why: Refusal, text: &[u8], place: usize) -> Option<&'static str> {
     let around = Around::of(text, place);
     match why {
-        Refusal::Fall => around.body.and_then(|body| of_fall(body, rules)),
+        Refusal::Fall => around.body.and_then(of_fall),
         Refusal::Bound => around.body.and_then(of_bound),
-        Refusal::Place => of_place(&around, rules),
-        Refusal::Deletion => of_deletion(&around, rules),
+        Refusal::Place => of_place(&around),
+        Refusal::Deletion => of_deletion(&around),
         Refusal::Pending | Refusal::Argument => of_argument(&around),
         Refusal::Unverified => of_unverified(&around),
         _ => None,
     }
 }
 
-// One text for the first edition, and another for the second.
-fn by_edition(rules: Rules, first: &'static str, second: &'static str) -> &'static str {
-    match rules {
-        Rules::First => first,
-        Rules::Second => second,
-    }
-}
-
 // An iteration without a count in which nothing is known to shrink. What goes back is named before
 // what may not move on.
-fn of_fall(body: Body, rules: Rules) -> Option<&'static str> {
+fn of_fall(body: Body) -> Option<&'static str> {
     if body.counts_by_register {
         return Some(
             "An iteration in this one has a register's number as its count, which may be up to \
@@ -36,13 +28,13 @@ fn of_fall(body: Body, rules: Rules) -> Option<&'static str> {
         );
     }
     if body.turns_pages {
-        return Some(of_pages(rules));
+        return Some(PAGES);
     }
     if body.jumps {
-        return Some(of_jumps(rules));
+        return Some(JUMPS);
     }
     if body.searches && body.goes_back {
-        return Some(of_search_back(rules));
+        return Some(SEARCH_BACK);
     }
     if body.kills_range {
         return Some(
@@ -56,52 +48,28 @@ fn of_fall(body: Body, rules: Rules) -> Option<&'static str> {
                 character in each turn, as in .-Z;CA.",
         );
     }
-    body.moves_lines.then_some(of_lines(rules))
+    body.moves_lines.then_some(LINES)
 }
 
 // An iteration with P.
-fn of_pages(rules: Rules) -> &'static str {
-    by_edition(
-        rules,
-        "P is not known to move on. Edit with --pages each, which runs the macro on every page, or \
-            go through the pages with N or FN.",
-        "P moves on only where text is left: test it before, as in .-Z;P. Or edit with --pages \
-            each, which runs the macro on every page, or go through the pages with N or FN.",
-    )
-}
+const PAGES: &str =
+    "P is not known to move on. Edit with --pages each, which runs the macro on every page, or \
+            go through the pages with N or FN.";
 
 // An iteration with J.
-fn of_jumps(rules: Rules) -> &'static str {
-    by_edition(
-        rules,
-        "J goes back in each turn. Go on from where the last turn ended, or give a count that is \
-            surely enough, as in Z<..>.",
-        "J goes back in each turn. Delete a character behind it, as in J.-Z;D, go on from where the \
-            last turn ended, or give a count that is surely enough, as in Z<..>.",
-    )
-}
+const JUMPS: &str =
+    "J goes back in each turn. Go on from where the last turn ended, or give a count that is \
+            surely enough, as in Z<..>.";
 
 // An iteration with a search, and with what goes back.
-fn of_search_back(rules: Rules) -> &'static str {
-    by_edition(
-        rules,
-        "The search moves on, but 0L or R goes back before what it found. Write 0K or 0T without \
-            the 0L, as in Sfoo$;0KK, or give a count, as in JZ<..>.",
-        "The search moves on, but 0L or R goes back before what it found. Pass the line again by L \
-            or K, as in Sfoo$;0L..L, or give a count, as in JZ<..>.",
-    )
-}
+const SEARCH_BACK: &str =
+    "The search moves on, but 0L or R goes back before what it found. Write 0K or 0T without \
+            the 0L, as in Sfoo$;0KK, or give a count, as in JZ<..>.";
 
 // An iteration with L or K.
-fn of_lines(rules: Rules) -> &'static str {
-    by_edition(
-        rules,
-        "L and K are not known to move on, since they may stay at the end. Give a count that is \
-            surely enough and test first, as in JZ<.-Z;..L>.",
-        "L and K move on only where text is left. Test that in each turn, by .-Z; behind L or \
-            before K, or give a count that is surely enough and test first, as in JZ<.-Z;..L>.",
-    )
-}
+const LINES: &str =
+    "L and K are not known to move on, since they may stay at the end. Give a count that is \
+            surely enough and test first, as in JZ<.-Z;..L>.";
 
 // An iteration in which what is held grows faster and faster.
 fn of_bound(body: Body) -> Option<&'static str> {
@@ -116,16 +84,12 @@ fn of_bound(body: Body) -> Option<&'static str> {
 }
 
 // A place that may be outside the buffer.
-fn of_place(around: &Around, rules: Rules) -> Option<&'static str> {
+fn of_place(around: &Around) -> Option<&'static str> {
     if around.has_saved_range {
-        return Some(by_edition(
-            rules,
+        return Some(
             "A place that a register keeps counts for QQJ alone, and not in a range. Go there \
                 with QQJ and delete a line or a character a turn, behind .-Z; as the test.",
-            "A place that .UQ kept bounds a range only if every way here comes by that .UQ and \
-                nothing was deleted or replaced since. Else go there with QQ:J$ and delete a line or a \
-                character a turn, behind .-Z; as the test.",
-        ));
+        );
     }
     match (around.before, around.here) {
         (Some(before), Some(here)) if before.role == Role::Saved && here.role == Role::Jump => Some(
@@ -137,15 +101,12 @@ fn of_place(around: &Around, rules: Rules) -> Option<&'static str> {
 }
 
 // A deletion that may be too long.
-fn of_deletion(around: &Around, rules: Rules) -> Option<&'static str> {
+fn of_deletion(around: &Around) -> Option<&'static str> {
     if around.tests_character {
-        return Some(by_edition(
-            rules,
+        return Some(
             "A test of a character says nothing about the room. Test the room too: .-Z; or \
                 .-Z\"L..' before D, and .\"G..' before -D.",
-            "A test of a character says that this one is there, and nothing of others. Test the \
-                room too: .-Z; or .-Z\"L..' before D, and .\"G..' before -D.",
-        ));
+        );
     }
     match around.before {
         Some(before) if before.role == Role::LastLength => Some(

@@ -169,9 +169,8 @@ fn of_bounds(refusal: Refusal) -> Note {
         Refusal::Fall => Note {
             summary: "nothing is known to shrink from turn to turn",
             meaning: "An iteration without a count must come nearer to the end of the text in \
-                each turn: by a search, or by C or D behind the test .-Z; and not by L or K, which \
-                may stay where they are. By the second edition of the rules L, K and P count too \
-                where text is left.",
+                each turn: by a search, or by C or D behind the test .-Z; and not by L, K or P alone, \
+                which may stay where they are.",
             example: "@^UA~<Ix$>~",
             remedy: "Give the iteration a count that is surely enough, as in Z<..>, or move by \
                 what a search found and don't go back before it.",

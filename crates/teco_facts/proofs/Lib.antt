@@ -1,5 +1,4 @@
 -- What the proofs of the functions share.
-pub mod Entries
 pub mod Popping
 pub mod Meeting
 pub mod Joins

@@ -1,5 +1,4 @@
 -- The words of the contracts.
-pub mod Counting
 pub mod Does
 pub mod Joined
 pub mod Searched

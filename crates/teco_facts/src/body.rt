@@ -2,7 +2,6 @@
 ghost use Rattle.std.specs.Prelude.{◌≡◌, length, option_copied, IfOk};
 ghost use Rattle.teco_base.specs.declared.TheConstants.{REGISTERS};
 ghost use Rattle.teco_verifier.specs.facts.Bodies as bodies;
-ghost use Rattle.teco_verifier.specs.facts.Ranks as ranks;
 ghost use Rattle.teco_verifier.specs.facts.Shifts as shifts;
 ghost use Rattle.teco_verifier.specs.table.Closed as closed;
 
@@ -14,7 +13,7 @@ use std::marker::Model;
 use teco_base::REGISTERS;
 use teco_known::{Margins, Position, Range, each_covers, falls_at_start, replace_where, sum_of};
 use teco_poly::Poly;
-use teco_verifier::{Rank, Refusal, Rules};
+use teco_verifier::Refusal;
 
 /// What is chosen: how much is held at most at the start of each turn, how long the texts are at
 /// most, and whether the iteration is kept: what is ahead, and the falls of those outside, are then
@@ -23,7 +22,6 @@ use teco_verifier::{Rank, Refusal, Rules};
 pub struct Choice {
     pub held: Poly,
     pub kept: bool,
-    pub margins: Margins,
     pub texts: [Poly; REGISTERS],
 }
 
@@ -37,14 +35,12 @@ impl Model for Choice {
     ghost view = { λ c. record {
       held = c.held;
       kept = c.kept;
-      distances = c.margins;
       texts = c.texts;
     } };
 
     ghost inverse = { λ c. record {
       held = c.held;
       kept = c.kept;
-      margins = c.distances;
       texts = c.texts;
     } };
 
@@ -88,36 +84,21 @@ fn saved_at_start(here: &Position, changes: &Changes) -> [bool; REGISTERS]
     saved
 }
 
-// Whether a fall is known to be at least so much.
-fn is_known(least: u32, fall: Option<i64>) -> bool
-    ensures { result ≡ ranks.is_known least fall }
+// The fall of the innermost iteration, if it is known.
+fn own_fall(position: &Position) -> Option<i64>
+    ensures { result ≡ bodies.own_fall position.now.falls }
 {
-    match fall {
-        None => false,
-        Some(fall) => i64::from(least) <= fall,
-    }
+    position.falls.as_slice().first()?.known()
 }
 
 impl Facts {
-    /// What falls in each turn of the innermost iteration, where this is known at its end: what is
-    /// ahead, or else what is held.
-    pub fn rank(&self) -> Option<Rank>
-        ensures { result ≡ ranks.rank_of self.now.position }
-    {
-        match self.known.position.falls.as_slice() {
-            [own, ..] if is_known(1, own.fall.known()) => Some(Rank::Ahead),
-            [own, ..] if is_known(1, own.held.known()) => Some(Rank::Held),
-            _ => None,
-        }
-    }
-
     /// Whether the fall of the innermost iteration is known to be at least so much.
     pub fn has_fallen(&self, least: u32) -> bool
-        ensures { result ≡ ranks.has_own_fall least self.now.position }
+        ensures { result ≡ bodies.has_own_fall least self.now.position }
     {
-        match self.known.position.falls.as_slice() {
-            [own, ..] => is_known(least, own.fall.known()),
-            [] => false,
+        match own_fall(&self.known.position) {
+            None => false,
+            Some(fall) => i64::from(least) <= fall,
         }
     }
 }
@@ -151,19 +132,12 @@ fn has_room(choice: &Choice, turns: &Poly, entering: &Facts, end: &Facts) -> boo
 }
 
 impl Choice {
-    /// Whether the choice is enough to begin with: it holds what the < does. The first edition
-    /// chooses no distances.
+    /// Whether the choice is enough to begin with: it holds what the < does.
     pub fn begins(&self, entering: &Facts) -> bool
         ensures { result ≡ bodies.begins self.now entering.now }
     {
         let known = &*entering.known;
-        known.held.le(&self.held)
-            && each_covers(&self.texts, &known.registers.texts)
-            && self.margins.covers(known.position.margins)
-            && match known.rules {
-                Rules::First => self.margins.covers(Margins::nowhere()),
-                Rules::Second => true,
-            }
+        known.held.le(&self.held) && each_covers(&self.texts, &known.registers.texts)
     }
 }
 
@@ -187,13 +161,12 @@ pub fn body_start(
     ensures { IfOk result (λ facts. facts ≡ bodies.body_start choice.now changes.now entering) }
 {
     let known = &mut *entering.known;
-    let (rules, here) = (known.rules, &known.position);
+    let here = &known.position;
     let position = Position {
-        margins: choice.margins,
-        falls: falls_at_start(rules, choice.kept, choice.margins, &here.falls),
+        margins: Margins::nowhere(),
+        falls: falls_at_start(choice.kept, &here.falls),
         ahead: if choice.kept { here.ahead } else { choice.held },
         saved: saved_at_start(here, changes),
-        digit: None,
     };
     let registers = Registers {
         numbers: unknown_where(&changes.written, &known.registers.numbers),
@@ -218,12 +191,11 @@ fn begins_again(choice: &Choice, changes: &Changes, entering: &Facts, end: &Fact
         && each_covers(&choice.texts, &registers.texts)
         && covers_pairs(known.pushes.chain(), end.pushes.chain())
         && each_covers(&saved, &end.position.saved)
-        && choice.margins.covers(end.position.margins)
 }
 
 impl Choice {
     /// Whether the choice stands: it begins and, if the > is reached, the next turn may begin
-    /// there. Without a count something falls in each turn, and a kept iteration lets no more be
+    /// there. Without a count less is ahead after each turn, and a kept iteration lets no more be
     /// ahead from turn to turn.
     pub fn stands(
         &self,
@@ -239,7 +211,7 @@ impl Choice {
             None => self.begins(entering),
             Some(end) => {
                 self.begins(entering)
-                    && (entering.is_counted() || end.rank().is_some())
+                    && (entering.is_counted() || end.has_fallen(1))
                     && (!self.kept || end.has_fallen(0))
                     && has_room(self, turns, entering, end)
                     && begins_again(self, changes, entering, end)

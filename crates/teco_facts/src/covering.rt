@@ -5,7 +5,6 @@ ghost use Rattle.teco_verifier.specs.facts.Covers as covers;
 use crate::{Answer, Facts, Iteration, Pushed};
 use teco_known::{Covers, each_covers};
 use teco_stack::Chain;
-use teco_verifier::Rules;
 
 // An iteration has a count at both, or at neither, and as many pushes.
 impl Covers for Iteration {
@@ -75,11 +74,7 @@ impl Facts {
     {
         let (known, arriving) = (&*self.known, &*edge.known);
         let (registers, others) = (&*known.registers, &*arriving.registers);
-        let editions = (known.rules, arriving.rules);
-        matches!(
-            editions,
-            (Rules::First, Rules::First) | (Rules::Second, Rules::Second)
-        ) && known
+        known
             .arguments
             .covers(&arriving.arguments, arriving.position.margins)
             && covers_answer(&known.answer, &arriving.answer)

@@ -1,8 +1,7 @@
 //! What is known before an element.
-ghost use Rattle.std.specs.Prelude.{◌≡◌, IfOk, Ok, length, option_map, slice_get};
+ghost use Rattle.std.specs.Prelude.{◌≡◌, ℤ, IfOk, Ok, Option, length, option_map, slice_get};
 ghost use Rattle.std.specs.Option.{option_and_then};
 ghost use Rattle.teco_base.specs.declared.TheConstants.{REGISTERS};
-ghost use Rattle.teco_verifier.specs.declared.falls.Falls.{Falls};
 ghost use Rattle.teco_verifier.specs.facts.Facts as rules;
 ghost use Rattle.teco_verifier.specs.facts.Shifts as shifts;
 ghost use Rattle.teco_verifier.specs.facts.Argument as given;
@@ -16,16 +15,16 @@ ghost use Rattle.teco_facts.specs.Does.{Gives};
 ghost use Rattle.teco_facts.specs.Room.{innermost};
 ghost use Rattle.teco_facts.specs.Searched as searched;
 
-use crate::Entry;
 use crate::registers::Registers;
 use std::alloc::{AllocError, Global};
 use std::marker::Model;
 use std::rc::Rc;
 use teco_base::{REGISTERS, Reg};
 use teco_known::{Arguments, Fault, Few, Level, Margins, Number, Position, Range, Shift, sum_of};
+use teco_model::ArgumentRange;
 use teco_poly::Poly;
 use teco_stack::Stack;
-use teco_verifier::{Distances, Interval, Refusal, Rules};
+use teco_verifier::{Distances, Interval, Refusal};
 
 /// The positions where a search found, and where it failed. They lie on the heap.
 #[derive(Drop)]
@@ -139,7 +138,6 @@ pub struct Facts {
 // What facts say.
 #[derive(Drop)]
 pub(crate) struct Known {
-    pub rules: Rules,
     pub arguments: Arguments,
     pub answer: Option<Answer>,
     pub position: Position,
@@ -157,7 +155,6 @@ impl Model for Facts {
     ghost Value = { rules.Facts };
 
     ghost view = { λ f. let k = f.known.value in record {
-      rules = k.rules;
       arguments = k.arguments;
       answer = k.answer;
       position = k.position;
@@ -175,17 +172,16 @@ impl Model for Facts {
 impl Facts {
     /// Before the first element: nothing is pending but the argument that is declared, and N holds
     /// all. It is there if there is memory.
-    pub fn entry(alloc: Global, entry: &Entry) -> Result<Facts, AllocError>
-        ensures { IfOk result (λ facts. facts ≡ given.facts_given entry.now) }
+    pub fn entry(alloc: Global, argument: Option<ArgumentRange>) -> Result<Facts, AllocError>
+        ensures { IfOk result (λ facts. facts ≡ given.facts_given argument) }
     {
         let registers = Registers {
             numbers: [Range::any(); REGISTERS],
-            texts: entry.texts(),
+            texts: [Poly::variable(); REGISTERS],
         };
         let registers = Rc::new(alloc, registers)?;
         let known = Known {
-            rules: entry.rules,
-            arguments: Arguments::declared(alloc, entry.argument),
+            arguments: Arguments::declared(alloc, argument),
             answer: None,
             position: Position::start(),
             iterations: Few::empty(Iteration {
@@ -210,7 +206,6 @@ impl Facts {
         let arguments = known.arguments.copied()?;
         let answer = answer_copied(self.alloc, &known.answer)?;
         let copy = Known {
-            rules: known.rules,
             arguments,
             answer,
             position,
@@ -231,21 +226,6 @@ impl Facts {
         ensures { IfOk result (λ copy. copy ≡ self.now) }
     {
         self.copied_at(self.known.position.copied())
-    }
-
-    /// The edition of the rules.
-    pub fn rules(&self) -> Rules
-        ensures { result ≡ self.now.rules }
-    {
-        self.known.rules
-    }
-
-    /// The facts where no digit is known.
-    pub fn without_digit(mut self) -> Facts
-        ensures { result ≡ rules.without_digit self }
-    {
-        self.known.position.digit = None;
-        self
     }
 
     /// Where the pointer is.
@@ -325,10 +305,10 @@ impl Facts {
     /// How much less is ahead at the least since the turn of an open iteration began, from 0 for
     /// the innermost, if that is known.
     pub fn fall(&self, at: usize) -> Option<i64>
-        ensures { result ≡ option_and_then (λ (f : Falls). f.fall) (slice_get
+        ensures { result ≡ option_and_then (λ (f : Option ℤ). f) (slice_get
             self.now.position.falls at) }
     {
-        self.known.position.falls.as_slice().get(at)?.fall.known()
+        self.known.position.falls.as_slice().get(at)?.known()
     }
 
     /// The least distances of the pointer in plain numbers.
@@ -477,12 +457,11 @@ impl Facts {
     /// The position behind a shift, which leaves all else as it is.
     pub fn position_behind(&self, shift: &Shift) -> Position
         requires { AreSmall self.now.position.falls }
-        ensures { result ≡ shifts.position_after self.now.rules shift.now self.now.held
-            self.now.position }
+        ensures { result ≡ shifts.position_after shift.now self.now.held self.now.position }
     {
         let known = &*self.known;
         let mut position = known.position.copied();
-        position.shift(known.rules, shift, &known.held);
+        position.shift(shift, &known.held);
         position
     }
 
@@ -494,7 +473,7 @@ impl Facts {
         let known = &mut *self.known;
         known.held = sum_of(&known.held, &shift.growth)?;
         known.arguments.settle(known.position.margins, shift.ends);
-        known.position.shift(known.rules, shift, &known.held);
+        known.position.shift(shift, &known.held);
         Ok(self)
     }
 }

@@ -5,7 +5,7 @@ ghost use Rattle.teco_known.specs.Numbers.{AreSmall};
 
 use crate::Facts;
 use std::marker::Model;
-use teco_known::{Number, Shift};
+use teco_known::{Number, Range, Shift};
 use teco_verifier::Refusal;
 
 /// What a command leaves and answers, as far as it is known.
@@ -34,14 +34,12 @@ impl Foreseen {
         }
     }
 
-    /// With an answer.
-    pub fn giving(answer: Number, facts: Facts) -> Foreseen
-        ensures { result ≡ shifts.answering_value answer facts }
+    /// With an answer of a range.
+    pub fn giving(range: Range, facts: Facts) -> Foreseen
+        ensures { result ≡ shifts.answering range facts }
     {
-        Foreseen {
-            facts,
-            answer: Some(answer),
-        }
+        let answer = Some(Number::within(range));
+        Foreseen { facts, answer }
     }
 
     /// With no answer, behind a shift.

@@ -8,7 +8,7 @@ ghost use Rattle.teco_facts.specs.Room.{HasRoom};
 ghost use Rattle.teco_known.specs.declared.few.TheConstants.{DEPTH};
 
 use crate::{Facts, Iteration};
-use teco_known::{DEPTH, falls_at_turn};
+use teco_known::{DEPTH, Fall};
 
 impl Facts {
     /// The facts where so many iterations are left, with all arguments.
@@ -57,12 +57,12 @@ impl Facts {
 
     /// The facts where another turn begins: nothing has fallen in it.
     pub fn turned(mut self) -> Facts
-        ensures { result ≡ rules.at_position (flows.begun self.rules (drop 1 self.position.falls)
+        ensures { result ≡ rules.at_position (flows.begun (drop 1 self.position.falls)
             self.position) (rules.without_arguments self) }
     {
         let known = &mut *self.known;
         known.position.falls.drop_front(1);
-        known.position.falls.put(falls_at_turn(known.rules));
+        known.position.falls.put(Fall::nothing());
         self.without_arguments()
     }
 
@@ -74,7 +74,7 @@ impl Facts {
     {
         let known = &mut *self.known;
         let pushes = known.pushes.len();
-        known.position.falls.put(falls_at_turn(known.rules));
+        known.position.falls.put(Fall::nothing());
         known.iterations.put(Iteration { counted, pushes });
         self
     }

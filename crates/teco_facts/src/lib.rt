@@ -3,7 +3,6 @@
 
 mod body;
 mod covering;
-mod entry;
 mod facts;
 mod foreseen;
 mod iterations;
@@ -12,7 +11,6 @@ mod registers;
 pub mod stack;
 
 pub use body::{Changes, Choice, body_start, growth_of, held_last};
-pub use entry::Entry;
 pub use facts::{Answer, Facts, Iteration, Pushed, success};
 pub use foreseen::Foreseen;
 pub use joining::{joined_lengths, joined_pair};

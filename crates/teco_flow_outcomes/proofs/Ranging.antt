@@ -1,5 +1,5 @@
 -- Rows and cases by the range of a number.
-use Rattle.std.proofs.Common.{◌≡◌, ℕ, suc, zero, ℤ, pos, negsuc, neg_ℤ, ◌≤ℤ◌, ◌≤◌, List, [], ◌∷◌, ◌++◌, Bool, true}
+use Rattle.std.proofs.Common.{◌≡◌, ℕ, suc, zero, ℤ, pos, negsuc, neg_ℤ, ◌≤ℤ◌, ◌≤◌, ◌<◌, List, [], ◌∷◌, ◌++◌, Bool, true}
 use Rattle.std.proofs.Common.{false}
 use Rattle.std.proofs.Common.{not, Some, None, ◌⊎◌, inl, inr, refl, sym, ap, subst, ◌∙◌, arith}
 use Rattle.std.proofs.lemmas.Bool.Decides.{nat_tests}
@@ -13,6 +13,7 @@ use Rattle.teco_rows.specs.declared.row.Clause.{Clause}
 use Rattle.teco_rows.specs.declared.row.Clause.TheVariants.{Wants}
 use Rattle.teco_rows.specs.declared.row.Of.TheVariants.{Given}
 use Rattle.teco_rows.specs.declared.levels.TheConstants.{NO}
+use Rattle.teco_rows.proofs.Lines.{above_or}
 use Rattle.teco_flow_outcomes.specs.declared.ranges.Range.{Range}
 use Rattle.teco_flow_outcomes.specs.declared.ranges.Range.TheVariants.{Any, From, UpTo, Between}
 use Rattle.teco_flow_outcomes.specs.declared.ranges.Ranges.{Ranges}
@@ -67,6 +68,17 @@ symbols c e = (grind (arith, nat_tests), grind (arith, nat_tests))
 
 digits : (c : ℕ) → is_digit c ≡ true → (48 ≤ c) × (c ≤ 57)
 digits c e = (grind (arith, nat_tests), grind (arith, nat_tests))
+
+no_digit : (c : ℕ) → is_digit c ≡ false → 48 ≤ c → c ≤ 57 → ⊥
+no_digit c e low high = grind (arith, nat_tests)
+
+digit_not : (x : ℤ) → is_code_of is_digit x ≡ false → (x ≤ℤ pos 47) ⊎ (pos 58 ≤ℤ x)
+digit_not (pos c) e = beside (above_or c 47) (above_or c 57) where
+  beside : (c ≤ 47) ⊎ (47 < c) → (c ≤ 57) ⊎ (57 < c) → (pos c ≤ℤ pos 47) ⊎ (pos 58 ≤ℤ pos c)
+  beside (inl low) high = inl (omega (arith, ints, low))
+  beside (inr above) (inl below) = absurd (no_digit c e (omega (arith, above)) below)
+  beside (inr above) (inr high) = inr (omega (arith, ints, high))
+digit_not (negsuc c) e = inl (omega (arith, ints))
 
 letters_or_digits : (c : ℕ) → is_letter_or_digit c ≡ true → (48 ≤ c) × (c ≤ 122)
 letters_or_digits c e = (grind (arith, nat_tests), grind (arith, nat_tests))
@@ -159,6 +171,9 @@ negative_fails x h = negative_not x h
 
 pub positive_fails : (x : ℤ) → holds test.Positive x ≡ false → IsIn (UpTo (pos 0)) x
 positive_fails x h = positive_not x h
+
+pub digit_fails : (x : ℤ) → holds test.Digit x ≡ false → IsIn (UpTo (pos 47)) x ⊎ IsIn (From (pos 58)) x
+digit_fails x h = digit_not x h
 
 -- ---- where ; stays, and where it leaves
 pub stays_in : (colons : ℕ) (x : ℤ) → leaves colons x ≡ false → (colons ≡ 0 → x ≤ℤ negsuc 0) × (1 ≤ colons → pos 0 ≤ℤ x)

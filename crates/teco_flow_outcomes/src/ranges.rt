@@ -70,6 +70,10 @@ pub fn where_it_fails(test: Test) -> Ranges
         Test::NotZero => where_it_holds(Test::Zero),
         Test::Negative => only(Range::From(0)),
         Test::Positive => only(Range::UpTo(0)),
+        Test::Digit => Ranges {
+            one: Range::UpTo(47),
+            other: Some(Range::From(58)),
+        },
         _ => only(Range::Any),
     }
 }

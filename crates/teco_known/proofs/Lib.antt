@@ -1,7 +1,6 @@
 -- What the proofs of the functions share.
 pub mod Least
 pub mod Ends
-pub mod Lengths
 pub mod Linear
 pub mod Places
 pub mod Shares

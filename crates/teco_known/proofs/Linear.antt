@@ -1,11 +1,9 @@
 -- What is linear may be kept.
-use Rattle.std.proofs.Common.{◌≡◌, refl, ℤ, pos, negsuc, ◌-ℤ◌, ◌≤ℤ◌, Bool, true, false, int_le, ◌&&◌, ◌||◌, is_none}
-use Rattle.std.proofs.Common.{Option, Some, None, arith}
+use Rattle.std.proofs.Common.{◌≡◌, refl, ℤ, pos, negsuc, ◌-ℤ◌, ◌≤ℤ◌, Bool, true, false, int_le, ◌&&◌, arith}
 use Rattle.std.proofs.lemmas.Int.{ints}
-use Rattle.teco_verifier.specs.declared.values.CharacterCode.{CharacterCode}
 use Rattle.teco_verifier.specs.declared.values.Value.{Value}
-use Rattle.teco_verifier.specs.facts.Values.{least_share, most_share, is_sign, are_equal, has_no_distance, is_linear}
-use Rattle.teco_known.specs.Numbers.{IsNumber, HasRoomForCode}
+use Rattle.teco_verifier.specs.facts.Values.{least_share, most_share, is_sign, is_linear}
+use Rattle.teco_known.specs.Numbers.{IsNumber}
 
 both : (x y : Bool) → (x && y) ≡ true → (x ≡ true) × (y ≡ true)
 both true y h = (refl, h)
@@ -38,9 +36,7 @@ linear_is_number n h ordered =
     let signs = is_sign n.ahead && is_sign (n.behind -ℤ n.ahead) in
     let single = int_le n.hi n.lo in
     let low = int_le (negsuc 536870911) n.lo in
-    let high = int_le n.hi (pos 536870912) in
-    let o = both (signs && single && low && high) (is_none n.code || has_no_distance n) h in
-    let p = both (signs && single && low) high o.0 in
+    let p = both (signs && single && low) (int_le n.hi (pos 536870912)) h in
     let q = both (signs && single) low p.0 in
     let r = both signs single q.0 in
     let s = both (is_sign n.ahead) (is_sign (n.behind -ℤ n.ahead)) r.0 in
@@ -57,28 +53,3 @@ linear_is_number n h ordered =
       low = omega (arith, ints, q.1, p.1, r.1);
       high = omega (arith, ints, q.1, p.1, r.1);
     }
-
-room_by : (code : Option CharacterCode) (n : Value) → (is_none code || has_no_distance n) ≡ true
-    → negsuc 536870911 ≤ℤ n.lo → n.hi ≤ℤ pos 536870912 → HasRoomForCode code n
-room_by None n h low high = tt
-room_by (Some code) n h low high =
-    let ahead = both (are_equal n.ahead (pos 0)) (are_equal n.behind (pos 0)) h in
-    let x = both (int_le n.ahead (pos 0)) (int_le (pos 0) n.ahead) ahead.0 in
-    let y = both (int_le n.behind (pos 0)) (int_le (pos 0) n.behind) ahead.1 in
-    record {
-      no_ahead = omega (arith, ints, x);
-      no_behind = omega (arith, ints, y);
-      low = low;
-      high = high;
-    }
-
-pub linear_has_room : (n : Value) → is_linear n ≡ true → HasRoomForCode n.code n
-linear_has_room n h =
-    let signs = is_sign n.ahead && is_sign (n.behind -ℤ n.ahead) in
-    let single = int_le n.hi n.lo in
-    let low = int_le (negsuc 536870911) n.lo in
-    let high = int_le n.hi (pos 536870912) in
-    let o = both (signs && single && low && high) (is_none n.code || has_no_distance n) h in
-    let p = both (signs && single && low) high o.0 in
-    let q = both (signs && single) low p.0 in
-    room_by n.code n o.1 (omega (arith, ints, q.1)) (omega (arith, ints, p.1))

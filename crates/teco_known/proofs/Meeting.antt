@@ -1,10 +1,9 @@
 -- Lists whose items are joined or replaced one after another.
-use Rattle.std.proofs.Common.{◌≡◌, refl, ap, ℕ, zero, suc, ◌<◌, min, Bool, true, false, ◌&&◌, if◌then◌else◌, List, []}
+use Rattle.std.proofs.Common.{◌≡◌, refl, ap, ℕ, ℤ, Option, zero, suc, ◌<◌, min, Bool, true, false, ◌&&◌}
+use Rattle.std.proofs.Common.{if◌then◌else◌, List, []}
 use Rattle.std.proofs.Common.{◌∷◌, ◌++◌, length, take, drop, set, get_or, arith}
 use Rattle.std.proofs.lemmas.List.{take_all}
-use Rattle.teco_verifier.specs.declared.falls.Falls.{Falls}
-use Rattle.teco_verifier.specs.facts.Falls.{smaller_falls}
-use Rattle.teco_verifier.specs.facts.Joins.{joined_saved, joined_falls}
+use Rattle.teco_verifier.specs.facts.Joins.{joined_saved, smaller_fall, smaller_falls}
 use Rattle.teco_known.specs.Each.{each_met, replaced_where}
 
 -- the first items are joined, and one more
@@ -63,7 +62,7 @@ saved_are [] ys = refl
 saved_are (x ∷ xs) [] = refl
 saved_are (x ∷ xs) (y ∷ ys) = ap (λ others. (x && y) ∷ others) (saved_are xs ys)
 
-pub falls_are : (xs ys : List Falls) → each_met smaller_falls xs ys ≡ joined_falls xs ys
+pub falls_are : (xs ys : List (Option ℤ)) → each_met smaller_fall xs ys ≡ smaller_falls xs ys
 falls_are [] ys = refl
 falls_are (x ∷ xs) [] = refl
-falls_are (x ∷ xs) (y ∷ ys) = ap (λ others. smaller_falls x y ∷ others) (falls_are xs ys)
+falls_are (x ∷ xs) (y ∷ ys) = ap (λ others. smaller_fall x y ∷ others) (falls_are xs ys)

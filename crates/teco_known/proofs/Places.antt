@@ -1,9 +1,7 @@
 -- Sums and differences of numbers are places.
-use Rattle.std.proofs.Common.{◌≡◌, refl, ℤ, ◌+ℤ◌, ◌-ℤ◌, false, Option, arith}
+use Rattle.std.proofs.Common.{◌≡◌, refl, ℤ, ◌+ℤ◌, ◌-ℤ◌, false, arith}
 use Rattle.std.proofs.lemmas.Int.{ints}
-use Rattle.std.specs.Prelude.{option_map}
-use Rattle.teco_verifier.specs.declared.values.CharacterCode.{CharacterCode}
-use Rattle.teco_verifier.specs.facts.Values.{plus, minus, code_of_one, opposite_code}
+use Rattle.teco_verifier.specs.facts.Values.{plus, minus}
 use Rattle.teco_verifier.specs.declared.values.Value.{Value}
 use Rattle.teco_known.specs.Numbers.{IsNumber, IsPlace}
 
@@ -51,12 +49,10 @@ difference_is_place a b lo hi c d low high n m =
     }
 
 -- sums and differences by their parts
-pub added : (s t : Value) (a b lo hi : ℤ) (code : Option CharacterCode) → a ≡ s.ahead +ℤ t.ahead
-    → b ≡ s.behind +ℤ t.behind → code ≡ code_of_one s.code t.code → lo ≡ s.lo +ℤ t.lo → hi ≡ s.hi +ℤ t.hi
-    → record { ahead = a; behind = b; code = code; lo = lo; hi = hi; saved = false } ≡ plus s t
-added s t a b lo hi code e f c g h = rw (e, f, c, g, h) refl
+pub added : (s t : Value) (a b lo hi : ℤ) → a ≡ s.ahead +ℤ t.ahead → b ≡ s.behind +ℤ t.behind → lo ≡ s.lo +ℤ t.lo
+    → hi ≡ s.hi +ℤ t.hi → record { ahead = a; behind = b; lo = lo; hi = hi; saved = false } ≡ plus s t
+added s t a b lo hi e f g h = rw (e, f, g, h) refl
 
-pub subtracted : (s t : Value) (a b lo hi : ℤ) (code : Option CharacterCode) → a ≡ s.ahead -ℤ t.ahead
-    → b ≡ s.behind -ℤ t.behind → code ≡ code_of_one s.code (option_map opposite_code t.code) → lo ≡ s.lo -ℤ t.hi
-    → hi ≡ s.hi -ℤ t.lo → record { ahead = a; behind = b; code = code; lo = lo; hi = hi; saved = false } ≡ minus s t
-subtracted s t a b lo hi code e f c g h = rw (e, f, c, g, h) refl
+pub subtracted : (s t : Value) (a b lo hi : ℤ) → a ≡ s.ahead -ℤ t.ahead → b ≡ s.behind -ℤ t.behind → lo ≡ s.lo -ℤ t.hi
+    → hi ≡ s.hi -ℤ t.lo → record { ahead = a; behind = b; lo = lo; hi = hi; saved = false } ≡ minus s t
+subtracted s t a b lo hi e f g h = rw (e, f, g, h) refl

@@ -14,30 +14,27 @@ use Rattle.teco_verifier.specs.declared.values.Distances.{Distances}
 use Rattle.teco_known.specs.Settled.{SettlesAgain, SettlesBoth, settled_by, settled_since}
 use Rattle.teco_known.specs.declared.settling.Settling.{Settling}
 
-nothing_added : (x y k : ℤ) → x *ℤ pos 0 +ℤ y *ℤ pos 0 +ℤ pos 0 +ℤ k ≡ k
-nothing_added x y k =
-    ap (λ z. z +ℤ y *ℤ pos 0 +ℤ pos 0 +ℤ k) (*ℤ-zero x) ∙ (ap (λ z. pos 0 +ℤ z +ℤ pos 0 +ℤ k) (*ℤ-zero y) ∙ +ℤ_idl k)
+nothing_added : (x y k : ℤ) → x *ℤ pos 0 +ℤ y *ℤ pos 0 +ℤ k ≡ k
+nothing_added x y k = ap (λ z. z +ℤ y *ℤ pos 0 +ℤ k) (*ℤ-zero x) ∙ (ap (λ z. pos 0 +ℤ z +ℤ k) (*ℤ-zero y) ∙ +ℤ_idl k)
 
 interval : ℤ → ℤ → Interval
 interval lo hi = record { lo = lo; hi = hi }
 
 -- an interval is one wherever the pointer is
-interval_stays : (d : Distances) (s : Value) → s.ahead ≡ pos 0 → s.behind ≡ pos 0 → s.code ≡ None
+interval_stays : (d : Distances) (s : Value) → s.ahead ≡ pos 0 → s.behind ≡ pos 0
     → interval_of d s ≡ record { lo = s.lo; hi = s.hi }
 unfolding interval
-interval_stays d s a b e =
-    let low : pos d.fore *ℤ pos 0 +ℤ pos d.back *ℤ pos 0 +ℤ pos 0 +ℤ s.lo ≡ s.lo =
+interval_stays d s a b =
+    let low : pos d.fore *ℤ pos 0 +ℤ pos d.back *ℤ pos 0 +ℤ s.lo ≡ s.lo =
     nothing_added (pos d.fore) (pos d.back) s.lo in
-    let high : pos LIMIT *ℤ pos 0 +ℤ pos LIMIT *ℤ pos 0 +ℤ pos 0 +ℤ s.hi ≡ s.hi =
-    nothing_added (pos LIMIT) (pos LIMIT) s.hi in
-    rw (a, b, e) (ap (λ lo. interval lo (pos LIMIT *ℤ pos 0 +ℤ pos LIMIT *ℤ pos 0 +ℤ pos 0 +ℤ s.hi)) low
-    ∙ ap (interval s.lo) high)
+    let high : pos LIMIT *ℤ pos 0 +ℤ pos LIMIT *ℤ pos 0 +ℤ s.hi ≡ s.hi = nothing_added (pos LIMIT) (pos LIMIT) s.hi in
+    rw (a, b) (ap (λ lo. interval lo (pos LIMIT *ℤ pos 0 +ℤ pos LIMIT *ℤ pos 0 +ℤ s.hi)) low ∙ ap (interval s.lo) high)
 
 settled_interval : (d : Distances) (f : Bool) (i : Interval) (saved : Bool)
     → settled_value d f (Some (record (value_in i) { saved = saved })) ≡ Some
     (record (value_in i) { saved = if f then false else saved })
 settled_interval d f i saved = ap (λ j. Some (record (value_in j) { saved = if f then false else saved }))
-    (interval_stays d (record (value_in i) { saved = saved }) refl refl refl)
+    (interval_stays d (record (value_in i) { saved = saved }) refl refl)
 
 ends_again : (e f saved : Bool)
     → (if f then false else (if e then false else saved)) ≡ (if e || f then false else saved)

@@ -1,9 +1,6 @@
 -- Which numbers the code keeps.
-use Rattle.std.specs.Prelude.{◌≡◌, ℤ, List, Option, Some, None, pos, negsuc, ⊤, ◌+ℤ◌, ◌≤ℤ◌, ◌-◌, ◌^◌}
+use Rattle.std.specs.Prelude.{ℤ, List, Option, Some, None, pos, negsuc, ⊤, ◌+ℤ◌, ◌≤ℤ◌, ◌-◌, ◌^◌}
 use Rattle.std.specs.List.{All}
-use Rattle.teco_verifier.specs.declared.falls.Falls.{Falls}
-use Rattle.teco_verifier.specs.declared.values.CharacterCode.{CharacterCode}
-use Rattle.teco_verifier.specs.declared.values.Value.{Value}
 use Rattle.teco_verifier.specs.facts.Values.{least_share, most_share}
 
 -- 32-bit numbers in order
@@ -26,17 +23,6 @@ pub record IsNumber (ahead behind lo hi : ℤ) : Type 0 where
   pub range : IsRange lo hi
   pub low : negsuc (2 ^ 31 - 1) ≤ℤ (least_share 0 ahead +ℤ least_share 0 behind +ℤ lo)
   pub high : (most_share 0 ahead +ℤ most_share 0 behind +ℤ hi) ≤ℤ pos (2 ^ 31 - 1)
-
--- a code counts beside a small number alone
-pub record IsBesideCode (n : Value) : Type 0 where
-  pub no_ahead : n.ahead ≡ pos 0
-  pub no_behind : n.behind ≡ pos 0
-  pub low : negsuc (2 ^ 29 - 1) ≤ℤ n.lo
-  pub high : n.hi ≤ℤ pos (2 ^ 29)
-
-abbrev pub HasRoomForCode : Option CharacterCode → Value → Type 0
-HasRoomForCode None n = ⊤
-HasRoomForCode (Some code) n = IsBesideCode n
 
 -- numbers that a sum or a difference of two of those may have
 pub record IsPlace (ahead behind lo hi : ℤ) : Type 0 where
@@ -71,14 +57,6 @@ abbrev pub IsSmallFall : Option ℤ → Type 0
 IsSmallFall None = ⊤
 IsSmallFall (Some fall) = IsModest fall
 
-pub record IsSmallFalls (falls : Falls) : Type 0 where
-  pub fall : IsSmallFall falls.fall
-  pub far : IsSmallFall falls.far
-  pub line : IsSmallFall falls.line
-  pub far_line : IsSmallFall falls.far_line
-  pub held : IsSmallFall falls.held
-  pub rest : IsSmallFall falls.rest
-
 -- falls to each of which more may be added
-abbrev pub AreSmall : List Falls → Type 0
-AreSmall falls = All IsSmallFalls falls
+abbrev pub AreSmall : List (Option ℤ) → Type 0
+AreSmall falls = All IsSmallFall falls

@@ -5,11 +5,11 @@ ghost use Rattle.std.specs.Int.{int_min, int_max, w32, w64};
 ghost use Rattle.teco_base.specs.declared.TheConstants.{LIMIT};
 ghost use Rattle.teco_base.specs.Arithmetic as bits;
 ghost use Rattle.teco_verifier.specs.facts.Values as values;
-ghost use Rattle.teco_known.specs.Numbers.{IsNear, IsSmall, IsNumber, HasRoomForCode, IsShare};
+ghost use Rattle.teco_known.specs.Numbers.{IsNear, IsSmall, IsNumber, IsShare};
 
 use crate::{Margins, Range};
 use teco_base::{LIMIT, arithmetic};
-use teco_verifier::{CharacterCode, Value};
+use teco_verifier::Value;
 
 const MOST: u64 = LIMIT as u64;
 
@@ -76,47 +76,28 @@ fn most_share(least: u64, times: i64) -> i64
     share(if times < 0 { least } else { MOST }, times)
 }
 
-/// What a code may be, if there is one.
-pub fn code_range(code: Option<CharacterCode>) -> Range
-    ensures { result ≡ values.code_interval code }
-{
-    match code {
-        None => Range { lo: 0, hi: 0 },
-        Some(code) => {
-            if code.negated {
-                Range { lo: -255, hi: 1 }
-            } else {
-                Range { lo: -1, hi: 255 }
-            }
-        }
-    }
-}
-
-// The sum of what the distances and a code count, and a number.
-fn total(ahead: i64, behind: i64, code: i64, k: i64) -> i64
+// The sum of what the distances count, and a number.
+fn total(ahead: i64, behind: i64, k: i64) -> i64
     requires ahead { IsNear ahead }
     requires behind { IsNear behind }
-    requires code { IsNear code }
     requires k { IsNear k }
-    ensures { result ≡ ahead +ℤ behind +ℤ code +ℤ k }
+    ensures { result ≡ ahead +ℤ behind +ℤ k }
 {
-    ahead + behind + code + k
+    ahead + behind + k
 }
 
 /// The range of a number.
 pub fn range_of(margins: Margins, n: Value) -> Range
-    requires number { IsNumber n.ahead n.behind n.lo n.hi }
-    requires code { HasRoomForCode n.code n }
+    requires { IsNumber n.ahead n.behind n.lo n.hi }
     ensures { result ≡ values.interval_of margins n }
 {
     let least_ahead = least_share(margins.fore, n.ahead);
     let least_behind = least_share(margins.back, n.behind);
     let most_ahead = most_share(margins.fore, n.ahead);
     let most_behind = most_share(margins.back, n.behind);
-    let code = code_range(n.code);
     Range {
-        lo: total(least_ahead, least_behind, code.lo, n.lo),
-        hi: total(most_ahead, most_behind, code.hi, n.hi),
+        lo: total(least_ahead, least_behind, n.lo),
+        hi: total(most_ahead, most_behind, n.hi),
     }
 }
 

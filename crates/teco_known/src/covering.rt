@@ -1,55 +1,46 @@
 //! When arguments and a position at the end of an edge are covered by those at its target.
 ghost use Rattle.std.specs.Prelude.{◌≡◌, ◌&&◌};
 ghost use Rattle.teco_verifier.specs.facts.Covers as covers;
-ghost use Rattle.teco_verifier.specs.facts.Values as values;
 
-use crate::{
-    Covers, KnownFalls, Level, Margins, Number, Position, Range, each_covers, has_no_distance,
-};
+use crate::{Covers, Fall, Level, Margins, Number, Position, Range, each_covers};
 use teco_model::Operator;
 use teco_poly::Poly;
-use teco_verifier::{CharacterCode, DigitMark, Value};
+use teco_verifier::Value;
 
 // Whether two numbers are the same.
 fn are_equal(one: i64, two: i64) -> bool
-    ensures { result ≡ values.are_equal one two }
+    ensures { result ≡ covers.are_equal one two }
 {
     one <= two && two <= one
 }
 
 // Whether each distance counts as often in both numbers.
 fn counts_as_often(one: Value, edge: Value) -> bool
-    ensures { result ≡ (values.are_equal one.ahead edge.ahead
-        && values.are_equal one.behind edge.behind) }
+    ensures { result ≡ (covers.are_equal one.ahead edge.ahead
+        && covers.are_equal one.behind edge.behind) }
 {
     are_equal(one.ahead, edge.ahead) && are_equal(one.behind, edge.behind)
 }
 
 // Whether what else there is has the same ends.
 fn has_same_ends(one: Value, edge: Value) -> bool
-    ensures { result ≡ (values.are_equal one.lo edge.lo && values.are_equal one.hi edge.hi) }
+    ensures { result ≡ (covers.are_equal one.lo edge.lo && covers.are_equal one.hi edge.hi) }
 {
     are_equal(one.lo, edge.lo) && are_equal(one.hi, edge.hi)
-}
-
-// Whether two numbers have the same code, or none.
-fn has_same_code(one: Option<CharacterCode>, edge: Option<CharacterCode>) -> bool
-    ensures { result ≡ covers.both_cover covers.is_same_code one edge }
-{
-    match (one, edge) {
-        (None, None) => true,
-        (Some(one), Some(edge)) => {
-            are_equal(one.offset, edge.offset) && one.negated == edge.negated
-        }
-        _ => false,
-    }
 }
 
 // Whether two numbers have the same parts.
 fn is_same(one: Value, edge: Value) -> bool
     ensures { result ≡ covers.is_same one edge }
 {
-    counts_as_often(one, edge) && has_same_code(one.code, edge.code) && has_same_ends(one, edge)
+    counts_as_often(one, edge) && has_same_ends(one, edge)
+}
+
+// Whether no distance counts in a number.
+fn is_interval(n: Value) -> bool
+    ensures { result ≡ covers.is_interval n }
+{
+    are_equal(n.ahead, 0) && are_equal(n.behind, 0)
 }
 
 // Whether a linear number is the same, or a range has all that the other number may be; and what is
@@ -61,7 +52,7 @@ fn covers_value(margins: Margins, one: Number, edge: Number) -> bool
     let n = one.value;
     if !n.saved.covers(&edge.value.saved) {
         false
-    } else if has_no_distance(n) && n.code.is_none() {
+    } else if is_interval(n) {
         one.ends().covers(&edge.range(margins))
     } else {
         is_same(n, edge.value)
@@ -123,16 +114,11 @@ impl Covers for Range {
     }
 }
 
-impl Covers for KnownFalls {
-    ghost covers = { covers.covers_falls };
+impl Covers for Fall {
+    ghost covers = { covers.covers_fall };
 
-    fn covers(&self, edge: &KnownFalls) -> bool {
-        self.fall.covers(edge.fall)
-            && self.far.covers(edge.far)
-            && self.line.covers(edge.line)
-            && self.far_line.covers(edge.far_line)
-            && self.held.covers(edge.held)
-            && self.rest.covers(edge.rest)
+    fn covers(&self, edge: &Fall) -> bool {
+        self.is_at_most(*edge)
     }
 }
 
@@ -163,11 +149,5 @@ impl Position {
             && each_covers(self.falls.as_slice(), edge.falls.as_slice())
             && edge.ahead.le(&self.ahead)
             && each_covers(&self.saved, &edge.saved)
-            && matches!(
-                (self.digit, edge.digit),
-                (None, _)
-                    | (Some(DigitMark::Before), Some(DigitMark::Before))
-                    | (Some(DigitMark::At), Some(DigitMark::At))
-            )
     }
 }

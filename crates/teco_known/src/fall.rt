@@ -1,9 +1,11 @@
 //! How much less there is, at the least, where that is known.
-ghost use Rattle.std.specs.Prelude.{◌≡◌, ◌≤◌, ◌^◌, ◌↔◌, None, Some, pos, IfSome, IsTrue};
+ghost use Rattle.std.specs.Prelude.{◌≡◌, ◌↔◌, None, Some, pos, IfSome, IsTrue};
 ghost use Rattle.teco_verifier.specs.facts.Covers as covers;
-ghost use Rattle.teco_verifier.specs.facts.Falls as rules;
+ghost use Rattle.teco_verifier.specs.facts.Joins as joins;
+ghost use Rattle.teco_verifier.specs.facts.Shifts as shifts;
 ghost use Rattle.teco_known.specs.Numbers.{IsNear, IsSmallFall};
 
+use crate::Meets;
 use std::marker::Model;
 
 const LEAST: i64 = -4_611_686_018_427_387_904;
@@ -13,9 +15,9 @@ const MOST: i64 = 4_611_686_018_427_387_904;
 // No fall is so small, so this number stands for one that is not known.
 const UNKNOWN: i64 = -9_223_372_036_854_775_808;
 
-/// A fall, if it is known. An unknown one counts as the smallest, and the number that stands for it
-/// is the smallest too. So the greater and the smaller of two are found without a test of what is
-/// known.
+/// How much less is ahead, at the least, than was when a turn of an iteration began, if that is known.
+/// An unknown fall counts as the smallest, and the number that stands for it is the smallest too: the
+/// smaller of two is found without a test of what is known.
 #[derive(Clone, Copy)]
 pub struct Fall {
     least: i64,
@@ -65,32 +67,12 @@ impl Fall {
         }
     }
 
-    /// The greater of what is known.
-    #[inline(always)]
-    pub fn greater(self, other: Fall) -> Fall
-        ensures { result ≡ rules.greater_known self other }
-    {
-        Fall {
-            least: self.least.max(other.least),
-        }
-    }
-
-    /// The smaller of what is known, of which an unknown one is the smallest.
-    #[inline(always)]
-    pub fn smaller(self, other: Fall) -> Fall
-        ensures { result ≡ rules.smaller_known self other }
-    {
-        Fall {
-            least: self.least.min(other.least),
-        }
-    }
-
     /// The fall behind another one.
     #[inline(always)]
     pub fn after(self, by: Option<i64>) -> Fall
         requires near { IfSome by IsNear }
         requires small { IsSmallFall self }
-        ensures { result ≡ rules.fall_after by self }
+        ensures { result ≡ shifts.fall_after by self }
     {
         match by {
             Some(by) if self.least > UNKNOWN => Fall {
@@ -100,30 +82,12 @@ impl Fall {
         }
     }
 
-    /// A fall that is so much greater; falls count up to a most one.
-    #[inline(always)]
-    pub fn grown(self, by: u64) -> Fall
-        requires { by ≤ 2 ^ 41 }
-        ensures { result ≡ rules.grown by self }
-    {
-        let by = by as i64;
-        if self.least <= UNKNOWN {
-            self
-        } else if self.least > MOST - by {
-            Fall { least: MOST }
-        } else {
-            Fall {
-                least: self.least + by,
-            }
-        }
-    }
-
     /// Whether it is smaller, or the same; an unknown one is the smallest.
     #[inline(always)]
-    pub fn covers(self, edge: Fall) -> bool
-        ensures { result ≡ covers.covers_fall self edge }
+    pub fn is_at_most(self, other: Fall) -> bool
+        ensures { result ≡ covers.covers_fall self other }
     {
-        self.least <= edge.least
+        self.least <= other.least
     }
 
     /// Whether more may be added to it, if it is known.
@@ -132,5 +96,17 @@ impl Fall {
         ensures { IsTrue result ↔ IsSmallFall self }
     {
         self.least <= UNKNOWN || LEAST <= self.least && self.least <= MOST
+    }
+}
+
+// The smaller of two, of which an unknown one is the smallest.
+impl Meets for Fall {
+    ghost met = { joins.smaller_fall };
+
+    #[inline(always)]
+    fn met(self, other: Fall) -> Fall {
+        Fall {
+            least: self.least.min(other.least),
+        }
     }
 }

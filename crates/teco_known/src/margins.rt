@@ -2,7 +2,6 @@
 ghost use Rattle.std.specs.Prelude.{◌≡◌, min};
 ghost use Rattle.teco_base.specs.declared.TheConstants.{LIMIT};
 ghost use Rattle.teco_verifier.specs.facts.Facts as facts;
-ghost use Rattle.teco_verifier.specs.facts.Shifts as shifts;
 
 use std::marker::Model;
 use teco_base::LIMIT;
@@ -46,22 +45,6 @@ impl Margins {
         Margins {
             back: back.min(MOST),
             fore: fore.min(MOST),
-        }
-    }
-
-    /// The distances that are told, each at most LIMIT.
-    pub fn of(told: Distances) -> Margins
-        ensures { result ≡ shifts.capped told }
-    {
-        Margins::capped(u64::from(told.back), u64::from(told.fore))
-    }
-
-    /// Each distance where it is at most another, and else 0.
-    pub fn where_at_most(self, other: Margins) -> Margins {
-        let Margins { back, fore } = self;
-        Margins {
-            back: if back <= other.back { back } else { 0 },
-            fore: if fore <= other.fore { fore } else { 0 },
         }
     }
 

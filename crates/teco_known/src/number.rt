@@ -1,5 +1,5 @@
 //! What is known of numbers that are pending.
-ghost use Rattle.std.specs.Prelude.{◌≡◌, ◌&&◌, not, pos, if◌then◌else◌};
+ghost use Rattle.std.specs.Prelude.{◌≡◌, pos, if◌then◌else◌};
 ghost use Rattle.teco_base.specs.Arithmetic as bits;
 ghost use Rattle.teco_verifier.specs.facts.Arguments as rules;
 ghost use Rattle.teco_verifier.specs.facts.Values as values;
@@ -10,7 +10,7 @@ use crate::place::is_linear;
 use crate::{Margins, Range, minus, plus};
 use std::marker::Model;
 use teco_model::ArgumentRange;
-use teco_verifier::{CharacterCode, Refusal, Value};
+use teco_verifier::{Refusal, Value};
 
 /// A number that is pending: so often each distance of the pointer, and something of a range; where
 /// it is saved, it is a place of the buffer.
@@ -21,7 +21,7 @@ pub struct Number {
 
 impl Model for Number {
     ghost use Rattle.teco_verifier.specs.declared.values.Value.{Value as Told};
-    ghost use Rattle.teco_known.specs.Numbers.{IsNumber, HasRoomForCode};
+    ghost use Rattle.teco_known.specs.Numbers.{IsNumber};
 
     ghost Value = { Told };
 
@@ -29,8 +29,7 @@ impl Model for Number {
 
     ghost inverse = { λ s. record { value = s } };
 
-    ghost invariant = { λ n. IsNumber n.value.ahead n.value.behind n.value.lo
-        n.value.hi × HasRoomForCode n.value.code n.value };
+    ghost invariant = { λ n. IsNumber n.value.ahead n.value.behind n.value.lo n.value.hi };
 }
 
 impl Number {
@@ -67,7 +66,6 @@ impl Number {
                 lo: range.lo,
                 hi: range.hi,
                 saved,
-                code: None,
             },
         }
     }
@@ -83,7 +81,6 @@ impl Number {
                 lo: 0,
                 hi: 0,
                 saved: false,
-                code: None,
             },
         }
     }
@@ -96,27 +93,6 @@ impl Number {
             value: Value {
                 ahead: 0,
                 behind: 1,
-                lo: 0,
-                hi: 0,
-                saved: false,
-                code: None,
-            },
-        }
-    }
-
-    /// The code of the character at an offset from the pointer.
-    pub fn code(offset: i64) -> Number
-        ensures { result ≡ values.code_value offset }
-    {
-        let code = CharacterCode {
-            offset,
-            negated: false,
-        };
-        Number {
-            value: Value {
-                ahead: 0,
-                behind: 0,
-                code: Some(code),
                 lo: 0,
                 hi: 0,
                 saved: false,
@@ -150,14 +126,12 @@ impl Number {
         self.value
     }
 
-    // The number that a place is, where that is linear and no code is lost, and else one of a
-    // range.
-    fn linear_or(range: Range, codes: bool, exact: Value) -> Number
+    // The number that a place is, where that is linear, and else one of a range.
+    fn linear_or(range: Range, exact: Value) -> Number
         requires { IsPlace exact.ahead exact.behind exact.lo exact.hi }
-        ensures { result ≡ (if not codes && values.is_linear exact then exact
-            else values.value_in range) }
+        ensures { result ≡ (if values.is_linear exact then exact else values.value_in range) }
     {
-        if !codes && is_linear(exact) {
+        if is_linear(exact) {
             Number { value: exact }
         } else {
             Number::within(range)
@@ -169,8 +143,7 @@ impl Number {
         ensures { result ≡ values.sum margins self other }
     {
         let range = self.range(margins).sum(other.range(margins));
-        let codes = self.value.code.is_some() && other.value.code.is_some();
-        Number::linear_or(range, codes, plus(self, other))
+        Number::linear_or(range, plus(self, other))
     }
 
     /// The difference.
@@ -178,8 +151,7 @@ impl Number {
         ensures { result ≡ values.difference margins self other }
     {
         let range = self.range(margins).difference(other.range(margins));
-        let codes = self.value.code.is_some() && other.value.code.is_some();
-        Number::linear_or(range, codes, minus(self, other))
+        Number::linear_or(range, minus(self, other))
     }
 
     /// The product.

@@ -1,37 +1,16 @@
 //! Sums and differences of numbers, without a limit, which may be places in the buffer.
-ghost use Rattle.std.specs.Prelude.{◌≡◌, IfSome, negsuc, option_map, pos, ◌≤ℤ◌, ◌^◌};
+ghost use Rattle.std.specs.Prelude.{◌≡◌, IfSome, negsuc, pos, ◌≤ℤ◌, ◌^◌};
 ghost use Rattle.teco_verifier.specs.facts.Values as values;
 ghost use Rattle.teco_known.specs.Numbers.{IsPlace, IsNear, IsSmall};
 
-use crate::arithmetic::{add, at_most, code_range, share, sub};
+use crate::arithmetic::{add, at_most, share, sub};
 use crate::{Margins, Number};
 use teco_base::LIMIT;
-use teco_verifier::{CharacterCode, Value};
+use teco_verifier::Value;
 
 const LEAST: i64 = -536_870_912;
 
 const MOST: i64 = 536_870_912;
-
-// Minus a code.
-fn opposite_code(code: Option<CharacterCode>) -> Option<CharacterCode>
-    ensures { result ≡ option_map values.opposite_code code }
-{
-    let CharacterCode { offset, negated } = code?;
-    Some(CharacterCode {
-        offset,
-        negated: !negated,
-    })
-}
-
-// The code of the one of two numbers that has one.
-fn code_of_one(one: Option<CharacterCode>, two: Option<CharacterCode>) -> Option<CharacterCode>
-    ensures { result ≡ values.code_of_one one two }
-{
-    match one {
-        None => two,
-        Some(code) => Some(code),
-    }
-}
 
 /// The sum.
 pub fn plus(s: Number, t: Number) -> Value
@@ -44,7 +23,6 @@ pub fn plus(s: Number, t: Number) -> Value
         lo: add(s.value.lo, t.value.lo),
         hi: add(s.value.hi, t.value.hi),
         saved: false,
-        code: code_of_one(s.value.code, t.value.code),
     }
 }
 
@@ -60,7 +38,6 @@ fn apart(s: Value, t: Value) -> Value
         lo: sub(s.lo, t.hi),
         hi: sub(s.hi, t.lo),
         saved: false,
-        code: code_of_one(s.code, opposite_code(t.code)),
     }
 }
 
@@ -80,13 +57,6 @@ fn is_sign(times: i64) -> bool
     -1 <= times && times <= 1
 }
 
-/// Whether no distance counts in a number.
-pub fn has_no_distance(n: Value) -> bool
-    ensures { result ≡ values.has_no_distance n }
-{
-    n.ahead == 0 && n.behind == 0
-}
-
 /// Whether a number is linear, and may so be kept.
 pub fn is_linear(n: Value) -> bool
     requires { IsPlace n.ahead n.behind n.lo n.hi }
@@ -97,7 +67,6 @@ pub fn is_linear(n: Value) -> bool
         && at_most(n.hi, n.lo)
         && at_most(LEAST, n.lo)
         && at_most(n.hi, MOST)
-        && (n.code.is_none() || has_no_distance(n))
 }
 
 /// The least that a number can be.
@@ -113,8 +82,7 @@ pub fn least(n: Value, margins: Margins) -> Option<i64>
         return None;
     }
     let shares = add(share(margins.fore, n.ahead), share(margins.back, n.behind));
-    let least_code = code_range(n.code).lo;
-    Some(add(add(shares, least_code), n.lo))
+    Some(add(shares, n.lo))
 }
 
 /// The least distance of a place from the end.

@@ -6,21 +6,20 @@ ghost use Rattle.teco_verifier.specs.facts.Joins as joins;
 ghost use Rattle.teco_verifier.specs.facts.Shifts as shifts;
 ghost use Rattle.teco_known.specs.Numbers.{AreSmall};
 
-use crate::{Descent, Margins, Meets, OpenFalls, Shift, falls, meet_each};
+use crate::{Margins, Meets, OpenFalls, Shift, falls, meet_each};
 use std::marker::Model;
 use teco_base::REGISTERS;
 use teco_poly::Poly;
-use teco_verifier::{DigitMark, Refusal, Rules};
+use teco_verifier::Refusal;
 
-/// The least distances of the pointer, the least falls of each open iteration, how much is ahead,
-/// which registers are saved, and where a digit is known to stand.
+/// The least distances of the pointer, the least fall of each open iteration, how much is ahead, and
+/// which registers are saved.
 #[derive(Drop)]
 pub struct Position {
     pub margins: Margins,
     pub falls: OpenFalls,
     pub ahead: Poly,
     pub saved: [bool; REGISTERS],
-    pub digit: Option<DigitMark>,
 }
 
 impl Model for Position {
@@ -35,7 +34,6 @@ impl Model for Position {
       falls = p.falls;
       ahead = p.ahead;
       saved = p.saved;
-      digit = p.digit;
     } };
 
     ghost invariant = { λ p. length p.saved ≡ REGISTERS };
@@ -55,17 +53,6 @@ pub fn join_of(one: &Poly, two: &Poly) -> Result<Poly, Refusal>
     one.join(two).ok_or(Refusal::Overflow)
 }
 
-// Where a digit stands on two ways: at the same place, or it is unknown.
-fn joined_mark(one: Option<DigitMark>, other: Option<DigitMark>) -> Option<DigitMark>
-    ensures { result ≡ joins.joined_mark one other }
-{
-    match (one, other) {
-        (Some(DigitMark::Before), Some(DigitMark::Before)) => one,
-        (Some(DigitMark::At), Some(DigitMark::At)) => one,
-        _ => None,
-    }
-}
-
 impl Meets for bool {
     ghost met = { λ one two. one && two };
 
@@ -82,7 +69,6 @@ impl Position {
           falls = [];
           ahead = variable;
           saved = facts.none_saved;
-          digit = None;
         } }
     {
         Position {
@@ -90,7 +76,6 @@ impl Position {
             falls: falls::no_falls(),
             ahead: Poly::variable(),
             saved: [false; REGISTERS],
-            digit: None,
         }
     }
 
@@ -103,27 +88,25 @@ impl Position {
             falls: self.falls.copied(),
             ahead: self.ahead,
             saved: self.saved,
-            digit: self.digit,
         }
     }
 
     /// The position becomes that behind a shift, where so much is held. Where more may be ahead
     /// than before, that may be all that is held.
-    pub fn shift(&mut self, rules: Rules, shift: &Shift, held: &Poly)
+    pub fn shift(&mut self, shift: &Shift, held: &Poly)
         requires { AreSmall self.old.falls }
-        ensures { self.new ≡ shifts.position_after rules shift.now held.now self.old }
+        ensures { self.new ≡ shifts.position_after shift.now held.now self.old }
     {
         self.margins = Margins::capped(shift.back, shift.fore);
-        falls::go_behind(rules, shift, self.margins, &mut self.falls);
-        match shift.descent {
-            Descent::By(None) | Descent::InLine => self.ahead = *held,
-            Descent::By(Some(by)) if by < 0 => self.ahead = *held,
+        falls::go_behind(shift.fall, &mut self.falls);
+        match shift.fall {
+            None => self.ahead = *held,
+            Some(by) if by < 0 => self.ahead = *held,
             _ => {}
         }
         if shift.ends {
             self.saved = [false; REGISTERS];
         }
-        self.digit = shift.digit;
     }
 
     /// Whether more may be added to each fall.
@@ -146,6 +129,5 @@ impl Position {
         self.margins.fore = self.margins.fore.min(other.margins.fore);
         self.falls.meet(&other.falls);
         meet_each(&mut self.saved, &other.saved);
-        self.digit = joined_mark(self.digit, other.digit);
     }
 }

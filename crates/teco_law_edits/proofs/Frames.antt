@@ -30,7 +30,7 @@ module _ (linked : ExpansionsAreLinked) (framed : RunsAreFramed) (below : RunsLe
       → IsFramed certified.nodes old.kept s.world.kept
   asked given taken =
       let fields = found.fields in
-      framed found.library fields.entry fields.rules fields.argument given certified.nodes certified.table
+      framed found.library fields.entry fields.argument given certified.nodes certified.table
       fields.commands fields.size (n_of old) old
       (linked found.library fields.entry certified.nodes certified.expanded) certified.printed taken begins
       opened
@@ -40,7 +40,7 @@ module _ (linked : ExpansionsAreLinked) (framed : RunsAreFramed) (below : RunsLe
       → LiesBelow old.kept.registers.stack new.kept.registers.stack
   asked_below given taken =
       let fields = found.fields in
-      below found.library fields.entry fields.rules fields.argument given certified.nodes certified.table
+      below found.library fields.entry fields.argument given certified.nodes certified.table
       fields.commands fields.size (n_of old) old
       (linked found.library fields.entry certified.nodes certified.expanded) certified.printed taken begins
       opened

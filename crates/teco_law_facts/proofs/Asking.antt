@@ -1,13 +1,11 @@
 -- Codes of characters, and what Q, ^X and \ give.
 use Rattle.std.proofs.Common.{ℕ, zero, suc, ◌+◌, ◌≤◌, arith, w32, FitsSigned, refl, ℤ, pos, negsuc, List, [], ◌∷◌}
 use Rattle.std.proofs.Common.{take, drop, length, length-take, length-drop, Option, Some, None, Bool, true, false}
-use Rattle.std.proofs.Common.{cond, ◌==◌, ◌||◌, get_or, ◌+ℤ◌, ◌≡◌, subst, sym}
-use Rattle.std.specs.Prelude.{codes}
+use Rattle.std.proofs.Common.{cond, ◌==◌, ◌||◌, get_or, ◌<◌, IfSome, option_map}
 use Rattle.std.specs.List.{prefix_len}
 use Rattle.std.proofs.lemmas.Int.{ints, SFits-int_wrap}
 use Rattle.std.proofs.lemmas.Fmt.{length_signed_le, decimal_nonempty}
-use Rattle.std.proofs.lemmas.Bool.Decides.{nat_tests}
-use Rattle.teco_base.specs.Bytes.{is_digit, is_among}
+use Rattle.teco_base.specs.Bytes.{is_digit}
 use Rattle.teco_base.specs.NumberText.{decimal}
 use Rattle.teco_model.specs.Character.{code_at}
 use Rattle.teco_model.specs.Conversion.{sign_len, is_minus, signed_value, reading, number_at}
@@ -20,31 +18,43 @@ use Rattle.teco_model.specs.declared.kind.Query.TheVariants.{Number, Mode, Conve
 use Rattle.teco_poly.specs.Polynomial.{number}
 use Rattle.teco_law_facts.proofs.Each.{all_at}
 use Rattle.teco_law_facts.proofs.Insertion.{inserted_foretold}
-use Rattle.teco_law_facts.proofs.Motion.{moved_by}
-use Rattle.teco_law_facts.proofs.Near.{empty_whole, code_within}
+use Rattle.teco_law_facts.proofs.Near.{empty_whole}
 use Rattle.teco_law_facts.proofs.Numbers.{value_in_in, any_within}
 use Rattle.teco_law_facts.proofs.Registers.{number_at as known_number_at, untouched}
 use Rattle.teco_law_facts.proofs.Saved.{saved_at}
 use Rattle.teco_law_facts.proofs.Shapes.{Shifts, Foretells, value-number, done_with}
-use Rattle.teco_law_facts.specs.Describes.{Run, IsWhole, IsWholePair, AreBytes, Holds, around_of, IsMarked}
+use Rattle.teco_law_facts.specs.Describes.{Run, IsWhole, IsWholePair, AreBytes, Holds, fore_of, back_of}
 use Rattle.teco_verifier.specs.facts.Facts.{Facts, number_of}
 use Rattle.teco_verifier.specs.facts.Queries as row
-use Rattle.teco_verifier.specs.facts.Values.{IsWithin, IsValue, value_in, any_number, Surroundings, character}
+use Rattle.teco_verifier.specs.facts.Values.{IsWithin, IsValue, value_in, any_number}
 use Rattle.teco_verifier.specs.declared.values.Interval.{Interval}
-use Rattle.teco_verifier.specs.declared.falls.DigitMark.{DigitMark}
-use Rattle.teco_verifier.specs.declared.falls.DigitMark.TheVariants.{Before, At}
-use Rattle.teco_model.specs.Condition.{is_code_of}
+use Rattle.std.specs.Prelude.{slice_get, unwrap_or}
+use Rattle.teco_law_facts.proofs.Motion.{pointer_at}
 
 -- ---- characters
--- a number of an interval that fits may be pending
-pub interval_value : (around : Surroundings) (i : Interval) (v : ℤ) → IsWithin i v → FitsSigned w32 v
-    → IsValue around (value_in i) v
-interval_value around i v w f = record { is = value_in_in i around v w; form = refl; fits = f; saved = tt }
+byte_at : (text : List ℕ) → AreBytes text → (n : ℕ) → IfSome (slice_get text n) (λ c. c < 256)
+byte_at [] h n = tt
+byte_at (c ∷ text) h zero = h.0
+byte_at (c ∷ text) h (suc n) = byte_at text h.1 n
 
-pub code_in_text : (around : Surroundings) (text : List ℕ) → AreBytes text → (z : ℤ)
-    → IsValue around (value_in character) (code_at text z)
-code_in_text around text h z = let w = code_within text h z in
-    interval_value around character _ w (omega (arith, ints, w))
+byte_within : (o : Option ℕ) → IfSome o (λ c. c < 256)
+    → IsWithin row.character (unwrap_or (option_map pos o) (negsuc 0))
+byte_within None h = record { low = omega (arith, ints); high = omega (arith, ints) }
+byte_within (Some c) h = record { low = omega (arith, ints); high = omega (arith, ints) }
+
+pub code_within : (text : List ℕ) → AreBytes text → (z : ℤ) → IsWithin row.character (code_at text z)
+code_within text h (pos n) = byte_within _ (byte_at text h n)
+code_within text h (negsuc n) = record { low = omega (arith, ints); high = omega (arith, ints) }
+
+-- a number of an interval that fits may be pending
+pub interval_value : (fore back : ℕ) (i : Interval) (v : ℤ) → IsWithin i v → FitsSigned w32 v
+    → IsValue fore back (value_in i) v
+interval_value fore back i v w f = record { is = value_in_in i fore back v w; fits = f; saved = tt }
+
+pub code_value : (fore back : ℕ) (text : List ℕ) → AreBytes text → (z : ℤ)
+    → IsValue fore back (value_in row.character) (code_at text z)
+code_value fore back text h z = let w = code_within text h z in
+    interval_value fore back row.character _ w (omega (arith, ints, w))
 
 -- ---- decimal numbers
 -- one of 32 bits has 1 to 11 characters
@@ -82,37 +92,6 @@ pub number_fits : (text : List ℕ) → FitsSigned w32 (number_at text).number
 number_fits text = read_fits (is_minus text) (sign_len text)
     (take (prefix_len is_digit (drop (sign_len text) text)) (drop (sign_len text) text))
 
--- a digit at the front is read
-abbrev begins_with_digit : List ℕ → Bool
-begins_with_digit [] = false
-begins_with_digit (c ∷ text) = is_digit c
-
-at_zero : (n : ℕ) → pos n +ℤ pos 0 ≡ pos n
-at_zero n = omega (arith, ints)
-
-digit_ahead : (text : List ℕ) (n : ℕ) → is_code_of is_digit (code_at text (pos n)) ≡ true
-    → begins_with_digit (drop n text) ≡ true
-digit_ahead [] n e = absurd (cc)
-digit_ahead (c ∷ text) zero e = e
-digit_ahead (c ∷ text) (suc n) e = digit_ahead text n e
-
-digit_read : (text : List ℕ) → begins_with_digit text ≡ true → 1 ≤ (number_at text).len
-digit_read [] e = absurd (cc)
-digit_read (c ∷ text) e = by_sign (is_among c (codes "+-")) refl where
-  no_sign : (c == 43 || c == 45) ≡ true → is_digit c ≡ true → ⊥
-  no_sign s d = grind (arith, nat_tests)
-
-  by_sign : (b : Bool) → is_among c (codes "+-") ≡ b
-      → 1 ≤ (reading (is_minus (c ∷ text)) (cond b 1 0)
-      (take (prefix_len is_digit (drop (cond b 1 0) (c ∷ text))) (drop (cond b 1 0) (c ∷ text)))).len
-  by_sign true s = absurd (no_sign s e)
-  by_sign false s =
-      let one_more : suc (prefix_len is_digit text) ≡ 1 + prefix_len is_digit text = omega arith in
-      let read : 1 ≤ (reading (is_minus (c ∷ text)) 0 (take (1 + prefix_len is_digit text) (c ∷ text))).len =
-      subst (λ m. 1 ≤ (reading (is_minus (c ∷ text)) 0 (take m (c ∷ text))).len) one_more (omega arith) in
-      subst (λ d. 1 ≤ (reading (is_minus (c ∷ text)) 0 (take (cond d (1 + prefix_len is_digit text) 0) (c ∷ text))).len)
-      (sym e) read
-
 -- ---- queries
 module _ (run : Run) (facts : Facts) (unread : ℕ) (kept : Kept) (whole : IsWhole kept)
     (h : Holds run facts unread kept) where
@@ -123,54 +102,39 @@ module _ (run : Run) (facts : Facts) (unread : ℕ) (kept : Kept) (whole : IsWho
   pub query_foretold : (q : Query) (v : ℤ) → FitsSigned w32 v
       → Foretells run facts unread kept (row.query_with q facts) (model.query_with q v kept)
   query_foretold (Number r) v f =
-      λ l. done_with run facts unread kept whole h facts _ (Some (value_in character)) h refl refl refl refl
-      (code_in_text _ (text_in r kept) (pair_whole r).bytes v)
+      λ l. done_with run facts unread kept whole h facts _ (Some (value_in row.character)) h refl refl refl refl
+      (code_value _ _ (text_in r kept) (pair_whole r).bytes v)
   query_foretold Mode v f = λ l. untouched run facts unread kept whole h _ _
   query_foretold Conversion v f = let d = decimal_length v f in
       inserted_foretold run facts unread kept whole h 1 (number 11) (decimal v) d.0
       (omega (arith, d.1, value-number 11 run.n))
 
   -- without one, where the pointer stays
-  pub number_is : (r : ℕ) → IsValue (around_of kept) (row.query (Number r) 0 facts) (number_in r kept)
+  pub number_is : (r : ℕ) → IsValue (fore_of kept) (back_of kept) (row.query (Number r) 0 facts) (number_in r kept)
   number_is r =
-      let i = value_in_in (number_of r facts) (around_of kept) _
+      let i = value_in_in (number_of r facts) (fore_of kept) (back_of kept) _
       (known_number_at run facts.numbers facts.texts kept.registers.pairs h.registers r) in
       record {
         is = record { low = i.low; high = i.high };
-        form = refl;
         fits = (pair_whole r).number;
-        saved = saved_at (around_of kept) facts.position.saved kept.registers.pairs h.position.saved r;
+        saved = saved_at (fore_of kept) (back_of kept) facts.position.saved kept.registers.pairs h.position.saved r;
       }
 
-  pub length_is : (r : ℕ) → IsValue (around_of kept) (value_in row.text_length) (pos (length (text_in r kept)))
+  pub length_is : (r : ℕ) → IsValue (fore_of kept) (back_of kept) (value_in row.text_length)
+      (pos (length (text_in r kept)))
   length_is r = let p = (pair_whole r).within in
-      interval_value _ _ _ (record { low = omega (arith, ints); high = omega (arith, ints, p) })
+      interval_value _ _ _ _ (record { low = omega (arith, ints); high = omega (arith, ints, p) })
       (omega (arith, ints, p))
 
-  pub mode_is : IsValue (around_of kept) (value_in any_number) kept.mode
-  mode_is = interval_value _ _ _ (any_within kept.mode whole.mode) whole.mode
+  pub mode_is : IsValue (fore_of kept) (back_of kept) (value_in any_number) kept.mode
+  mode_is = interval_value _ _ _ _ (any_within kept.mode whole.mode) whole.mode
 
   -- and where it goes past a number
-  abbrev behind_number : Kept
-  behind_number = record kept { pointer = kept.pointer + (number_at (drop kept.pointer kept.text)).len }
-
-  past_by : (n : ℕ) → n ≤ (number_at (drop kept.pointer kept.text)).len
-      → Shifts run.n (row.past_digits n facts.position.distances) kept behind_number
-  past_by n e =
+  pub past : Shifts run.n (row.past_number facts.position.distances) kept
+      (record kept { pointer = kept.pointer + (number_at (drop kept.pointer kept.text)).len })
+  past =
       let w = number_short (drop kept.pointer kept.text) in
       let l = length-drop kept.pointer kept.text in
-      moved_by run facts unread kept whole h (row.past_digits n facts.position.distances).distances (Some (pos n)) None
-      (kept.pointer + (number_at (drop kept.pointer kept.text)).len) (omega (arith, h.position.begin, e))
-      (omega (arith, w, l, whole.inside)) (omega (arith, ints, w, l, whole.inside, e)) tt
-
-  past_mark : (mark : Option DigitMark) → IsMarked (around_of kept) mark
-      → Shifts run.n (row.past_number mark facts.position.distances) kept behind_number
-  past_mark (Some At) m = past_by 1
-      (digit_read (drop kept.pointer kept.text)
-      (digit_ahead kept.text kept.pointer
-      (subst (λ n. is_code_of is_digit (code_at kept.text n) ≡ true) (at_zero kept.pointer) m)))
-  past_mark (Some Before) m = past_by 0 (omega arith)
-  past_mark None m = past_by 0 (omega arith)
-
-  pub past : Shifts run.n (row.past_number facts.position.digit facts.position.distances) kept behind_number
-  past = past_mark facts.position.digit h.position.digit
+      pointer_at run facts unread kept whole h (row.past_number facts.position.distances) _
+      (omega (arith, h.position.begin)) (omega (arith, w, l, whole.inside))
+      (omega (arith, ints, w, l, whole.inside))

@@ -1,6 +1,6 @@
 -- What covers facts that describe a state describes it.
 use Rattle.std.proofs.Common.{◌≡◌, ℕ, ◌≤◌, arith, ◌∙◌, refl, ℤ, pos, ◌≤ℤ◌, int_le, nat_le, List, [], ◌∷◌, Bool, true}
-use Rattle.std.proofs.Common.{false, ◌&&◌, Option, Some, None, cond, length, ◌||◌, is_none, subst, sym}
+use Rattle.std.proofs.Common.{false, ◌&&◌, Option, Some, None, cond, length, ◌+◌}
 use Rattle.std.specs.Prelude.{IsTrue}
 use Rattle.std.proofs.lemmas.Int.{ints}
 use Rattle.std.proofs.lemmas.Bool.Decides.{nat_tests}
@@ -15,24 +15,18 @@ use Rattle.teco_law_facts.proofs.Numbers.{AreDistances, interval_of_in}
 use Rattle.teco_law_facts.proofs.Near.{distances}
 use Rattle.teco_law_facts.proofs.Saved.{IsSaved, place_covered}
 use Rattle.teco_verifier.specs.facts.Arguments.{KnownLevel, KnownArguments}
-use Rattle.teco_verifier.specs.facts.Covers.{covers_falls, covers_mark, is_same_code, is_same_truth, each_covers}
-use Rattle.teco_verifier.specs.facts.Covers.{both_cover, covers_interval, is_interval, is_same, covers_value}
-use Rattle.teco_verifier.specs.facts.Covers.{is_same_operator, covers_level, covers_arguments, covers_saved}
-use Rattle.teco_verifier.specs.facts.Covers.{covers_fall, covers_position, covers_answer, covers_length}
-use Rattle.teco_verifier.specs.facts.Covers.{covers_pushed, covers}
+use Rattle.teco_verifier.specs.facts.Covers.{each_covers, both_cover, covers_interval, is_interval, is_same}
+use Rattle.teco_verifier.specs.facts.Covers.{covers_value, is_same_operator, covers_level, covers_arguments}
+use Rattle.teco_verifier.specs.facts.Covers.{covers_saved, covers_fall, covers_position, covers_answer, covers_length}
+use Rattle.teco_verifier.specs.facts.Covers.{covers_pushed, covers, are_equal}
 use Rattle.teco_law_facts.specs.Describes.{Run, IsAt, AreSaved, Answers, ArePushed, IsLevel, ArePending, IsOptional}
-use Rattle.teco_law_facts.specs.Describes.{AreEach, HasFallen, around_of, Begun, IsLess, IsMarked}
+use Rattle.teco_law_facts.specs.Describes.{AreEach, HasFallen, fore_of, back_of}
 use Rattle.teco_verifier.specs.facts.Facts.{Position, Answer, Pushed}
 use Rattle.teco_law_facts.specs.Laws.{CoversAreSound}
-use Rattle.teco_verifier.specs.facts.Values.{IsIn, IsValue, IsWithin, interval_of, Surroundings, are_equal}
-use Rattle.teco_verifier.specs.facts.Values.{code_worth, has_form, has_no_distance}
+use Rattle.teco_verifier.specs.facts.Values.{IsIn, IsValue, IsWithin, interval_of}
 use Rattle.teco_verifier.specs.declared.values.Distances.{Distances}
 use Rattle.teco_verifier.specs.declared.values.Interval.{Interval}
 use Rattle.teco_verifier.specs.declared.values.Value.{Value}
-use Rattle.teco_verifier.specs.declared.falls.DigitMark.{DigitMark}
-use Rattle.teco_verifier.specs.declared.falls.DigitMark.TheVariants.{Before, At}
-use Rattle.teco_verifier.specs.declared.values.CharacterCode.{CharacterCode}
-use Rattle.teco_verifier.specs.declared.falls.Falls.{Falls}
 
 -- ---- tests
 pub and_both : (x y : Bool) → IsTrue (x && y) → IsTrue x × IsTrue y
@@ -71,90 +65,37 @@ interval_covered i j v c h = let p = and_both _ _ c in
       high = omega (arith, ints, le_holds j.hi i.hi p.1, h);
     }
 
--- ---- codes
-pub none_worth : (c : Option CharacterCode) (around : Surroundings) → IsTrue (is_none c)
-    → code_worth c around.code_at ≡ pos 0
-none_worth None around h = refl
-none_worth (Some c) around h = absurd (cc)
-
-none_form : (c : Option CharacterCode) (b : Bool) → IsTrue (is_none c) → IsTrue (is_none c || b)
-none_form None b h = refl
-none_form (Some c) b h = absurd (cc)
-
-none_alike : (c e : Option CharacterCode) → IsTrue (both_cover is_same_code c e) → is_none c ≡ is_none e
-none_alike None None h = refl
-none_alike (Some c) (Some e) h = refl
-none_alike c e h = absurd (grind arith)
-
-truth_alike : (b c : Bool) → IsTrue (is_same_truth b c) → b ≡ c
-truth_alike true true h = refl
-truth_alike false false h = refl
-truth_alike b c h = absurd (grind arith)
-
-codes_worth : (c e : Option CharacterCode) (around : Surroundings) → IsTrue (both_cover is_same_code c e)
-    → code_worth c around.code_at ≡ code_worth e around.code_at
-codes_worth None None around h = refl
-codes_worth (Some c) (Some e) around h =
-    let p = and_both _ _ h in
-    let o : c.offset ≡ e.offset = equal_holds c.offset e.offset p.0 in
-    let n : c.negated ≡ e.negated = truth_alike c.negated e.negated p.1 in
-    rw (o, n) refl
-codes_worth c e around h = absurd (grind arith)
-
-module _ (d : Distances) (around : Surroundings) (b : AreDistances d around) where
+module _ (d : Distances) (fore back : ℕ) (b : AreDistances d fore back) where
   value_by : (x : Bool) (s t : Value) (v : ℤ) → is_interval s ≡ x
       → IsTrue (cond x (covers_interval (record { lo = s.lo; hi = s.hi }) (interval_of d t)) (is_same s t))
-      → IsIn t around v → IsIn s around v
+      → IsIn t fore back v → IsIn s fore back v
   value_by true s t v e c i =
-      let o = and_both _ _ e in
-      let p = and_both _ _ o.0 in
+      let p = and_both _ _ e in
       let a : s.ahead ≡ pos 0 = equal_holds s.ahead (pos 0) p.0 in
       let z : s.behind ≡ pos 0 = equal_holds s.behind (pos 0) p.1 in
-      let k : code_worth s.code around.code_at ≡ pos 0 = none_worth s.code around o.1 in
       let w = interval_covered (record { lo = s.lo; hi = s.hi }) (interval_of d t) v c
-      (interval_of_in t d around v b.least (omega (arith, b.within)) (omega (arith, b.within)) i) in
-      record { low = rw (a, z, k) (omega (arith, ints, w)); high = rw (a, z, k) (omega (arith, ints, w)) }
+      (interval_of_in t d fore back v b.least (omega (arith, b.within)) (omega (arith, b.within)) i) in
+      record { low = rw (a, z) (omega (arith, ints, w)); high = rw (a, z) (omega (arith, ints, w)) }
   value_by false s t v e c i =
       let p = and_both _ _ c in
       let q = and_both _ _ p.0 in
       let r = and_both _ _ q.0 in
-      let u = and_both _ _ r.0 in
-      let ahead : s.ahead ≡ t.ahead = equal_holds s.ahead t.ahead u.0 in
-      let behind : s.behind ≡ t.behind = equal_holds s.behind t.behind u.1 in
-      let code : code_worth s.code around.code_at ≡ code_worth t.code around.code_at =
-      codes_worth s.code t.code around r.1 in
+      let ahead : s.ahead ≡ t.ahead = equal_holds s.ahead t.ahead r.0 in
+      let behind : s.behind ≡ t.behind = equal_holds s.behind t.behind r.1 in
       let lo : s.lo ≡ t.lo = equal_holds s.lo t.lo q.1 in
       let hi : s.hi ≡ t.hi = equal_holds s.hi t.hi p.1 in
-      record { low = rw (ahead, behind, code, lo) i.low; high = rw (ahead, behind, code, hi) i.high }
+      record { low = rw (ahead, behind, lo) i.low; high = rw (ahead, behind, hi) i.high }
 
-  -- a value that is covered has its form
-  form_by : (x : Bool) (s t : Value) → is_interval s ≡ x
-      → IsTrue (cond x (covers_interval (record { lo = s.lo; hi = s.hi }) (interval_of d t)) (is_same s t))
-      → IsTrue (has_form t) → IsTrue (has_form s)
-  form_by true s t e c f = none_form s.code _ (and_both (has_no_distance s) (is_none s.code) e).1
-  form_by false s t e c f =
-      let p = and_both _ _ c in
-      let q = and_both _ _ p.0 in
-      let r = and_both _ _ q.0 in
-      let u = and_both _ _ r.0 in
-      let ahead : s.ahead ≡ t.ahead = equal_holds s.ahead t.ahead u.0 in
-      let behind : s.behind ≡ t.behind = equal_holds s.behind t.behind u.1 in
-      let lo : s.lo ≡ t.lo = equal_holds s.lo t.lo q.1 in
-      let hi : s.hi ≡ t.hi = equal_holds s.hi t.hi p.1 in
-      subst (λ b. (b || (has_no_distance s && int_le s.hi s.lo)) ≡ true) (sym (none_alike s.code t.code r.1))
-      (rw (ahead, behind, lo, hi) f)
-
-  value_covered : (s t : Value) (v : ℤ) → IsTrue (covers_value d s t) → IsValue around t v → IsValue around s v
+  value_covered : (s t : Value) (v : ℤ) → IsTrue (covers_value d s t) → IsValue fore back t v → IsValue fore back s v
   value_covered s t v c i = let p = and_both _ _ c in
       record {
         is = value_by _ s t v refl p.1 i.is;
-        form = form_by _ s t refl p.1 i.form;
         fits = i.fits;
-        saved = place_covered s.saved t.saved around v p.0 i.saved;
+        saved = place_covered s.saved t.saved fore back v p.0 i.saved;
       }
 
   optional_covered : (s t : Option Value) (v : Option ℤ) → IsTrue (both_cover (covers_value d) s t)
-      → IsOptional (IsValue around) t v → IsOptional (IsValue around) s v
+      → IsOptional (IsValue fore back) t v → IsOptional (IsValue fore back) s v
   optional_covered None None None c i = tt
   optional_covered (Some s) (Some t) (Some v) c i = value_covered s t v c i
   optional_covered s t v c i = absurd (grind arith)
@@ -174,7 +115,7 @@ module _ (d : Distances) (around : Surroundings) (b : AreDistances d around) whe
   operators_covered o p c = absurd (grind arith)
 
   level_covered : (known edge : KnownLevel) (level : Level) → IsTrue (covers_level d known edge)
-      → IsLevel around edge level → IsLevel around known level
+      → IsLevel fore back edge level → IsLevel fore back known level
   level_covered known edge level c i =
       let p = and_both _ _ c in
       let q = and_both _ _ p.0 in
@@ -186,89 +127,61 @@ module _ (d : Distances) (around : Surroundings) (b : AreDistances d around) whe
       }
 
   pending_covered : (known edge : KnownArguments) (arguments : Arguments) → IsTrue (covers_arguments d known edge)
-      → ArePending around edge arguments → ArePending around known arguments
+      → ArePending fore back edge arguments → ArePending fore back known arguments
   pending_covered known edge arguments c i =
       let p = and_both _ _ c in
       record {
         level = level_covered known.level edge.level arguments.level p.0 i.level;
-        outer = each_covered (covers_level d) (IsLevel around) (IsLevel around) level_covered known.outer edge.outer
-            arguments.outer p.1 i.outer;
+        outer = each_covered (covers_level d) (IsLevel fore back) (IsLevel fore back) level_covered known.outer
+            edge.outer arguments.outer p.1 i.outer;
       }
 
 -- ---- positions
-fall_covered : (now : ℕ) (fall edge : Option ℤ) (begun : ℕ) → IsTrue (covers_fall fall edge) → IsLess now edge begun
-    → IsLess now fall begun
-fall_covered now None edge begun c h = tt
-fall_covered now (Some v) (Some w) begun c h = omega (arith, ints, le_holds v w c)
-fall_covered now (Some v) None begun c h = absurd (cc)
+fall_covered : (ahead : ℕ) (fall edge : Option ℤ) (begun : ℕ) → IsTrue (covers_fall fall edge)
+    → HasFallen ahead edge begun → HasFallen ahead fall begun
+fall_covered ahead None edge begun c h = tt
+fall_covered ahead (Some v) (Some w) begun c h = omega (arith, ints, le_holds v w c)
+fall_covered ahead (Some v) None begun c h = absurd (cc)
 
-pub falls_covered : (around : Surroundings) (unread : ℕ) (falls edge : Falls) (begun : Begun)
-    → IsTrue (covers_falls falls edge) → HasFallen around unread edge begun → HasFallen around unread falls begun
-falls_covered around unread falls edge begun c h =
+pub saved_covered : (fore back : ℕ) (saved edge : List Bool) (pairs : List Pair)
+    → IsTrue (each_covers covers_saved saved edge) → AreSaved fore back edge pairs → AreSaved fore back saved pairs
+saved_covered fore back saved edge pairs c h =
+    each_covered covers_saved (IsSaved fore back) (IsSaved fore back)
+    (λ s e pair. place_covered s e fore back pair.number) saved edge pairs c h
+
+pub position_covered : (run : Run) (position edge : Position) (fore back unread : ℕ) (pairs : List Pair)
+    → IsTrue (covers_position position edge) → IsAt run edge fore back unread pairs
+    → IsAt run position fore back unread pairs
+position_covered run position edge fore back unread pairs c h =
     let o = and_both _ _ c in
-    let p = and_both _ _ o.0 in
-    let q = and_both _ _ p.0 in
-    let r = and_both _ _ q.0 in
-    let t = and_both _ _ r.0 in
-    record {
-      fall = fall_covered _ falls.fall edge.fall _ t.0 h.fall;
-      far = λ s. fall_covered _ falls.far edge.far _ t.1 (h.far s);
-      line = fall_covered _ falls.line edge.line _ r.1 h.line;
-      far_line = λ s. fall_covered _ falls.far_line edge.far_line _ q.1 (h.far_line s);
-      held = fall_covered _ falls.held edge.held _ p.1 h.held;
-      rest = fall_covered _ falls.rest edge.rest _ o.1 h.rest;
-      read = h.read;
-      part = h.part;
-    }
-
-mark_covered : (around : Surroundings) (mark edge : Option DigitMark) → IsTrue (covers_mark mark edge)
-    → IsMarked around edge → IsMarked around mark
-mark_covered around None edge c h = tt
-mark_covered around (Some Before) (Some Before) c h = h
-mark_covered around (Some At) (Some At) c h = h
-mark_covered around mark edge c h = absurd (grind arith)
-
-pub saved_covered : (around : Surroundings) (saved edge : List Bool) (pairs : List Pair)
-    → IsTrue (each_covers covers_saved saved edge) → AreSaved around edge pairs → AreSaved around saved pairs
-saved_covered around saved edge pairs c h =
-    each_covered covers_saved (IsSaved around) (IsSaved around) (λ s e pair. place_covered s e around pair.number) saved
-    edge pairs c h
-
-pub position_covered : (run : Run) (position edge : Position) (around : Surroundings) (unread : ℕ) (pairs : List Pair)
-    → IsTrue (covers_position position edge) → IsAt run edge around unread pairs → IsAt run position around unread pairs
-position_covered run position edge around unread pairs c h =
-    let m = and_both _ _ c in
-    let o = and_both _ _ m.0 in
     let p = and_both _ _ o.0 in
     let q = and_both _ _ p.0 in
     let r = and_both _ _ q.0 in
     record {
       begin = omega (arith, nat_le_holds position.distances.back edge.distances.back r.0, h.begin);
       end = omega (arith, nat_le_holds position.distances.fore edge.distances.fore r.1, h.end);
-      fallen = each_covered covers_falls (HasFallen around unread) (HasFallen around unread)
-          (falls_covered around unread) position.falls edge.falls run.turns q.1 h.fallen;
+      fallen = each_covered covers_fall (HasFallen (fore + unread)) (HasFallen (fore + unread))
+          (fall_covered (fore + unread)) position.falls edge.falls run.turns q.1 h.fallen;
       ahead = omega (arith, values_compare edge.ahead position.ahead run.n p.1, h.ahead);
-      saved = saved_covered around position.saved edge.saved pairs o.1 h.saved;
-      digit = mark_covered around position.digit edge.digit m.1 h.digit;
+      saved = saved_covered fore back position.saved edge.saved pairs o.1 h.saved;
     }
 
-answers_covered : (run : Run) (answer edge : Option Answer) (around : Surroundings) (unread : ℕ) (pairs : List Pair)
-    (level : Level) → IsTrue (covers_answer answer edge) → Answers run edge around unread pairs level
-    → Answers run answer around unread pairs level
-answers_covered run None edge around unread pairs level c h = tt
-answers_covered run (Some answer) (Some edge) around unread pairs level c (v, e, i) =
+answers_covered : (run : Run) (answer edge : Option Answer) (fore back unread : ℕ) (pairs : List Pair) (level : Level)
+    → IsTrue (covers_answer answer edge) → Answers run edge fore back unread pairs level
+    → Answers run answer fore back unread pairs level
+answers_covered run None edge fore back unread pairs level c h = tt
+answers_covered run (Some answer) (Some edge) fore back unread pairs level c (v, e, i) =
     let p = and_both _ _ c in (
       v,
       e,
       record {
         either = i.either;
-        found = λ q. position_covered run answer.found edge.found around unread pairs p.0
-            (i.found q);
-        failed = λ q. position_covered run answer.failed edge.failed around unread pairs p.1
-            (i.failed q);
+        found = λ q. position_covered run answer.found edge.found fore back unread pairs p.0 (i.found q);
+        failed =
+            λ q. position_covered run answer.failed edge.failed fore back unread pairs p.1 (i.failed q);
       },
     )
-answers_covered run (Some answer) None around unread pairs level c h = absurd (cc)
+answers_covered run (Some answer) None fore back unread pairs level c h = absurd (cc)
 
 -- ---- registers
 pub length_covered : (n : ℕ) (most edge : Polynomial) (pair : Pair) → IsTrue (covers_length most edge)
@@ -297,13 +210,12 @@ covers_are_sound run facts edge unread kept arguments whole c d =
     let s = and_both _ _ r.0 in
     let t = and_both _ _ s.0 in
     let u = and_both _ _ t.0 in
-    let y = and_both _ _ u.0 in
-    let z = and_both _ _ y.0 in
+    let v = and_both _ _ u.0 in
     let h = d.state in
     record {
       state = record {
-        position = position_covered run facts.position edge.position (around_of kept) unread kept.registers.pairs u.1
-            h.position;
+        position = position_covered run facts.position edge.position (fore_of kept)
+            (back_of kept) unread kept.registers.pairs u.1 h.position;
         held = omega (arith, values_compare edge.held facts.held run.n s.1, h.held);
         registers = record {
           numbers = each_covered covers_interval (λ i (pair : Pair). IsWithin i pair.number)
@@ -315,8 +227,8 @@ covers_are_sound run facts edge unread kept arguments whole c d =
         };
         pushed = pushed_covered run.n run.below facts.pushes edge.pushes kept.registers.stack p.1 h.pushed;
       };
-      pending = pending_covered edge.position.distances (around_of kept) (distances run edge unread kept whole h)
-          facts.arguments edge.arguments arguments z.1 d.pending;
-      answers = answers_covered run facts.answer edge.answer (around_of kept) unread kept.registers.pairs
-          arguments.level y.1 d.answers;
+      pending = pending_covered edge.position.distances (fore_of kept) (back_of kept)
+          (distances run edge unread kept whole h) facts.arguments edge.arguments arguments v.0 d.pending;
+      answers = answers_covered run facts.answer edge.answer (fore_of kept) (back_of kept) unread kept.registers.pairs
+          arguments.level v.1 d.answers;
     }

@@ -23,30 +23,30 @@ use Rattle.teco_model.specs.declared.kind.Page.TheVariants as page
 use Rattle.teco_model.specs.declared.kind.Search.{Search}
 use Rattle.teco_model.specs.declared.kind.Search.TheVariants as search
 use Rattle.teco_poly.specs.Polynomial.{Polynomial, value, number}
-use Rattle.teco_law_facts.proofs.Flowing.{taking_is, forgotten_answer}
+use Rattle.teco_law_facts.proofs.Flowing.{taking_is}
 use Rattle.teco_law_facts.proofs.Going.{leads_at, ok_at}
 use Rattle.teco_law_facts.proofs.Onward.{outcome_goes, flow_proceeds, call_proceeds, search_proceeds, look_proceeds}
 use Rattle.teco_law_facts.proofs.Onward.{look_again}
-use Rattle.teco_law_facts.proofs.Paged.{IsOpen, turn_proceeds, write_proceeds, turn_again, write_again, append_proceeds}
+use Rattle.teco_law_facts.proofs.Paged.{IsOpen, turn_proceeds, write_proceeds, turn_again, write_again}
+use Rattle.teco_law_facts.proofs.Paged.{append_proceeds}
 use Rattle.teco_law_facts.proofs.Seeking.{search_steps_are_bounded}
 use Rattle.teco_law_facts.proofs.Shapes.{value-number}
 use Rattle.teco_law_facts.proofs.Steps.{Covers}
 use Rattle.teco_law_facts.proofs.Transfers.{arguments_are_sound, values_are_sound, commands_are_sound}
-use Rattle.teco_law_facts.proofs.Transfers.{queries_are_sound, stacks_are_sound}
+use Rattle.teco_law_facts.proofs.Transfers.{queries_are_sound, stacks_are_sound, without_answer}
 use Rattle.teco_verifier.specs.facts.Arguments as known
 use Rattle.teco_verifier.specs.facts.Arguments.{KnownTaken}
 use Rattle.teco_verifier.specs.facts.Attempt.{◌>>=◌}
-use Rattle.teco_law_facts.specs.Describes.{Run, IsTaken, IsOptional, around_of}
+use Rattle.teco_law_facts.specs.Describes.{Run, IsTaken, IsOptional, fore_of, back_of}
 use Rattle.teco_verifier.specs.facts.Facts.{Facts}
 use Rattle.teco_verifier.specs.facts.Flows.{Edges}
 use Rattle.teco_verifier.specs.facts.Printed.{needs, needs_of_page, steps_of_page, steps_of_search, steps}
 use Rattle.teco_verifier.specs.facts.Shifts.{facts_answered}
 use Rattle.teco_law_facts.specs.SoundElements.{Succeeds, Leads, FitsOn}
 use Rattle.teco_model.specs.Paging.{unread_of}
-use Rattle.teco_law_facts.specs.SoundSeeking.{IsInPages, SearchesAtMost, pages_left}
+use Rattle.teco_law_facts.specs.SoundSeeking.{IsInPages, SearchesAtMost}
 use Rattle.teco_law_facts.specs.SoundSteps.{ReturnsGoBack, KindEnds, IsNamed, KindStands, AreOpen, BeginsAt}
 use Rattle.teco_law_facts.specs.SoundSteps.{IsUnderway, Proceeds, StepsAreSound, LaterStepsAreSound, ElementsAreSound}
-use Rattle.teco_law_facts.specs.SoundSteps.{unread_left}
 use Rattle.teco_verifier.specs.facts.Transfer as transfers
 use Rattle.teco_verifier.specs.facts.Transfer.{Placed, transfer}
 use Rattle.teco_verifier.specs.facts.Values.{IsValue}
@@ -78,7 +78,7 @@ file_refused x facts f e =
       by (Err why) = tt
 
 module _ (run : Run) (facts : Facts) (x : Placed) (edges : Edges) (s : State) (h : BeginsAt run facts x s)
-    (t : transfer x facts ≡ Ok edges) (fits : FitsOn run edges) where
+    (t : transfer x facts ≡ Ok edges) (fits : FitsOn run.n edges) where
   abbrev u : ℕ
   u = unread_of s.world
 
@@ -96,9 +96,9 @@ module _ (run : Run) (facts : Facts) (x : Placed) (edges : Edges) (s : State) (h
     needed : IfOk (needs k facts) (λ need. AreOpen need s.world.files)
     needed = subst (λ k. IfOk (needs k facts) (λ need. AreOpen need s.world.files)) e h.files
 
-    arrived : {X : Type 0} (Q : Edges → X → Type 0) (r : Result X Code) → Leads (FitsOn run) Q (transfer x facts) r
+    arrived : {X : Type 0} (Q : Edges → X → Type 0) (r : Result X Code) → Leads (FitsOn run.n) Q (transfer x facts) r
         → Succeeds (Q edges) r
-    arrived Q r l = leads_at (FitsOn run) Q (transfer x facts) r edges t fits l
+    arrived Q r l = leads_at (FitsOn run.n) Q (transfer x facts) r edges t fits l
 
   -- A without a value needs an input, P, PW, N and FN an output
   output_of : (p : Page) (most : Polynomial) → ((o : Option Value) → (needs_of_page p o).output ≡ true)
@@ -112,11 +112,12 @@ module _ (run : Run) (facts : Facts) (x : Placed) (edges : Edges) (s : State) (h
   page_output p most e m o = output_of p most o _ m (needed (kind.Page p) e)
 
   input_of : (most : Polynomial) (r : Result KnownTaken Refusal) (c : Result Taken Code)
-      → Covers (IsTaken (around_of kept)) r c → (r >>= λ taken. steps_of_page page.Append taken facts) ≡ Ok most
+      → Covers (IsTaken (fore_of kept) (back_of kept)) r c
+      → (r >>= λ taken. steps_of_page page.Append taken facts) ≡ Ok most
       → IfOk (r >>= λ taken. Ok (needs_of_page page.Append taken.value)) (λ need. AreOpen need s.world.files)
       → Succeeds (λ (taken : Taken). taken.value ≡ None → (input : Input) × (s.world.files.input ≡ Some input)) c
   input_of most (Ok k) (Ok taken) i m n = by k.value taken.value i.value n where
-    by : (o : Option Value) (v : Option ℤ) → IsOptional (IsValue (around_of kept)) o v
+    by : (o : Option Value) (v : Option ℤ) → IsOptional (IsValue (fore_of kept) (back_of kept)) o v
         → AreOpen (needs_of_page page.Append o) s.world.files → v ≡ None
         → (input : Input) × (s.world.files.input ≡ Some input)
     by None v j a q = a.input refl
@@ -125,17 +126,16 @@ module _ (run : Run) (facts : Facts) (x : Placed) (edges : Edges) (s : State) (h
   input_of most r c i m n = absurd (grind arith)
 
   looks : (q : Search) (most : Polynomial) → x.element.kind ≡ kind.Search q → IsInPages q → IsOpen s.world
-      → u + 1 ≤ value most run.n + pages_left q facts u
-      → Proceeds (kind.Search q) run facts x edges s (value most run.n + pages_left q facts u)
+      → u + 1 ≤ value most run.n → Proceeds (kind.Search q) run facts x edges s (value most run.n)
       (settle x.element s (outcomes.found_in_pages q x.element (outcomes.miss_of x.element s.frames.running) s.left
       s.arguments s.world))
-  looks q most e b o m = look_proceeds run facts x edges s h t q (value most run.n + pages_left q facts u) fits b e
+  looks q most e b o m = look_proceeds run facts x edges s h t q (value most run.n) fits b e
       (stands (kind.Search q) e) o.0 o.1 m
 
   bounded : (q : Search) (most : Polynomial) → steps (kind.Search q) facts ≡ Ok most
-      → SearchesAtMost q u (value most run.n + pages_left q facts u)
-  bounded q most m = ok_at (λ most. SearchesAtMost q u (value most run.n + pages_left q facts u))
-      (steps (kind.Search q) facts) most m (search_steps_are_bounded run facts u kept s.arguments q h.described)
+      → SearchesAtMost q u (value most run.n)
+  bounded q most m = ok_at (λ most. SearchesAtMost q u (value most run.n)) (steps (kind.Search q) facts) most m
+      (search_steps_are_bounded run facts u kept s.arguments q h.described)
 
   -- any other takes one step
   one_step : (most : Polynomial) → steps_of_search search.Find facts ≡ Ok most → 1 ≤ value most run.n
@@ -147,57 +147,47 @@ module _ (run : Run) (facts : Facts) (x : Placed) (edges : Edges) (s : State) (h
   one_taken most (Ok taken) m = one_step most m
   one_taken most (Err why) m = absurd (cc)
 
-  no_more : (k : Kind) (most : ℕ) (o : Outcome) → Proceeds k run facts x edges s most o
-      → Proceeds k run facts x edges s (most + 0) o
-  no_more k most o p = subst (λ most. Proceeds k run facts x edges s most o) (omega arith) p
-
   first_step : (k : Kind) (most : Polynomial) → x.element.kind ≡ k → steps k facts ≡ Ok most
-      → Proceeds k run facts x edges s (value most run.n + unread_left k facts u) (stepping.outcome_of k x.element s)
+      → Proceeds k run facts x edges s (value most run.n) (stepping.outcome_of k x.element s)
   unfolding stepping.reply_of
-  first_step (kind.Argument a) most e m = outcome_goes run facts x edges s h t (kind.Argument a) (value most run.n + 0)
-      (λ unread. omega (arith, one_step most m)) (λ new g. g) _
+  first_step (kind.Argument a) most e m = outcome_goes run facts x edges s h t (kind.Argument a) (value most run.n)
+      (one_step most m) (λ new g. g) _
       (arrived (kind.Argument a) e _ _
       (arguments_are_sound run facts u kept s.arguments x a h.whole.world.kept h.described e))
-  first_step (kind.Value v) most e m = outcome_goes run facts x edges s h t (kind.Value v) (value most run.n + 0)
-      (λ unread. omega (arith, one_step most m)) (λ new g. g) _
+  first_step (kind.Value v) most e m = outcome_goes run facts x edges s h t (kind.Value v) (value most run.n)
+      (one_step most m) (λ new g. g) _
       (arrived (kind.Value v) e _ _ (values_are_sound run facts u kept s.arguments x v h.whole.world.kept h.described
       e))
-  first_step (kind.Query q) most e m = outcome_goes run facts x edges s h t (kind.Query q) (value most run.n + 0)
-      (λ unread. omega (arith, one_step most m)) (λ new g. g) _
+  first_step (kind.Query q) most e m = outcome_goes run facts x edges s h t (kind.Query q) (value most run.n)
+      (one_step most m) (λ new g. g) _
       (arrived (kind.Query q) e _ _ (queries_are_sound run facts u kept s.arguments x q h.whole.world.kept h.described e
       (named (kind.Query q) e)))
-  first_step (kind.Stack k) most e m = outcome_goes run facts x edges s h t (kind.Stack k) (value most run.n + 0)
-      (λ unread. omega (arith, one_step most m)) (λ new g. g) _
+  first_step (kind.Stack k) most e m = outcome_goes run facts x edges s h t (kind.Stack k) (value most run.n)
+      (one_step most m) (λ new g. g) _
       (arrived (kind.Stack k) e _ _ (stacks_are_sound run facts u kept s.arguments x k h.whole.world.kept h.described e
       (named (kind.Stack k) e)))
-  first_step (kind.Command c) most e m = outcome_goes run facts x edges s h t (kind.Command c) (value most run.n + 0)
-      (λ unread. omega (arith, one_step most m)) (λ new g. g) _
+  first_step (kind.Command c) most e m = outcome_goes run facts x edges s h t (kind.Command c) (value most run.n)
+      (one_step most m) (λ new g. g) _
       (arrived (kind.Command c) e _ _
-      (commands_are_sound run facts u kept s.arguments x c h.whole.world.kept h.described e
-      (named (kind.Command c) e) h.library))
-  first_step (kind.Call c) most e m =
-      call_proceeds run facts x edges s h t c (value most run.n + 0) (omega (arith, one_step most m)) e
-  first_step (kind.Flow f) most e m =
-      flow_proceeds run facts x edges s h t f (value most run.n + 0) (omega (arith, one_step most m)) e
+      (commands_are_sound run facts u kept s.arguments x c h.whole.world.kept h.described e (named (kind.Command c) e)))
+  first_step (kind.Call c) most e m = call_proceeds run facts x edges s h t c (value most run.n) (one_step most m) e
+  first_step (kind.Flow f) most e m = flow_proceeds run facts x edges s h t f (value most run.n) (one_step most m) e
       (stands (kind.Flow f) e)
   first_step (kind.Page page.Yank) most e m =
       absurd (ok_at (λ edges. ⊥) (transfer x facts) edges t (yank_refused x facts e))
   first_step (kind.Page page.Append) most e m =
-      append_proceeds run facts x edges s h t fits (value most run.n + 0) (omega (arith, one_taken most _ m)) e
+      append_proceeds run facts x edges s h t fits (value most run.n) (one_taken most _ m) e
       (input_of most _ _ (taking_is run facts u kept s.arguments h.whole.world.kept h.described) m
       (needed (kind.Page page.Append) e))
   first_step (kind.Page page.Next) most e m =
-      no_more (kind.Page page.Next) (value most run.n) _
-      (turn_proceeds run facts x edges s h t fits most m e (page_output page.Next most e m (λ o. refl)))
+      turn_proceeds run facts x edges s h t fits most m e (page_output page.Next most e m (λ o. refl))
   first_step (kind.Page page.Write) most e m =
-      no_more (kind.Page page.Write) (value most run.n) _
-      (write_proceeds run facts x edges s h t fits most m e (page_output page.Write most e m (λ o. refl)))
-  first_step (kind.Search search.Find) most e m =
-      search_proceeds run facts x edges s h t search.Find (value most run.n + 0) (omega (arith, one_step most m)) fits
-      tt e (stands (kind.Search search.Find) e)
+      write_proceeds run facts x edges s h t fits most m e (page_output page.Write most e m (λ o. refl))
+  first_step (kind.Search search.Find) most e m = search_proceeds run facts x edges s h t search.Find (value most run.n)
+      (one_step most m) fits tt e (stands (kind.Search search.Find) e)
   first_step (kind.Search search.Replace) most e m =
-      search_proceeds run facts x edges s h t search.Replace (value most run.n + 0)
-      (omega (arith, one_step most m)) fits tt e (stands (kind.Search search.Replace) e)
+      search_proceeds run facts x edges s h t search.Replace (value most run.n) (one_step most m) fits tt e
+      (stands (kind.Search search.Replace) e)
   first_step (kind.Search search.FindInPages) most e m =
       looks search.FindInPages most e tt ((needed (kind.Search search.FindInPages) e).output refl)
       (bounded search.FindInPages most m)
@@ -256,8 +246,7 @@ module _ (run : Run) (facts : Facts) (x : Placed) (edges : Edges) (s : State) (h
 pub steps_are_sound : StepsAreSound
 unfolding step
 steps_are_sound run facts x edges most s h t fits m =
-    subst (λ r. Proceeds x.element.kind run facts x edges s
-    (value most run.n + unread_left x.element.kind facts (unread_of s.world)) (stepping.outcome_at s r)) (sym h.read)
+    subst (λ r. Proceeds x.element.kind run facts x edges s (value most run.n) (stepping.outcome_at s r)) (sym h.read)
     (first_step run facts x edges s h t fits x.element.kind most refl m)
 
 -- a state while work is left stands as the first did
@@ -287,7 +276,7 @@ first_then zero s middle e = e
 first_then (suc n) s middle e = ap runs.go_on (first_then n s middle e)
 
 module _ (run : Run) (facts : Facts) (x : Placed) (edges : Edges) (most : Polynomial) (s : State)
-    (h : BeginsAt run facts x s) (t : transfer x facts ≡ Ok edges) (fits : FitsOn run edges)
+    (h : BeginsAt run facts x s) (t : transfer x facts ≡ Ok edges) (fits : FitsOn run.n edges)
     (m : steps x.element.kind facts ≡ Ok most) where
   abbrev Underway : ℕ → State → Type 0
   Underway rest now = IsUnderway x.element.kind run facts x edges s rest now
@@ -297,7 +286,7 @@ module _ (run : Run) (facts : Facts) (x : Placed) (edges : Edges) (most : Polyno
     before : ℕ
     last : State
     new : State
-    few : before + 1 + unread_left x.element.kind facts (unread_of new.world) ≤ bound
+    few : before + 1 ≤ bound
     reaches : Reaches before now last
     stands : (last ≡ now) ⊎ ((rest : ℕ) × Underway rest last)
     final : step last ≡ Next new
@@ -347,9 +336,8 @@ module _ (run : Run) (facts : Facts) (x : Placed) (edges : Edges) (most : Polyno
         still rest new last k (inr i) = i
   ends_or_on fuel bound now l o e k = absurd k
 
-  all_ends : Ends (value most run.n + unread_left x.element.kind facts (unread_of s.world)) s
-  all_ends = ends_or_on (value most run.n + unread_left x.element.kind facts (unread_of s.world))
-      (value most run.n + unread_left x.element.kind facts (unread_of s.world)) s (omega arith) _ refl
+  all_ends : Ends (value most run.n) s
+  all_ends = ends_or_on (value most run.n) (value most run.n) s (omega arith) _ refl
       (steps_are_sound run facts x edges most s h t fits m)
 
 pub elements_are_sound : ElementsAreSound
@@ -382,4 +370,15 @@ module _ (s : State) (caller : Frame) (callers : List Frame) where
 
 pub returns_go_back : ReturnsGoBack
 unfolding step
-returns_go_back run facts s caller callers d e l c = search (text_goes, forgotten_answer, arith)
+returns_go_back run facts s caller callers d e l c = (
+  back s caller callers,
+  subst (λ r. stepping.outcome_at s r ≡ Next (back s caller callers)) (sym e)
+      (text_goes s caller callers s.frames.running.loops l c),
+  record {
+    comes = record {
+      described = without_answer run facts (unread_of s.world) s.world.kept s.arguments d;
+      grown = omega arith;
+    };
+    gone = refl;
+  },
+)

@@ -1,7 +1,7 @@
 -- Tests, iterations and tags: the edge that the machine goes along.
 use Rattle.std.proofs.Common.{◌≡◌, ℕ, zero, suc, ◌+◌, ◌≤◌, arith, refl, sym, subst, ℤ, pos, negsuc, ◌+ℤ◌, ◌≤ℤ◌}
 use Rattle.std.proofs.Common.{int_le, List, [], ◌∷◌, drop, Bool, true, false, cond, ◌&&◌, Option, Some, None}
-use Rattle.std.proofs.Common.{option_map, Result, Ok, Err, IfOk, rules}
+use Rattle.std.proofs.Common.{option_map, Result, Ok, Err, IfOk, ◌*ℤ◌}
 use Rattle.std.proofs.lemmas.Int.{ints}
 use Rattle.teco_base.specs.declared.code.Code.{Code}
 use Rattle.teco_model.specs.Arguments as model
@@ -18,7 +18,7 @@ use Rattle.teco_poly.specs.Polynomial.{Polynomial, value, number}
 use Rattle.teco_model.specs.Registers.{Pair}
 use Rattle.teco_law_facts.proofs.Numbers.{AreDistances, interval_of_in, scaled_le}
 use Rattle.teco_law_facts.proofs.Pending.{taken_covers, empty_is, nothing_is, needed_covers}
-use Rattle.teco_law_facts.proofs.Near.{distances, begun_fallen}
+use Rattle.teco_law_facts.proofs.Near.{distances}
 use Rattle.teco_law_facts.proofs.Shapes.{value-sum_of, value-number}
 use Rattle.teco_law_facts.proofs.Steps.{Covers}
 use Rattle.teco_law_facts.proofs.Transfers.{without_answer}
@@ -28,27 +28,23 @@ use Rattle.teco_verifier.specs.facts.Arguments.{KnownLevel}
 use Rattle.teco_verifier.specs.facts.Attempt.{◌>>=◌}
 use Rattle.teco_verifier.specs.facts.Deletions.{positive}
 use Rattle.teco_law_facts.specs.Describes.{Run, run_behind, run_in_turn, IsWhole, IsAt, Answers, Describes, AreEach}
-use Rattle.teco_law_facts.specs.Describes.{HasFallen, IsLevel, IsTaken, IsOptional, ArePending, around_of, begun_at}
+use Rattle.teco_law_facts.specs.Describes.{HasFallen, IsLevel, IsTaken, IsOptional, ArePending, fore_of, back_of}
 use Rattle.teco_verifier.specs.facts.Facts.{Position, Answer, Facts, Iteration, sum_of, at_position}
-use Rattle.teco_verifier.specs.facts.Facts.{without_arguments, without_digit}
+use Rattle.teco_verifier.specs.facts.Facts.{without_arguments}
 use Rattle.teco_verifier.specs.facts.Flows.{Edges, needed_taken, facts_taken, leaving, entering, begun, iteration}
 use Rattle.teco_verifier.specs.facts.Flows.{leaving_numbers, turns_of, bound_by, bound_of, without_value, turn_end}
 use Rattle.teco_verifier.specs.facts.Joins.{is_empty, none_pending}
-use Rattle.teco_law_facts.specs.Laws.{IsTold, amount_of}
+use Rattle.teco_law_facts.specs.Laws.{IsTold}
 use Rattle.teco_law_facts.specs.SoundFlow.{Tells, IsReached, number_needed, TestsAreSound, LeavingOr, LeavesAreSound}
 use Rattle.teco_law_facts.specs.SoundFlow.{EntersOr, IterationsAreSound, AreTurns, TurnsAreSound, EndsTurn}
 use Rattle.teco_law_facts.specs.SoundFlow.{TurnEndsAreSound, TagsAreSound, OthersAreSound}
 use Rattle.teco_verifier.specs.facts.Transfer as transfers
 use Rattle.teco_verifier.specs.facts.Transfer.{transfer}
-use Rattle.teco_verifier.specs.facts.Values.{IsValue, IsWithin, interval_of, Surroundings}
+use Rattle.teco_verifier.specs.facts.Values.{IsValue, IsWithin, interval_of}
 use Rattle.teco_verifier.specs.facts.Ways.{Numbers, Positive, NotPositive, Takes, holding, other, position_by, way}
 use Rattle.teco_verifier.specs.declared.refusal.Refusal.{Refusal}
-use Rattle.teco_verifier.specs.declared.falls.Rank.{Rank}
-use Rattle.teco_verifier.specs.declared.falls.Rank.TheVariants as rank
 use Rattle.teco_verifier.specs.declared.refusal.Refusal.TheVariants as refusal
 use Rattle.teco_verifier.specs.declared.values.Value.{Value}
-use Rattle.teco_verifier.specs.facts.Ranks.{measure_of}
-use Rattle.teco_verifier.specs.declared.values.CharacterCode.{CharacterCode}
 
 -- ---- steps
 pub tells_then : {X Y A : Type 0} (P : X → Y → Type 0) (Q : A → Y → Type 0) (r : Result X Refusal) (c : Result Y Code)
@@ -88,35 +84,40 @@ each_dropped P count xs ys h = absurd (grind arith)
 abbrev number_in : Level → Result ℤ Code
 number_in level = model.arguments_of level >>>= λ taken. effect.needed_value taken.value
 
-told_by : (run : Run) (o : Option Answer) (around : Surroundings) (unread : ℕ) (pairs : List Pair) (level : Level)
-    (r : Result Value Refusal) → Answers run o around unread pairs level → Covers (IsValue around) r (number_in level)
-    → Covers (λ s v. IsTold run o s around unread pairs v) r (number_in level)
-told_by run None around unread pairs level r a c = c
-told_by run (Some answer) around unread pairs level r (v, e, i) c =
-    subst (λ level. Covers (λ (s : Value) v. IsTold run (Some answer) s around unread pairs v) r (number_in level))
+told_by : (run : Run) (o : Option Answer) (fore back unread : ℕ) (pairs : List Pair) (level : Level)
+    (r : Result Value Refusal) → Answers run o fore back unread pairs level
+    → Covers (IsValue fore back) r (number_in level)
+    → Covers (λ s v. IsTold run o s fore back unread pairs v) r (number_in level)
+told_by run None fore back unread pairs level r a c = weaker (IsValue fore back) _ r (number_in level) (λ s v i. i.is) c
+told_by run (Some answer) fore back unread pairs level r (v, e, i) c =
+    subst (λ level. Covers (λ (s : Value) v. IsTold run (Some answer) s fore back unread pairs v) r (number_in level))
     (sym e) (always _ r v (λ s. i))
 
 module _ (run : Run) (facts : Facts) (unread : ℕ) (kept : Kept) (arguments : model.Arguments) (whole : IsWhole kept)
     (d : Describes run facts unread kept arguments) where
-  now : AreDistances facts.position.distances (around_of kept)
+  now : AreDistances facts.position.distances (fore_of kept) (back_of kept)
   now = distances run facts unread kept whole d.state
 
-  pub taking_is : Covers (IsTaken (around_of kept)) (known.arguments_of facts.arguments.level)
+  pub taking_is : Covers (IsTaken (fore_of kept) (back_of kept)) (known.arguments_of facts.arguments.level)
       (model.arguments_of arguments.level)
-  taking_is = taken_covers facts.position.distances (around_of kept) now facts.arguments.level arguments.level
-      d.pending.level
+  taking_is = taken_covers facts.position.distances (fore_of kept) (back_of kept) now facts.arguments.level
+      arguments.level d.pending.level
 
-  number_told : Covers (λ s v. IsTold run facts.answer s (around_of kept) unread kept.registers.pairs v)
+  number_told : Covers (λ s v. IsTold run facts.answer s (fore_of kept) (back_of kept) unread kept.registers.pairs v)
       (needed_taken facts) (number_in arguments.level)
-  number_told = told_by run facts.answer (around_of kept) unread kept.registers.pairs arguments.level _ d.answers
-      (needed_covers facts.position.distances (around_of kept) now facts.arguments.level arguments.level
-      d.pending.level)
+  number_told = told_by run facts.answer (fore_of kept) (back_of kept) unread kept.registers.pairs arguments.level _
+      d.answers (needed_covers facts.position.distances (fore_of kept) (back_of kept) now facts.arguments.level
+      arguments.level d.pending.level)
 
-  pub taken_are : ArePending (around_of kept) (facts_taken facts).arguments (model.levels_after_taking arguments)
-  taken_are = record { level = empty_is facts.position.distances (around_of kept) now; outer = d.pending.outer }
+  pub taken_are : ArePending (fore_of kept) (back_of kept) (facts_taken facts).arguments
+      (model.levels_after_taking arguments)
+  taken_are = record {
+    level = empty_is facts.position.distances (fore_of kept) (back_of kept) now;
+    outer = d.pending.outer;
+  }
 
   -- ---- ways
-  reached : (o : Option Position) → IsOn run (around_of kept) unread kept.registers.pairs o
+  reached : (o : Option Position) → IsOn run (fore_of kept) (back_of kept) unread kept.registers.pairs o
       → IsReached run (option_map (λ p. at_position p (facts_taken facts)) o) unread kept
       (model.levels_after_taking arguments)
   reached None i = i
@@ -127,37 +128,36 @@ module _ (run : Run) (facts : Facts) (unread : ℕ) (kept : Kept) (arguments : m
         answers = tt;
       }
 
-  pub behind : (count : ℕ) (p : Position) (state : Facts) → IsAt run p (around_of kept) unread kept.registers.pairs
-      → state.held ≡ facts.held → state.numbers ≡ facts.numbers → state.texts ≡ facts.texts
-      → state.pushes ≡ facts.pushes → Describes (run_behind count run) (leaving count (at_position p state)) unread kept
-      model.no_arguments
+  pub behind : (count : ℕ) (p : Position) (state : Facts)
+      → IsAt run p (fore_of kept) (back_of kept) unread kept.registers.pairs → state.held ≡ facts.held
+      → state.numbers ≡ facts.numbers → state.texts ≡ facts.texts → state.pushes ≡ facts.pushes
+      → Describes (run_behind count run) (leaving count (at_position p state)) unread kept model.no_arguments
   behind count p state i e f g k = let h = d.state in record {
     state = record {
       position = record {
         begin = i.begin;
         end = i.end;
-        fallen = each_dropped (HasFallen (around_of kept) unread) count p.falls run.turns i.fallen;
+        fallen = each_dropped (HasFallen (fore_of kept + unread)) count p.falls run.turns i.fallen;
         ahead = i.ahead;
         saved = i.saved;
-        digit = i.digit;
       };
       held = rw e h.held;
       registers = let r = h.registers in record { numbers = rw f r.numbers; texts = rw g r.texts };
       pushed = rw k h.pushed;
     };
-    pending = nothing_is facts.position.distances (around_of kept) now;
+    pending = nothing_is facts.position.distances (fore_of kept) (back_of kept) now;
     answers = tt;
   }
 
-  left_behind : (o : Option Position) → IsOn run (around_of kept) unread kept.registers.pairs o
+  left_behind : (o : Option Position) → IsOn run (fore_of kept) (back_of kept) unread kept.registers.pairs o
       → IsReached (run_behind 1 run) (option_map (leaving 1) (option_map (λ p. at_position p (facts_taken facts)) o))
       unread kept model.no_arguments
   left_behind None i = i
   left_behind (Some p) i = behind 1 p (facts_taken facts) i refl refl refl refl
 
-  told : (n : Numbers) (s : Value) (v : ℤ) → IsTold run facts.answer s (around_of kept) unread kept.registers.pairs v
-      → Takes n v → IsOn run (around_of kept) unread kept.registers.pairs
-      (position_by facts.rules n facts.answer s facts.position)
+  told : (n : Numbers) (s : Value) (v : ℤ)
+      → IsTold run facts.answer s (fore_of kept) (back_of kept) unread kept.registers.pairs v → Takes n v
+      → IsOn run (fore_of kept) (back_of kept) unread kept.registers.pairs (position_by n facts.answer s facts.position)
   told n s v i t = told_on run facts unread kept n facts.answer s v whole d.state i t
 
   -- a test
@@ -173,22 +173,22 @@ module _ (run : Run) (facts : Facts) (unread : ℕ) (kept : Kept) (arguments : m
   holding_takes test.Positive (pos (suc n)) true e = omega (arith, ints)
   holding_takes test.Positive (pos zero) false e = omega (arith, ints)
   holding_takes test.Positive (negsuc n) false e = omega (arith, ints)
-  holding_takes test.Letter (pos n) true e = omega (arith, ints)
+  holding_takes test.Letter v true e = tt
   holding_takes test.Letter v false e = tt
-  holding_takes test.Symbol (pos n) true e = omega (arith, ints)
+  holding_takes test.Symbol v true e = tt
   holding_takes test.Symbol v false e = tt
-  holding_takes test.Digit v true e = e
+  holding_takes test.Digit v true e = tt
   holding_takes test.Digit v false e = tt
-  holding_takes test.LetterOrDigit (pos n) true e = omega (arith, ints)
+  holding_takes test.LetterOrDigit v true e = tt
   holding_takes test.LetterOrDigit v false e = tt
-  holding_takes test.Lower (pos n) true e = omega (arith, ints)
+  holding_takes test.Lower v true e = tt
   holding_takes test.Lower v false e = tt
-  holding_takes test.Upper (pos n) true e = omega (arith, ints)
+  holding_takes test.Upper v true e = tt
   holding_takes test.Upper v false e = tt
   holding_takes t v b e = absurd (grind arith)
 
   tested : (t : Test) (s : Value) (v : ℤ) (b : Bool) → holds t v ≡ b
-      → IsTold run facts.answer s (around_of kept) unread kept.registers.pairs v
+      → IsTold run facts.answer s (fore_of kept) (back_of kept) unread kept.registers.pairs v
       → IsReached run (cond b (way (holding t) facts.answer s (facts_taken facts))
       (way (other (holding t)) facts.answer s (facts_taken facts))) unread kept (model.levels_after_taking arguments)
   tested t s v true e i = reached _ (told (holding t) s v i (holding_takes t v true e))
@@ -201,7 +201,8 @@ module _ (run : Run) (facts : Facts) (unread : ℕ) (kept : Kept) (arguments : m
         on = way (holding t) facts.answer n (facts_taken facts);
         away = way (other (holding t)) facts.answer n (facts_taken facts);
       })) (number_in arguments.level)
-  conditioned t = tells_then (λ s v. IsTold run facts.answer s (around_of kept) unread kept.registers.pairs v) _ _ _ _
+  conditioned t =
+      tells_then (λ s v. IsTold run facts.answer s (fore_of kept) (back_of kept) unread kept.registers.pairs v) _ _ _ _
       number_told (λ s v i l. tested t s v _ refl i)
 
   -- ; and :;
@@ -214,7 +215,7 @@ module _ (run : Run) (facts : Facts) (unread : ℕ) (kept : Kept) (arguments : m
   leaving_takes colons v b e = absurd (grind arith)
 
   leaves_or : (colons : ℕ) (s : Value) (v : ℤ) (b : Bool) → leaves colons v ≡ b
-      → IsTold run facts.answer s (around_of kept) unread kept.registers.pairs v
+      → IsTold run facts.answer s (fore_of kept) (back_of kept) unread kept.registers.pairs v
       → LeavingOr run unread kept arguments b
       (record {
         on = way (other (leaving_numbers colons)) facts.answer s (facts_taken facts);
@@ -231,7 +232,8 @@ module _ (run : Run) (facts : Facts) (unread : ℕ) (kept : Kept) (arguments : m
         away = option_map (leaving 1) (way (leaving_numbers colons) facts.answer n (facts_taken facts));
       }))
       (number_in arguments.level)
-  left colons = tells_then (λ s v. IsTold run facts.answer s (around_of kept) unread kept.registers.pairs v) _ _ _ _
+  left colons =
+      tells_then (λ s v. IsTold run facts.answer s (fore_of kept) (back_of kept) unread kept.registers.pairs v) _ _ _ _
       number_told (λ s v i l. leaves_or colons s v _ refl i)
 
   -- <
@@ -240,11 +242,11 @@ module _ (run : Run) (facts : Facts) (unread : ℕ) (kept : Kept) (arguments : m
 
   -- nothing else is pending there
   abbrev NoneLeft : Type 0
-  NoneLeft = ArePending (around_of kept) known.no_arguments (model.levels_after_taking arguments)
+  NoneLeft = ArePending (fore_of kept) (back_of kept) known.no_arguments (model.levels_after_taking arguments)
 
-  none_with : (outer : List KnownLevel) → AreEach (IsLevel (around_of kept)) outer arguments.outer
+  none_with : (outer : List KnownLevel) → AreEach (IsLevel (fore_of kept) (back_of kept)) outer arguments.outer
       → IfOk (cond (is_empty outer) (Ok tt) (Err refusal.Pending)) (λ (u : Unit {0}). NoneLeft)
-  none_with [] h = record { level = empty_is facts.position.distances (around_of kept) now; outer = h }
+  none_with [] h = record { level = empty_is facts.position.distances (fore_of kept) (back_of kept) now; outer = h }
   none_with (level ∷ outer) h = tt
 
   none_left : IfOk (none_pending (known.levels_after_taking facts.arguments)) (λ u. NoneLeft)
@@ -253,7 +255,22 @@ module _ (run : Run) (facts : Facts) (unread : ℕ) (kept : Kept) (arguments : m
   entered : (counted : Bool) → NoneLeft
       → Describes (run_in_turn unread kept run) (entering counted taken_facts) unread kept
       (model.levels_after_taking arguments)
-  entered counted none = search begun_fallen
+  entered counted none = let h = d.state in record {
+    state = record {
+      position = record {
+        begin = h.position.begin;
+        end = h.position.end;
+        fallen = (omega (arith, ints), h.position.fallen);
+        ahead = h.position.ahead;
+        saved = h.position.saved;
+      };
+      held = h.held;
+      registers = let r = h.registers in record { numbers = r.numbers; texts = r.texts };
+      pushed = h.pushed;
+    };
+    pending = none;
+    answers = tt;
+  }
 
   skipped : NoneLeft → Describes run taken_facts unread kept (model.levels_after_taking arguments)
   skipped none = record {
@@ -263,12 +280,12 @@ module _ (run : Run) (facts : Facts) (unread : ℕ) (kept : Kept) (arguments : m
     answers = tt;
   }
 
-  pub of_value : (s : Value) (v : ℤ) → IsValue (around_of kept) s v
+  pub of_value : (s : Value) (v : ℤ) → IsValue (fore_of kept) (back_of kept) s v
       → IsWithin (interval_of facts.position.distances s) v
-  of_value s v i = interval_of_in s facts.position.distances (around_of kept) v now.least (omega (arith, now.within))
-      (omega (arith, now.within)) i.is
+  of_value s v i = interval_of_in s facts.position.distances (fore_of kept) (back_of kept) v now.least
+      (omega (arith, now.within)) (omega (arith, now.within)) i.is
 
-  enters : (o : Option Value) (v : Option ℤ) → NoneLeft → IsOptional (IsValue (around_of kept)) o v
+  enters : (o : Option Value) (v : Option ℤ) → NoneLeft → IsOptional (IsValue (fore_of kept) (back_of kept)) o v
       → EntersOr run unread kept arguments v (iteration o taken_facts)
   enters None None none i = entered false none
   enters (Some s) (Some (pos (suc n))) none i =
@@ -309,24 +326,29 @@ module _ (run : Run) (facts : Facts) (unread : ℕ) (kept : Kept) (arguments : m
   up_to_positive (negsuc n) = omega (arith, ints)
 
   -- of a value in which neither distance counts positively, and of any other
-  by_interval : (s : Value) (v : ℤ) → IsValue (around_of kept) s v
+  by_interval : (s : Value) (v : ℤ) → IsValue (fore_of kept) (back_of kept) s v
       → v ≤ℤ pos (value (number (positive (interval_of facts.position.distances s).hi)) run.n)
   by_interval s v i = let w = of_value s v i in
       bounded_number _ v (omega (arith, ints, w, up_to_positive (interval_of facts.position.distances s).hi))
 
-  by_signs : (x y : Bool) (s : Value) (v : ℤ) → s.code ≡ None → int_le s.ahead (pos 0) ≡ x → int_le s.behind (pos 0) ≡ y
-      → IsValue (around_of kept) s v →
-      v ≤ℤ pos (value (number (cond (x && y) (positive s.hi) (positive (interval_of facts.position.distances s).hi)))
+  by_signs : (x y : Bool) (s : Value) (v : ℤ) → int_le s.ahead (pos 0) ≡ x → int_le s.behind (pos 0) ≡ y
+      → IsValue (fore_of kept) (back_of kept) s v
+      → v ≤ℤ pos (value (number (cond (x && y) (positive s.hi) (positive (interval_of facts.position.distances s).hi)))
       run.n)
-  by_signs true true s v c p q i = search (scaled_le, bounded_number, up_to_positive, arith, ints)
-  by_signs true false s v c p q i = by_interval s v i
-  by_signs false y s v c p q i = by_interval s v i
+  by_signs true true s v p q i =
+      let f : (pos (fore_of kept) *ℤ s.ahead) ≤ℤ (pos (fore_of kept) *ℤ pos 0) =
+      scaled_le (fore_of kept) s.ahead (pos 0) (omega (arith, ints)) in
+      let g : (pos (back_of kept) *ℤ s.behind) ≤ℤ (pos (back_of kept) *ℤ pos 0) =
+      scaled_le (back_of kept) s.behind (pos 0) (omega (arith, ints)) in
+      bounded_number (positive s.hi) v (omega (arith, ints, i.is.high, up_to_positive s.hi))
+  by_signs true false s v p q i = by_interval s v i
+  by_signs false y s v p q i = by_interval s v i
 
   -- the coefficients, the constant and the interval of a value, by themselves
   abbrev parts : ℤ → ℤ → ℤ → ℤ → Bool → Value
-  parts a b lo hi saved = record { ahead = a; behind = b; code = None; lo = lo; hi = hi; saved = saved }
+  parts a b lo hi saved = record { ahead = a; behind = b; lo = lo; hi = hi; saved = saved }
 
-  bounded_by : (a b lo hi : ℤ) (saved : Bool) (v : ℤ) → IsValue (around_of kept) (parts a b lo hi saved) v
+  bounded_by : (a b lo hi : ℤ) (saved : Bool) (v : ℤ) → IsValue (fore_of kept) (back_of kept) (parts a b lo hi saved) v
       → IfOk (bound_by a b (positive hi) (positive (interval_of facts.position.distances (parts a b lo hi saved)).hi)
       facts) (λ most. v ≤ℤ pos (value most run.n))
   bounded_by (pos (suc zero)) (pos (suc zero)) lo hi saved v i =
@@ -352,60 +374,48 @@ module _ (run : Run) (facts : Facts) (unread : ℕ) (kept : Kept) (arguments : m
       (omega (arith, ints, i.is.high, up_to_positive hi, d.state.position.ahead, whole.inside))
   bounded_by (pos (suc zero)) (pos (suc (suc zero))) lo hi saved v i =
       bounded_both (positive hi) v (omega (arith, ints, i.is.high, up_to_positive hi, d.state.held, whole.inside))
-  bounded_by a b lo hi saved v i = by_signs _ _ (parts a b lo hi saved) v refl refl refl i
+  bounded_by a b lo hi saved v i = by_signs _ _ (parts a b lo hi saved) v refl refl i
 
-  pub bound_is : (s : Value) (v : ℤ) → IsValue (around_of kept) s v
+  pub bound_is : (s : Value) (v : ℤ) → IsValue (fore_of kept) (back_of kept) s v
       → IfOk (bound_of s facts) (λ most. v ≤ℤ pos (value most run.n))
-  bound_is s v i = bounded s.code s.ahead s.behind s.lo s.hi s.saved v i where
-    bounded : (c : Option CharacterCode) (a b lo hi : ℤ) (saved : Bool) (v : ℤ)
-        → IsValue (around_of kept) (record { ahead = a; behind = b; code = c; lo = lo; hi = hi; saved = saved }) v
-        → IfOk (bound_of (record { ahead = a; behind = b; code = c; lo = lo; hi = hi; saved = saved }) facts)
-        (λ most. v ≤ℤ pos (value most run.n))
-    bounded None a b lo hi saved v i = bounded_by a b lo hi saved v i
-    bounded (Some c) a b lo hi saved v i =
-        by_interval (record { ahead = a; behind = b; code = Some c; lo = lo; hi = hi; saved = saved }) v i
+  bound_is s v i = bounded_by s.ahead s.behind s.lo s.hi s.saved v i
 
-  amount_and_one : (falling : Option Rank)
-      → IfOk (sum_of (measure_of falling facts) (number 1))
-      (λ most. amount_of falling (begun_at unread kept) + 1 ≤ value most run.n)
-  amount_and_one falling = on_sum falling _ (value-sum_of run.n (measure_of falling facts) (number 1)) where
-    on_sum : (falling : Option Rank) (r : Result Polynomial Refusal)
-        → IfOk r (λ most. value most run.n ≡ value (measure_of falling facts) run.n + value (number 1) run.n)
-        → IfOk r (λ most. amount_of falling (begun_at unread kept) + 1 ≤ value most run.n)
-    on_sum None (Ok most) e = omega (arith, value-number 1 run.n, d.state.position.ahead, e)
-    on_sum (Some rank.Ahead) (Ok most) e = omega (arith, value-number 1 run.n, d.state.position.ahead, e)
-    on_sum (Some rank.Held) (Ok most) e = omega (arith, value-number 1 run.n, d.state.held, e)
-    on_sum falling (Err why) e = tt
+  ahead_and_one : IfOk (sum_of facts.position.ahead (number 1)) (λ most. fore_of kept + unread + 1 ≤ value most run.n)
+  ahead_and_one = on_sum _ (value-sum_of run.n facts.position.ahead (number 1)) where
+    on_sum : (r : Result Polynomial Refusal)
+        → IfOk r (λ most. value most run.n ≡ value facts.position.ahead run.n + value (number 1) run.n)
+        → IfOk r (λ most. fore_of kept + unread + 1 ≤ value most run.n)
+    on_sum (Ok most) e = omega (arith, value-number 1 run.n, d.state.position.ahead)
+    on_sum (Err why) e = tt
 
-  turned : (falling : Option Rank) (r : Result Polynomial Refusal) (taken : Taken)
-      → IfOk r (λ most. AreTurns (value most run.n) (amount_of falling (begun_at unread kept)) taken.value)
-      → Tells (λ most (taken : Taken). AreTurns (value most run.n) (amount_of falling (begun_at unread kept))
-      taken.value) r (Ok taken)
-  turned falling (Ok most) taken h = λ l. h
-  turned falling (Err why) taken h = tt
+  turned : (r : Result Polynomial Refusal) (taken : Taken)
+      → IfOk r (λ most. AreTurns (value most run.n) (fore_of kept + unread) taken.value)
+      → Tells (λ most (taken : Taken). AreTurns (value most run.n) (fore_of kept + unread) taken.value) r (Ok taken)
+  turned (Ok most) taken h = λ l. h
+  turned (Err why) taken h = tt
 
-  turns_for : (falling : Option Rank) (o : Option Value) (v : Option ℤ) → IsOptional (IsValue (around_of kept)) o v
-      → IfOk (turns_of falling o facts)
-      (λ most. AreTurns (value most run.n) (amount_of falling (begun_at unread kept)) v)
-  turns_for falling None None i = amount_and_one falling
-  turns_for falling (Some s) (Some v) i = bound_is s v i
-  turns_for falling o v i = absurd (grind arith)
+  turns_for : (o : Option Value) (v : Option ℤ) → IsOptional (IsValue (fore_of kept) (back_of kept)) o v
+      → IfOk (turns_of o facts) (λ most. AreTurns (value most run.n) (fore_of kept + unread) v)
+  turns_for None None i = ahead_and_one
+  turns_for (Some s) (Some v) i = bound_is s v i
+  turns_for None (Some v) i = absurd i
+  turns_for (Some s) None i = absurd i
 
   iterated : Tells (λ edges (taken : Taken). EntersOr run unread kept arguments taken.value edges)
       (known.arguments_of facts.arguments.level >>= λ taken. none_pending (known.levels_after_taking facts.arguments)
-      >>= λ alone. turns_of None taken.value (transfers.without_answer facts) >>= λ most.
+      >>= λ alone. turns_of taken.value (transfers.without_answer facts) >>= λ most.
       Ok (iteration taken.value taken_facts)) (model.arguments_of arguments.level)
   iterated =
-      tells_then (IsTaken (around_of kept))
+      tells_then (IsTaken (fore_of kept) (back_of kept))
       (λ edges (taken : Taken). EntersOr run unread kept arguments taken.value edges) _ _ _ taking_is
       (λ own taken i.
       passes_with (λ (u : Unit {0}). NoneLeft)
       (λ edges (taken : Taken). EntersOr run unread kept arguments taken.value edges)
       (none_pending (known.levels_after_taking facts.arguments)) (Ok taken)
-      (λ alone. turns_of None own.value (transfers.without_answer facts) >>= λ most.
+      (λ alone. turns_of own.value (transfers.without_answer facts) >>= λ most.
       Ok (iteration own.value taken_facts)) none_left (λ alone none.
       passes (λ edges (taken : Taken). EntersOr run unread kept arguments taken.value edges)
-      (turns_of None own.value (transfers.without_answer facts)) (Ok taken)
+      (turns_of own.value (transfers.without_answer facts)) (Ok taken)
       (λ most. Ok (iteration own.value taken_facts)) (λ most l. enters own.value taken.value none i.value)))
 
   -- >
@@ -413,7 +423,7 @@ module _ (run : Run) (facts : Facts) (unread : ℕ) (kept : Kept) (arguments : m
       → EndsTurn run unread kept i.counted
       (record {
         on = cond i.counted (Some (leaving 1 (transfers.without_answer facts))) None;
-        away = Some (at_position (begun facts.rules (drop 1 facts.position.falls) facts.position)
+        away = Some (at_position (begun (drop 1 facts.position.falls) facts.position)
             (without_arguments (transfers.without_answer facts)));
       })
   at_end i outer = let h = d.state in record {
@@ -423,25 +433,25 @@ module _ (run : Run) (facts : Facts) (unread : ℕ) (kept : Kept) (arguments : m
           begin = h.position.begin;
           end = h.position.end;
           fallen = (
-            begun_fallen facts.rules unread kept whole.inside,
-            each_dropped (HasFallen (around_of kept) unread) 1 facts.position.falls run.turns h.position.fallen,
+            omega (arith, ints),
+            each_dropped (HasFallen (fore_of kept + unread)) 1 facts.position.falls
+                run.turns h.position.fallen,
           );
           ahead = h.position.ahead;
           saved = h.position.saved;
-          digit = h.position.digit;
         };
         held = h.held;
         registers = let r = h.registers in record { numbers = r.numbers; texts = r.texts };
         pushed = h.pushed;
       };
-      pending = nothing_is facts.position.distances (around_of kept) now;
+      pending = nothing_is facts.position.distances (fore_of kept) (back_of kept) now;
       answers = tt;
     };
     on = λ e. rw e (behind 1 facts.position (transfers.without_answer facts) h.position refl refl refl refl);
   }
 
   -- O
-  tagged : (leaves : ℕ) (o : Option Value) (v : Option ℤ) → IsOptional (IsValue (around_of kept)) o v
+  tagged : (leaves : ℕ) (o : Option Value) (v : Option ℤ) → IsOptional (IsValue (fore_of kept) (back_of kept)) o v
       → IfOk (without_value o) (λ alone. (v ≡ None) × Describes (run_behind leaves run)
       (leaving leaves (transfers.without_answer facts)) unread kept model.no_arguments)
   tagged leaves None None i = (
@@ -456,7 +466,7 @@ module _ (run : Run) (facts : Facts) (unread : ℕ) (kept : Kept) (arguments : m
       (known.arguments_of facts.arguments.level >>= λ taken. without_value taken.value >>= λ alone.
       Ok (record { on = None; away = Some (leaving leaves (transfers.without_answer facts)) }))
       (model.arguments_of arguments.level)
-  gone leaves = tells_then (IsTaken (around_of kept)) _ _ _ _ taking_is
+  gone leaves = tells_then (IsTaken (fore_of kept) (back_of kept)) _ _ _ _ taking_is
       (λ known taken i. alone_on _ taken (tagged leaves known.value taken.value i.value)) where
         alone_on : (r : Result (Unit {0}) Refusal) (taken : Taken)
             → IfOk r (λ alone. (taken.value ≡ None) × Describes (run_behind leaves run)
@@ -467,12 +477,6 @@ module _ (run : Run) (facts : Facts) (unread : ℕ) (kept : Kept) (arguments : m
             (Ok taken)
         alone_on (Ok u) taken h = λ l. h
         alone_on (Err why) taken h = tt
-
--- what is known of a digit may be forgotten
-pub forgotten_answer : (run : Run) (facts : Facts) (unread : ℕ) (kept : Kept) (arguments : model.Arguments)
-    → Describes run (transfers.without_answer facts) unread kept arguments
-    → Describes run (without_digit (transfers.without_answer facts)) unread kept arguments
-forgotten_answer run facts unread kept arguments d = search rules
 
 -- ---- the laws
 pub tests_are_sound : TestsAreSound
@@ -501,12 +505,12 @@ iterations_are_sound run facts unread kept arguments x whole d e =
     (iterated run facts unread kept arguments whole d)
 
 pub turns_are_sound : TurnsAreSound
-turns_are_sound run facts unread kept arguments falling whole d =
-    tells_then (IsTaken (around_of kept))
-    (λ most (taken : Taken). AreTurns (value most run.n) (amount_of falling (begun_at unread kept)) taken.value) _ _
-    _ (taking_is run facts unread kept arguments whole d)
-    (λ known taken i. turned run facts unread kept arguments whole d falling _ taken
-    (turns_for run facts unread kept arguments whole d falling known.value taken.value i.value))
+turns_are_sound run facts unread kept arguments whole d =
+    tells_then (IsTaken (fore_of kept) (back_of kept))
+    (λ most (taken : Taken). AreTurns (value most run.n) (fore_of kept + unread) taken.value) _ _ _
+    (taking_is run facts unread kept arguments whole d)
+    (λ known taken i. turned run facts unread kept arguments whole d _ taken
+    (turns_for run facts unread kept arguments whole d known.value taken.value i.value))
 
 pub tags_are_sound : TagsAreSound
 unfolding transfer
@@ -544,7 +548,6 @@ others_are_sound run facts unread kept arguments x d =
           (λ (edges : Edges). IsReached run edges.on unread kept arguments)) (sym e) n;
       call = λ c e.
           subst (λ k. IfOk (transfers.edges_of k x (transfers.answer_for k facts) (transfers.without_answer facts))
-          (λ (edges : Edges). IsReached run edges.on unread kept arguments)) (sym e)
-          (forgotten_answer run facts unread kept arguments n);
-      returns = forgotten_answer run facts unread kept arguments n;
+          (λ (edges : Edges). IsReached run edges.on unread kept arguments)) (sym e) n;
+      returns = n;
     }

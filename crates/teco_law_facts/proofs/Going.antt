@@ -77,7 +77,7 @@ arrives_comes : (run : Run) (held : Polynomial) (old : World) (kept : Kept) (arg
     → MatchOption o ⊥ (λ next. ComesTo run held old next arguments (record old { kept = kept }))
 arrives_comes run held old kept arguments None h = h
 arrives_comes run held old kept arguments (Some next) h =
-    record { described = h.described; less = omega arith; grown = omega (arith, h.grown) }
+    record { described = h.described; grown = omega (arith, h.grown) }
 
 pub on_comes : (run : Run) (held : Polynomial) (old : World) (kept : Kept) (arguments : model.Arguments) (edges : Edges)
     → ArrivesOn run held (unread_of old) old.kept edges (record { kept = kept; arguments = arguments })
@@ -155,7 +155,7 @@ flow_held : (f : Flow) (colons leaves : ℕ) (answer : Option Answer) (facts : F
 flow_held flow.Iterate colons leaves answer facts =
     ok_always (KeepsHeld facts) (taking.arguments_of facts.arguments.level) _
     (λ taken. ok_always (KeepsHeld facts) (none_pending (taking.levels_after_taking facts.arguments)) _
-    (λ alone. ok_always (KeepsHeld facts) (edge.turns_of None taken.value facts) _
+    (λ alone. ok_always (KeepsHeld facts) (edge.turns_of taken.value facts) _
     (λ most. entered_held taken.value (without_arguments facts))))
 flow_held flow.EndTurn colons leaves answer facts = ended_held facts.iterations facts
 flow_held flow.Leave colons leaves answer facts = left_or_held _ _ answer facts _
@@ -189,7 +189,7 @@ module _ (run : Run) (facts : Facts) (x : Placed) (edges : Edges) (s : State) (h
       → IfSome o (λ next. next.held ≡ facts.held) → IsReached other o u kept arguments
       → MatchOption o ⊥ (λ next. ComesTo other facts.held s.world next arguments s.world)
   reached other arguments None n e i = i
-  reached other arguments (Some next) n e i = record { described = i; less = omega arith; grown = rw e (omega arith) }
+  reached other arguments (Some next) n e i = record { described = i; grown = rw e (omega arith) }
 
   abbrev frame : Frame
   frame = s.frames.running

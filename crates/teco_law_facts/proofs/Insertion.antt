@@ -1,7 +1,7 @@
 -- I and TAB, and all that puts a text in the place of another.
-use Rattle.std.proofs.Common.{◌≡◌, ℕ, ◌+◌, ◌-◌, ◌≤◌, arith, refl, ap, ◌∙◌, ℤ, pos, negsuc, ◌+ℤ◌, ◌≤ℤ◌, List, [], ◌∷◌}
-use Rattle.std.proofs.Common.{take, drop, length, length-append, length-take, length-drop, Option, Some, None, Ok}
-use Rattle.std.proofs.Common.{Err, IfSome, Bool, true, false, cond, nat_le, ◌++◌}
+use Rattle.std.proofs.Common.{◌≡◌, ℕ, ◌+◌, ◌-◌, ◌≤◌, arith, refl, ℤ, pos, ◌+ℤ◌, ◌≤ℤ◌, List, [], ◌∷◌, length}
+use Rattle.std.proofs.Common.{length-append, length-take, length-drop, Option, Some, None, Ok, Err, IfSome, Bool}
+use Rattle.std.proofs.Common.{true, false, cond, nat_le, sym, subst}
 use Rattle.std.proofs.lemmas.Int.{ints}
 use Rattle.std.proofs.lemmas.Bool.Decides.{nat_tests}
 use Rattle.teco_base.specs.declared.TheConstants.{LIMIT}
@@ -19,62 +19,39 @@ use Rattle.teco_model.specs.declared.kind.Insertion.TheVariants.{Text, Tab}
 use Rattle.teco_poly.specs.Polynomial.{Polynomial, value, number}
 use Rattle.teco_law_facts.proofs.Shapes.{Shifts, Moves, Foretells, shift_leads, value-number}
 use Rattle.teco_verifier.specs.facts.Arguments.{KnownTaken}
-use Rattle.teco_law_facts.specs.Describes.{Run, IsWhole, Holds, IsTaken, IsOptional, fore_of, around_of, beyond_of}
+use Rattle.teco_law_facts.specs.Describes.{Run, IsWhole, Holds, IsTaken, IsOptional, fore_of, back_of}
 use Rattle.teco_verifier.specs.facts.Facts.{Facts}
 use Rattle.teco_verifier.specs.facts.Insertions as insertions
 use Rattle.teco_verifier.specs.facts.Shifts.{Shift, silent_behind}
 use Rattle.teco_verifier.specs.facts.Values.{IsValue}
 use Rattle.teco_verifier.specs.declared.values.Value.{Value}
-use Rattle.teco_verifier.specs.facts.Falls.{By}
-use Rattle.teco_law_facts.proofs.Falls.{Descends}
-use Rattle.teco_law_facts.proofs.Beyond.{behind_line, beyond_later, drop_joined}
-use Rattle.teco_law_facts.proofs.Near.{beyond_is}
-use Rattle.teco_law_facts.proofs.Deletion.{unmarked}
 
 module _ (run : Run) (facts : Facts) (unread : ℕ) (kept : Kept) (whole : IsWhole kept)
     (h : Holds run facts unread kept) where
   -- the shape of all that puts a text in the place of the characters from a up to b
-  abbrev put : ℕ → ℕ → List ℕ → Kept
-  put a b new = record kept {
-    text = text_after_replacement kept.text a b new;
-    pointer = a + length new;
-    last_length = length new;
-  }
-
-  pub put_long : (a b : ℕ) (new : List ℕ) → a ≤ b → b ≤ length kept.text
-      → length (text_after_replacement kept.text a b new) ≡ a + (length new + (length kept.text - b))
-  put_long a b new ordered inside =
-      omega (arith, length-append {A = ℕ}, length-take a kept.text, length-drop b kept.text)
-
-  pub put_beyond : (a b : ℕ) (new : List ℕ) → a ≤ b → b ≤ length kept.text
-      → beyond_of (put a b new) ≡ behind_line (drop b kept.text)
-  put_beyond a b new ordered inside =
-      beyond_is (put a b new) (omega (arith, put_long a b new ordered inside))
-      ∙ ap behind_line (drop_joined (a + length new) (take a kept.text ++ new) (drop b kept.text)
-      (omega (arith, length-append (take a kept.text) new, length-take a kept.text)))
-
-  put_by : (by : Option ℤ) (a b u : ℕ) (new : List ℕ) → a ≤ b → b ≤ length kept.text
-      → IfSome by (λ v. (pos (length kept.text - b) +ℤ v) ≤ℤ pos (fore_of kept))
-      → Descends (By by) (around_of kept) u (around_of (put a b new)) u
-  put_by None a b u new ordered inside i = tt
-  put_by (Some (pos v)) a b u new ordered inside i = (
-    omega (arith, ints, i, put_long a b new ordered inside),
-    omega (
-      arith,
-      put_beyond a b new ordered inside,
-      beyond_is kept whole.inside,
-      beyond_later kept.pointer b kept.text (omega (arith, ints, i, whole.inside)),
-    ),
-  )
-  put_by (Some (negsuc v)) a b u new ordered inside i = omega (arith, ints, i, put_long a b new ordered inside)
-
-  pub replaced_at : (shift : Shift) (by : Option ℤ) (a b : ℕ) (new : List ℕ) → shift.descent ≡ By by
-      → shift.digit ≡ None → a ≤ b → b ≤ length kept.text → shift.distances.back ≤ a + length new
-      → shift.distances.fore + b ≤ length kept.text → length new + shift.loss ≤ b - a + value shift.growth run.n
-      → IfSome by (λ v. (pos (length kept.text - b) +ℤ v) ≤ℤ pos (fore_of kept))
-      → (shift.ends ≡ false → b - a ≤ length new) → Shifts run.n shift kept (put a b new)
-  replaced_at shift by a b new descent digit ordered inside behind ahead grown fallen longer =
-      search (put_long, put_by, unmarked, arith)
+  pub replaced_at : (shift : Shift) (a b : ℕ) (new : List ℕ) → a ≤ b → b ≤ length kept.text
+      → shift.distances.back ≤ a + length new → shift.distances.fore + b ≤ length kept.text
+      → length new ≤ b - a + value shift.growth run.n
+      → IfSome shift.fall (λ v. (pos (length kept.text - b) +ℤ v) ≤ℤ pos (fore_of kept))
+      → (shift.ends ≡ false → b - a ≤ length new)
+      → Shifts run.n shift kept (record kept {
+        text = text_after_replacement kept.text a b new;
+        pointer = a + length new;
+        last_length = length new;
+      })
+  replaced_at shift a b new ordered inside behind ahead grown fallen longer =
+      let len : length (text_after_replacement kept.text a b new) ≡ a + (length new + (length kept.text - b)) =
+      omega (arith, length-append {A = ℕ}, length-take a kept.text, length-drop b kept.text) in
+      let fore : length (text_after_replacement kept.text a b new) - (a + length new) ≡ length kept.text - b =
+      omega arith in
+      record {
+        registers = refl;
+        behind = behind;
+        ahead = omega arith;
+        grown = omega arith;
+        fallen = subst (λ m. IfSome shift.fall (λ v. (pos m +ℤ v) ≤ℤ pos (fore_of kept))) (sym fore) fallen;
+        wider = λ e. omega (arith, whole.inside, longer e);
+      }
 
   -- such a text fits where what is held does
   pub replaced_within : (a b growth : ℕ) (new : List ℕ) → a ≤ b → b ≤ length kept.text → length new ≤ b - a + growth
@@ -91,9 +68,9 @@ module _ (run : Run) (facts : Facts) (unread : ℕ) (kept : Kept) (whole : IsWho
         last_length = length new;
       }))) (Err code.Ful))
   put_at m growth new true e k l f = (
-    replaced_at (insertions.insertion_of m growth facts.position.distances) (Some (pos 0)) kept.pointer kept.pointer
-        new refl refl (omega arith) whole.inside (omega (arith, h.position.begin))
-        (omega (arith, h.position.end, whole.inside)) (omega arith) (omega (arith, ints)) (λ e. omega arith),
+    replaced_at (insertions.insertion_of m growth facts.position.distances) kept.pointer kept.pointer new
+        (omega arith) whole.inside (omega (arith, h.position.begin)) (omega (arith, h.position.end, whole.inside))
+        (omega arith) (omega (arith, ints)) (λ e. omega arith),
     tt,
   )
   put_at m growth new false e k l f =
@@ -117,7 +94,7 @@ module _ (run : Run) (facts : Facts) (unread : ℕ) (kept : Kept) (whole : IsWho
       (omega (arith, value-number (length new) run.n))
 
   insertion_known : (i : Insertion) (text : List ℕ) (o : Option Value) (v : Option ℤ)
-      → IsOptional (IsValue (around_of kept)) o v
+      → IsOptional (IsValue (fore_of kept) (back_of kept)) o v
       → Foretells run facts unread kept (insertions.insertion_with i text o facts)
       (model_insertion.insertion_with i text v kept)
   insertion_known Text text None None j = length_foretold text
@@ -128,7 +105,7 @@ module _ (run : Run) (facts : Facts) (unread : ℕ) (kept : Kept) (whole : IsWho
   insertion_known i text o v j = absurd (grind arith)
 
   pub insertion_foretold : (i : Insertion) (e : Element) (known : KnownTaken) (taken : Taken)
-      → IsTaken (around_of kept) known taken
+      → IsTaken (fore_of kept) (back_of kept) known taken
       → Foretells run facts unread kept (insertions.insertion i e.text known facts)
       (model_insertion.insertion i e taken kept)
   insertion_foretold i e known taken j = insertion_known i e.text known.value taken.value j.value

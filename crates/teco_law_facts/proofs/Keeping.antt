@@ -47,8 +47,8 @@ use Rattle.teco_model.specs.declared.kind.Storage.TheVariants as storage_kind
 use Rattle.teco_model.specs.declared.kind.Typing.{Typing}
 use Rattle.teco_model.specs.declared.kind.Typing.TheVariants as typing_kind
 use Rattle.teco_model.specs.declared.pattern.Span.{Span}
-use Rattle.teco_law_facts.proofs.Near.{code_within, empty_whole}
-use Rattle.teco_law_facts.proofs.Asking.{number_short, number_fits}
+use Rattle.teco_law_facts.proofs.Near.{empty_whole}
+use Rattle.teco_law_facts.proofs.Asking.{number_short, number_fits, code_within}
 use Rattle.teco_law_facts.proofs.Bytes.{IsByte, all_taken, all_dropped, all_put, all_joined, range_bytes}
 use Rattle.teco_law_facts.proofs.Bytes.{replaced_bytes, byte_small, decimal_bytes, ok_then, ok_any, ok_if}
 use Rattle.teco_law_facts.proofs.Each.{all_at}

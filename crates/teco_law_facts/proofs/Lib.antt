@@ -1,6 +1,5 @@
 -- Lemmas of the laws.
 pub mod Steps
-pub mod Falls
 pub mod Numbers
 pub mod Quotients
 pub mod Pending
@@ -14,7 +13,6 @@ pub mod Bodies
 pub mod Worked
 pub mod Leading
 pub mod Lines
-pub mod Beyond
 pub mod Shapes
 pub mod Motion
 pub mod Deletion

@@ -45,7 +45,7 @@ written_refused (kind.Stack (stack.Pop r)) x facts e w = rw e refl
 written_refused (kind.Command (command.Storage (storage.Copy r))) x facts e w =
     taking_refused (execution (command.Storage (storage.Copy r)) x) (without_answer facts) (λ taken known.
     subst (λ library. IsErr (copy library x.element.colons r taken known)) (sym e)
-    (then_refused (part_named known.rules taken.first taken.value known.position.distances) _ (λ named. refl)))
+    (then_refused (part_named taken.first taken.value known.position.distances) _ (λ named. refl)))
 written_refused (kind.Command (command.Storage (storage.SetText r))) x facts e w =
     taking_refused (execution (command.Storage (storage.SetText r)) x) (without_answer facts) (λ taken known.
     subst (λ library. IsErr (own_text_storage library x.element.colons r x.element.text taken.value known)) (sym e)

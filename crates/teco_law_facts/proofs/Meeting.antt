@@ -1,15 +1,14 @@
 -- Where ways meet: what is known of each is true of both.
 use Rattle.std.proofs.Common.{◌≡◌, ℕ, ◌≤◌, arith, refl, List, [], ◌∷◌, length, Option, Some, None, Result, Ok, Err}
-use Rattle.std.proofs.Common.{IfOk, ok_or, Bool, true, false, cond, subst, sym}
+use Rattle.std.proofs.Common.{IfOk, ok_or, ◌+◌, ℤ}
 use Rattle.std.proofs.lemmas.Int.{ints, clamps}
 use Rattle.teco_poly.proofs.Lawful.{value_of_join}
 use Rattle.teco_poly.specs.Polynomial.{Polynomial, value, join}
 use Rattle.teco_verifier.specs.facts.Attempt.{◌>>=◌}
-use Rattle.teco_law_facts.specs.Describes.{Run, IsAt, AreEach, HasFallen, ArePushed, ArePending, around_of, Begun}
-use Rattle.teco_law_facts.specs.Describes.{IsMarked}
+use Rattle.teco_law_facts.specs.Describes.{Run, IsAt, AreEach, HasFallen, ArePushed, ArePending, fore_of, back_of}
 use Rattle.teco_verifier.specs.facts.Facts.{Position, Pushed, Facts, join_of, without_arguments}
-use Rattle.teco_verifier.specs.facts.Joins.{joined_falls, joined_mark, is_same_mark, nearer_of, joined_saved}
-use Rattle.teco_verifier.specs.facts.Joins.{joined_position, hull, hulls, joined_lengths, joined_pushes, none_pending}
+use Rattle.teco_verifier.specs.facts.Joins.{nearer_of, joined_saved, joined_position, hull, hulls, joined_lengths}
+use Rattle.teco_verifier.specs.facts.Joins.{joined_pushes, none_pending, smaller_fall, smaller_falls}
 use Rattle.teco_law_facts.specs.Laws.{MayMeet, MeetsBoth, JoinsAreSound}
 use Rattle.teco_verifier.specs.declared.values.Interval.{Interval}
 use Rattle.teco_verifier.specs.declared.values.Value.{Value}
@@ -22,12 +21,6 @@ use Rattle.teco_model.specs.Registers.{Pair}
 use Rattle.teco_model.specs.declared.arguments.Operator.{Operator}
 use Rattle.teco_verifier.specs.declared.refusal.Refusal.{Refusal}
 use Rattle.teco_verifier.specs.declared.refusal.Refusal.TheVariants as refusal
-use Rattle.teco_verifier.specs.declared.falls.DigitMark.{DigitMark}
-use Rattle.teco_verifier.specs.declared.falls.DigitMark.TheVariants.{Before, At}
-use Rattle.teco_verifier.specs.facts.Falls.{smaller_falls}
-use Rattle.teco_verifier.specs.declared.falls.Falls.{Falls}
-use Rattle.teco_law_facts.proofs.Falls.{less_smaller, less_smaller_too}
-use Rattle.teco_verifier.specs.facts.Values.{Surroundings}
 
 -- ---- polynomials
 pub record IsAbove (n : ℕ) (p q r : Polynomial) : Type 0 where
@@ -43,84 +36,65 @@ pub value-join_of : (n : ℕ) (p q : Polynomial) → IfOk (join_of p q) (IsAbove
 value-join_of n p q = value-join_at n p q _ refl
 
 -- ---- falls
-falls_both : (around : Surroundings) (unread : ℕ) (v w : Falls) (begun : Begun) → HasFallen around unread v begun
-    → HasFallen around unread (smaller_falls v w) begun
-falls_both around unread v w begun h = search (less_smaller, h.far, h.far_line)
+fall_left : (ahead begun : ℕ) (v w : Option ℤ) → HasFallen ahead v begun → HasFallen ahead (smaller_fall v w) begun
+fall_left ahead begun (Some v) (Some w) h = omega (arith, ints, clamps)
+fall_left ahead begun None w h = tt
+fall_left ahead begun (Some v) None h = tt
 
-falls_both_too : (around : Surroundings) (unread : ℕ) (v w : Falls) (begun : Begun) → HasFallen around unread w begun
-    → HasFallen around unread (smaller_falls v w) begun
-falls_both_too around unread v w begun h = search (less_smaller_too, h.far, h.far_line)
+fall_right : (ahead begun : ℕ) (v w : Option ℤ) → HasFallen ahead w begun → HasFallen ahead (smaller_fall v w) begun
+fall_right ahead begun (Some v) (Some w) h = omega (arith, ints, clamps)
+fall_right ahead begun None w h = tt
+fall_right ahead begun (Some v) None h = tt
 
-falls_left : (around : Surroundings) (unread : ℕ) (vs ws : List Falls) (turns : List Begun) → length vs ≡ length ws
-    → AreEach (HasFallen around unread) vs turns → AreEach (HasFallen around unread) (joined_falls vs ws) turns
-falls_left around unread [] [] turns l h = h
-falls_left around unread (v ∷ vs) (w ∷ ws) (begun ∷ turns) l h =
-    (falls_both around unread v w begun h.0, falls_left around unread vs ws turns (omega arith) h.1)
-falls_left around unread vs ws turns l h = absurd (grind arith)
+falls_left : (ahead : ℕ) (vs ws : List (Option ℤ)) (turns : List ℕ) → length vs ≡ length ws
+    → AreEach (HasFallen ahead) vs turns → AreEach (HasFallen ahead) (smaller_falls vs ws) turns
+falls_left ahead [] [] turns l h = h
+falls_left ahead (v ∷ vs) (w ∷ ws) (begun ∷ turns) l h =
+    (fall_left ahead begun v w h.0, falls_left ahead vs ws turns (omega arith) h.1)
+falls_left ahead (v ∷ vs) (w ∷ ws) [] l h = absurd h
+falls_left ahead [] (w ∷ ws) turns l h = absurd (omega arith)
+falls_left ahead (v ∷ vs) [] turns l h = absurd (omega arith)
 
-falls_right : (around : Surroundings) (unread : ℕ) (vs ws : List Falls) (turns : List Begun) → length vs ≡ length ws
-    → AreEach (HasFallen around unread) ws turns → AreEach (HasFallen around unread) (joined_falls vs ws) turns
-falls_right around unread [] [] turns l h = h
-falls_right around unread (v ∷ vs) (w ∷ ws) (begun ∷ turns) l h =
-    (falls_both_too around unread v w begun h.0, falls_right around unread vs ws turns (omega arith) h.1)
-falls_right around unread vs ws turns l h = absurd (grind arith)
-
--- ---- digits
-same_mark : (m n : DigitMark) → is_same_mark m n ≡ true → m ≡ n
-same_mark Before Before e = refl
-same_mark At At e = refl
-same_mark m n e = absurd (grind arith)
-
-mark_left : (around : Surroundings) (m n : Option DigitMark) → IsMarked around m → IsMarked around (joined_mark m n)
-mark_left around None n h = tt
-mark_left around (Some m) None h = tt
-mark_left around (Some m) (Some n) h = by (is_same_mark m n) where
-  by : (b : Bool) → IsMarked around (cond b (Some m) None)
-  by true = h
-  by false = tt
-
-mark_right : (around : Surroundings) (m n : Option DigitMark) → IsMarked around n → IsMarked around (joined_mark m n)
-mark_right around None n h = tt
-mark_right around (Some m) None h = tt
-mark_right around (Some m) (Some n) h = by _ refl where
-  by : (b : Bool) → is_same_mark m n ≡ b → IsMarked around (cond b (Some m) None)
-  by true e = subst (λ m. IsMarked around (Some m)) (sym (same_mark m n e)) h
-  by false e = tt
+falls_right : (ahead : ℕ) (vs ws : List (Option ℤ)) (turns : List ℕ) → length vs ≡ length ws
+    → AreEach (HasFallen ahead) ws turns → AreEach (HasFallen ahead) (smaller_falls vs ws) turns
+falls_right ahead [] [] turns l h = h
+falls_right ahead (v ∷ vs) (w ∷ ws) (begun ∷ turns) l h =
+    (fall_right ahead begun v w h.0, falls_right ahead vs ws turns (omega arith) h.1)
+falls_right ahead (v ∷ vs) (w ∷ ws) [] l h = absurd h
+falls_right ahead [] (w ∷ ws) turns l h = absurd (omega arith)
+falls_right ahead (v ∷ vs) [] turns l h = absurd (omega arith)
 
 -- ---- positions
 pub record IsJoin (run : Run) (p q j : Position) : Type 0 where
-  pub left : (around : Surroundings) (unread : ℕ) (pairs : List Pair) → IsAt run p around unread pairs
-      → IsAt run j around unread pairs
-  pub right : (around : Surroundings) (unread : ℕ) (pairs : List Pair) → IsAt run q around unread pairs
-      → IsAt run j around unread pairs
+  pub left : (fore back unread : ℕ) (pairs : List Pair) → IsAt run p fore back unread pairs
+      → IsAt run j fore back unread pairs
+  pub right : (fore back unread : ℕ) (pairs : List Pair) → IsAt run q fore back unread pairs
+      → IsAt run j fore back unread pairs
 
 position_with : (run : Run) (p q : Position) → length p.falls ≡ length q.falls → length p.saved ≡ length q.saved
     → (r : Result Polynomial Refusal) → IfOk r (IsAbove run.n p.ahead q.ahead)
     → IfOk (r >>= λ ahead. Ok (record {
       distances = nearer_of p.distances q.distances;
-      falls = joined_falls p.falls q.falls;
+      falls = smaller_falls p.falls q.falls;
       ahead = ahead;
       saved = joined_saved p.saved q.saved;
-      digit =
-          joined_mark p.digit q.digit;
     })) (IsJoin run p q)
 position_with run p q l k (Err why) a = tt
 position_with run p q l k (Ok ahead) a = record {
-  left = λ around unread pairs h. record {
+  left = λ fore back unread pairs h. record {
     begin = omega (arith, h.begin);
     end = omega (arith, h.end);
-    fallen = falls_left around unread p.falls q.falls run.turns l h.fallen;
+    fallen = falls_left (fore + unread) p.falls q.falls run.turns l h.fallen;
     ahead = omega (arith, a.left, h.ahead);
-    saved = saved_left around p.saved q.saved pairs k h.saved;
-    digit = mark_left around p.digit q.digit h.digit;
+    saved = saved_left fore back p.saved q.saved pairs k h.saved;
   };
-  right = λ around unread pairs h. record {
+  right = λ fore back unread pairs h. record {
     begin = omega (arith, h.begin);
     end = omega (arith, h.end);
-    fallen = falls_right around unread p.falls q.falls run.turns l h.fallen;
-    ahead = omega (arith, a.right, h.ahead);
-    saved = saved_right around p.saved q.saved pairs k h.saved;
-    digit = mark_right around p.digit q.digit h.digit;
+    fallen = falls_right (fore + unread) p.falls q.falls run.turns l h.fallen;
+    ahead =
+        omega (arith, a.right, h.ahead);
+    saved = saved_right fore back p.saved q.saved pairs k h.saved;
   };
 }
 
@@ -220,8 +194,8 @@ pushes_both (s ∷ ss) [] = tt
 
 -- ---- nothing is pending
 abbrev IsNone : KnownArguments → Type 0
-IsNone known = (around : Surroundings) (arguments : Arguments) → ArePending around known arguments
-    → ArePending around no_arguments arguments
+IsNone known = (fore back : ℕ) (arguments : Arguments) → ArePending fore back known arguments
+    → ArePending fore back no_arguments arguments
 
 none_at : (first value : Option Value) (operator : Option Operator) (outer : List KnownLevel)
     → IfOk (none_pending (record {
@@ -231,7 +205,7 @@ none_at : (first value : Option Value) (operator : Option Operator) (outer : Lis
       level = record { first = first; value = value; operator = operator };
       outer = outer;
     }))
-none_at None None None [] = λ around arguments h.
+none_at None None None [] = λ fore back arguments h.
     record {
       level = record { first = h.level.first; value = h.level.value; operator = h.level.operator };
       outer = h.outer;
@@ -260,7 +234,7 @@ met : (facts others : Facts) → MayMeet facts others → IsNone facts.arguments
 met facts others m p q pushes s position j held a texts t = record {
   one = λ run unread kept arguments d. let h = d.state in record {
     state = record {
-      position = (j run).left (around_of kept) unread kept.registers.pairs h.position;
+      position = (j run).left (fore_of kept) (back_of kept) unread kept.registers.pairs h.position;
       held = omega (arith, (a run.n).left, h.held);
       registers =
           record {
@@ -269,12 +243,12 @@ met facts others m p q pushes s position j held a texts t = record {
           };
       pushed = s.left run.n run.below kept.registers.stack h.pushed;
     };
-    pending = p (around_of kept) arguments d.pending;
+    pending = p (fore_of kept) (back_of kept) arguments d.pending;
     answers = tt;
   };
   other = λ run unread kept arguments d. let h = d.state in record {
     state = record {
-      position = (j run).right (around_of kept) unread kept.registers.pairs h.position;
+      position = (j run).right (fore_of kept) (back_of kept) unread kept.registers.pairs h.position;
       held = omega (arith, (a run.n).right, h.held);
       registers =
           record {
@@ -284,7 +258,7 @@ met facts others m p q pushes s position j held a texts t = record {
           };
       pushed = s.right run.n run.below kept.registers.stack h.pushed;
     };
-    pending = q (around_of kept) arguments d.pending;
+    pending = q (fore_of kept) (back_of kept) arguments d.pending;
     answers = tt;
   };
 }

@@ -1,7 +1,7 @@
 -- Each element proceeds along its edges.
 use Rattle.std.proofs.Common.{ap, drop, ◌∙◌, ◌≡◌, ℕ, zero, suc, ◌+◌, ◌≤◌, arith, refl, sym, subst, ℤ, pos, negsuc}
 use Rattle.std.proofs.Common.{List, [], ◌∷◌, Bool, true, false, ◌||◌, nat_lt, Option, Some, None, IfSome, MatchOption}
-use Rattle.std.proofs.Common.{Result, Ok, Err, IfOk, inl, inr, cond, ◌&&◌}
+use Rattle.std.proofs.Common.{Result, Ok, Err, IfOk, inl, inr}
 use Rattle.std.proofs.lemmas.Bool.Decides.{nat_tests}
 use Rattle.teco_base.specs.declared.code.Code.{Code}
 use Rattle.teco_base.specs.declared.code.Code.TheVariants as code
@@ -28,7 +28,6 @@ use Rattle.teco_model.specs.declared.kind.Flow.{Flow}
 use Rattle.teco_model.specs.declared.kind.Kind.{Kind}
 use Rattle.teco_model.specs.declared.kind.Kind.TheVariants as kind
 use Rattle.teco_model.specs.declared.kind.Search.{Search}
-use Rattle.teco_model.specs.declared.kind.Search.TheVariants as search
 use Rattle.teco_poly.specs.Polynomial.{Polynomial}
 use Rattle.teco_law_facts.proofs.Flowing.{others_are_sound}
 use Rattle.teco_law_facts.proofs.Going.{leads_at, ok_at, then_so, of_one, on_comes, goes_behind, flow_goes}
@@ -42,13 +41,11 @@ use Rattle.teco_law_facts.specs.SoundFlow.{IsReached}
 use Rattle.teco_law_facts.specs.SoundPages.{ComesTo, Comes}
 use Rattle.teco_law_facts.specs.SoundSearches.{answer_where, IsInBuffer, MissArrives, SearchArrives, finding}
 use Rattle.teco_law_facts.specs.SoundSeeking.{IsInPages, facts_seeking, IsSeeking, ComesAway, MissComes, LooksOn}
-use Rattle.teco_law_facts.specs.SoundSeeking.{Seeks, pages_left}
+use Rattle.teco_law_facts.specs.SoundSeeking.{Seeks}
 use Rattle.teco_law_facts.specs.SoundSteps.{LeadsAhead, IsInside, KindStands, FlowStands, BeginsAt, GoesBehind}
-use Rattle.teco_law_facts.specs.SoundSteps.{FlowGoes, KindEnds, Proceeds, unread_left}
+use Rattle.teco_law_facts.specs.SoundSteps.{FlowGoes, KindEnds, Proceeds}
 use Rattle.teco_verifier.specs.facts.Transfer as transfers
 use Rattle.teco_verifier.specs.facts.Transfer.{Placed, transfer}
-use Rattle.teco_verifier.specs.facts.Printed.{is_in_pages}
-use Rattle.teco_verifier.specs.facts.Falls.{is_second}
 
 -- a search that counts as having no colon has none
 no_colons : (colons : ℕ) (leave : Bool) → (nat_lt 0 colons || leave) ≡ false → colons ≡ 0
@@ -86,7 +83,7 @@ away_comes : (run : Run) (held : Polynomial) (old : World) (kept : Kept) (argume
     → MatchOption o ⊥ (λ next. ComesTo run held old next arguments (record old { kept = kept }))
 away_comes run held old kept arguments None h = h
 away_comes run held old kept arguments (Some next) h =
-    record { described = h.described; less = omega arith; grown = omega (arith, h.grown) }
+    record { described = h.described; grown = omega (arith, h.grown) }
 
 all_away : (run : Run) (held : Polynomial) (old : World) (kept : Kept) (o : Option Facts)
     → ((typed : List ℕ) → MatchOption o ⊥
@@ -121,13 +118,13 @@ module _ (run : Run) (facts : Facts) (x : Placed) (edges : Edges) (s : State) (h
   Passes new = GoesBehind run facts.held edges x.element s new
 
   -- ---- on behind an element
-  pub outcome_goes : (k : Kind) (most : ℕ) → ((unread : ℕ) → unread_left k facts unread + 1 ≤ most)
+  pub outcome_goes : (k : Kind) (most : ℕ) → 1 ≤ most
       → ((new : State) → Passes new → KindEnds k run facts x edges s new) → (r : Result After Code)
       → Succeeds (ArrivesOn run facts.held u s.world.kept edges) r
       → Goes k most (settle x.element s (on_editor s.left s.world r))
   outcome_goes k most some i (Err c) g = absurd g
   outcome_goes k most some i (Ok done) g =
-      inl (some _, i _ (goes_behind run facts.held edges x.element s h.left (Ok done) g))
+      inl (some, i _ (goes_behind run facts.held edges x.element s h.left (Ok done) g))
 
   -- ---- flow and calls
   flow_on : (f : Flow) (most : ℕ) → 1 ≤ most → (r : Result Turn Code) → flows.turn_of f x.element s.arguments frame ≡ r
@@ -145,7 +142,7 @@ module _ (run : Run) (facts : Facts) (x : Placed) (edges : Edges) (s : State) (h
       → MatchOption o ⊥ (λ next. Describes run next u s.world.kept s.arguments)
       → MatchOption o ⊥ (λ next. ComesTo run facts.held s.world next s.arguments s.world)
   stays_comes None e i = i
-  stays_comes (Some next) e i = record { described = i; less = omega arith; grown = rw e (omega arith) }
+  stays_comes (Some next) e i = record { described = i; grown = rw e (omega arith) }
 
   pub call_proceeds : (c : Call) (most : ℕ) → 1 ≤ most → x.element.kind ≡ kind.Call c
       → Goes (kind.Call c) most (settle x.element s (Ok (stepping.call_reply c s)))
@@ -160,23 +157,9 @@ module _ (run : Run) (facts : Facts) (x : Placed) (edges : Edges) (s : State) (h
     },
   )
 
-  -- what is left is no more than what is unread, and in the buffer nothing
-  left_up : {most : ℕ} (q : Search) (unread : ℕ) → unread + 1 ≤ most → pages_left q facts unread + 1 ≤ most
-  left_up {most = most} q unread l = by (is_in_pages q && is_second facts.rules) where
-    by : (b : Bool) → cond b unread 0 + 1 ≤ most
-    by true = l
-    by false = omega (arith, l)
-
-  in_buffer_left : {most : ℕ} (q : Search) → IsInBuffer q → (unread : ℕ) → 1 ≤ most
-      → pages_left q facts unread + 1 ≤ most
-  in_buffer_left search.Find b unread l = l
-  in_buffer_left search.Replace b unread l = l
-  in_buffer_left q b unread l = absurd (grind arith)
-
   -- ---- searches
-  module _ (q : Search) (of_search : x.element.kind ≡ kind.Search q) (most cap : ℕ) (some : (unread : ℕ) → unread ≤ cap
-      → pages_left q facts unread + 1 ≤ most) (stands : x.colon ≡ false
-      → IsInside facts frame × LeadsAhead x.element frame) where
+  module _ (q : Search) (of_search : x.element.kind ≡ kind.Search q) (most : ℕ) (some : 1 ≤ most)
+      (stands : x.colon ≡ false → IsInside facts frame × LeadsAhead x.element frame) where
     -- what is pending behind a search that took its arguments
     abbrev rest : model.Arguments
     rest = model.levels_after_taking s.arguments
@@ -187,21 +170,22 @@ module _ (run : Run) (facts : Facts) (x : Placed) (edges : Edges) (s : State) (h
         (settle x.element (record s { world = now; arguments = arguments; left = left }) r)
 
     found_goes : (answer : Option ℤ) (world now : World) (arguments : model.Arguments) (before left : Option ℕ)
-        → unread_of world ≤ cap → left ≡ None
-        → Comes run facts.held s.world (model.levels_after_answer answer rest) edges world
+        → left ≡ None → Comes run facts.held s.world (model.levels_after_answer answer rest) edges world
         → Replies now arguments before (Ok (replying Behind left (model.levels_after_answer answer rest) world))
-    found_goes answer world now arguments before left few l c =
-        inl (some (unread_of world) few, inl (record { comes = c; frames = refl; done = l }))
+    found_goes answer world now arguments before left l c =
+        inl (some, inl (record { comes = c; frames = refl; done = l }))
 
-    met_goes : (world now : World) (arguments : model.Arguments) (before left : Option ℕ) → unread_of world ≤ cap
-        → left ≡ None → Comes run facts.held s.world (model.levels_after_answer (answer_where x.colon (negsuc 0)) rest)
-        edges world → Replies now arguments before
-        (Ok (outcomes.met (outcomes.miss_where x.colon x.element frame) left rest world))
-    met_goes world now arguments before left few l c = search (answers_where, found_goes)
+    met_goes : (world now : World) (arguments : model.Arguments) (before left : Option ℕ) → left ≡ None
+        → Comes run facts.held s.world (model.levels_after_answer (answer_where x.colon (negsuc 0)) rest) edges world
+        → Replies now arguments before (Ok (outcomes.met (outcomes.miss_where x.colon x.element frame) left rest world))
+    met_goes world now arguments before left l c =
+        subst (λ answer. Replies now arguments before
+        (Ok (replying Behind left (model.levels_after_answer answer rest) world)))
+        (sym (answers_where x.colon x.element frame))
+        (found_goes (answer_where x.colon (negsuc 0)) world now arguments before left l c)
 
-    module _ (stays missed now : World) (arguments : model.Arguments) (before left : Option ℕ)
-        (few : unread_of missed ≤ cap) (l : left ≡ None) (colon : x.colon ≡ false)
-        (c : ComesAway (run_behind 1 run) facts.held s.world edges missed) where
+    module _ (stays missed now : World) (arguments : model.Arguments) (before left : Option ℕ) (l : left ≡ None)
+        (colon : x.colon ≡ false) (c : ComesAway (run_behind 1 run) facts.held s.world edges missed) where
       -- a jump that leaves one iteration
       record LeavesOne (turn : Turn) : Type 0 where
         none : turn.arguments ≡ model.no_arguments
@@ -214,7 +198,7 @@ module _ (run : Run) (facts : Facts) (x : Placed) (edges : Edges) (s : State) (h
       leaves_by loop outer w (Ok turn) e g =
           let rest : turn.frame.loops ≡ outer = g.loops ∙ ap (drop 1) w in
           inl (
-            some (unread_of missed) few,
+            some,
             inr (
               colon,
               record {
@@ -252,58 +236,55 @@ module _ (run : Run) (facts : Facts) (x : Placed) (edges : Edges) (s : State) (h
     at_begin zero kept e = refl
     at_begin (suc colons) kept e = absurd (cc)
 
-    missed_goes : unread_of s.world ≤ cap → (colon : Bool) → x.colon ≡ colon → (colon ≡ false → x.element.colons ≡ 0)
-        → (new : Kept) → MissArrives colon run facts.held u s.world.kept s.arguments x.element.colons edges new →
+    missed_goes : (colon : Bool) → x.colon ≡ colon → (colon ≡ false → x.element.colons ≡ 0) → (new : Kept)
+        → MissArrives colon run facts.held u s.world.kept s.arguments x.element.colons edges new →
         Replies s.world s.arguments s.left
         (Ok (outcomes.missed (outcomes.miss_where colon x.element frame) s.left rest (record s.world { kept = new })
         (record s.world { kept = outcomes.kept_by_miss x.element.colons new })))
-    missed_goes few true e z new m = found_goes (Some (pos 0)) _ s.world s.arguments s.left s.left few h.left
+    missed_goes true e z new m = found_goes (Some (pos 0)) _ s.world s.arguments s.left s.left h.left
         (on_comes run facts.held s.world _ _ edges m)
-    missed_goes few false e z new m =
-        leaves_goes _ (record s.world { kept = outcomes.kept_by_miss x.element.colons new }) s.world s.arguments s.left
-        s.left few h.left e (subst (λ kept. ComesAway (run_behind 1 run) facts.held s.world edges
-        (record s.world { kept = kept })) (sym (at_begin x.element.colons new (z refl)))
+    missed_goes false e z new m = leaves_goes _ _ s.world s.arguments s.left s.left h.left e
+        (subst (λ kept. ComesAway (run_behind 1 run) facts.held s.world edges (record s.world { kept = kept }))
+        (sym (at_begin x.element.colons new (z refl)))
         (all_away (run_behind 1 run) facts.held s.world (outcomes.at_start new) edges.away m))
 
-    finding_goes : unread_of s.world ≤ cap → (x.colon ≡ false → x.element.colons ≡ 0) → (r : Result Finding Code)
+    finding_goes : (x.colon ≡ false → x.element.colons ≡ 0) → (r : Result Finding Code)
         → Succeeds (SearchArrives run facts.held u s.world.kept s.arguments x edges) r
         → Replies s.world s.arguments s.left
         (r >>>= λ finding. Ok (outcomes.found x.element (outcomes.miss_where x.colon x.element frame) s.left rest
         s.world finding))
-    finding_goes few z (Err c) g = absurd g
-    finding_goes few z (Ok (Found new)) g =
-        met_goes _ s.world s.arguments s.left s.left few h.left (on_comes run facts.held s.world new _ edges g)
-    finding_goes few z (Ok (Missed new)) g = missed_goes few x.colon refl z new g
+    finding_goes z (Err c) g = absurd g
+    finding_goes z (Ok (Found new)) g =
+        met_goes _ s.world s.arguments s.left s.left h.left (on_comes run facts.held s.world new _ edges g)
+    finding_goes z (Ok (Missed new)) g = missed_goes x.colon refl z new g
 
     -- the arguments are taken first
-    taken_goes : unread_of s.world ≤ cap → (x.colon ≡ false → x.element.colons ≡ 0) → (r : Result Taken Code)
+    taken_goes : (x.colon ≡ false → x.element.colons ≡ 0) → (r : Result Taken Code)
         → Succeeds (SearchArrives run facts.held u s.world.kept s.arguments x edges)
         (r >>>= λ taken. searching.search q x.element taken s.world.kept) →
         Replies s.world s.arguments s.left
         (r >>>= λ taken. searching.search q x.element taken s.world.kept >>>= λ finding.
         Ok (outcomes.found x.element (outcomes.miss_where x.colon x.element frame) s.left rest s.world finding))
-    taken_goes few z (Err c) g = absurd g
-    taken_goes few z (Ok taken) g = finding_goes few z _ g
+    taken_goes z (Err c) g = absurd g
+    taken_goes z (Ok taken) g = finding_goes z _ g
 
     -- N and FN
     through_goes : (colon : Bool) → x.colon ≡ colon
-        → (last missed now : World) (arguments : model.Arguments) (before : Option ℕ) → unread_of missed ≤ cap
+        → (last missed now : World) (arguments : model.Arguments) (before : Option ℕ)
         → MissComes colon run facts.held s.world s.arguments edges missed
         → Replies now arguments before (Ok
         (outcomes.missed (outcomes.miss_where colon x.element frame) None rest last missed))
-    through_goes true e last missed now arguments before few m =
-        found_goes (Some (pos 0)) missed now arguments before None few refl m
-    through_goes false e last missed now arguments before few m =
-        leaves_goes last missed now arguments before None few refl e m
+    through_goes true e last missed now arguments before m =
+        found_goes (Some (pos 0)) missed now arguments before None refl m
+    through_goes false e last missed now arguments before m = leaves_goes last missed now arguments before None refl e m
 
     pub looked_goes : IsInPages q → (now : World) (arguments : model.Arguments) (before : Option ℕ)
-        → unread_of now ≤ cap → unread_of now + 1 ≤ most → (r : Result Looked Code)
+        → unread_of now + 1 ≤ most → (r : Result Looked Code)
         → Succeeds (LooksOn run (facts_seeking facts) s.world s.arguments x edges now) r
         → Replies now arguments before (outcomes.looking (outcomes.miss_where x.colon x.element frame) rest r)
-    looked_goes p now arguments before few b (Err c) g = absurd g
-    looked_goes p now arguments before few b (Ok (Met new)) g =
-        met_goes new now arguments before None (omega (arith, few, g.1)) refl g.0
-    looked_goes p now arguments before few b (Ok (Turned n new)) g = inr (
+    looked_goes p now arguments before b (Err c) g = absurd g
+    looked_goes p now arguments before b (Ok (Met new)) g = met_goes new now arguments before None refl g
+    looked_goes p now arguments before b (Ok (Turned n new)) g = inr (
       unread_of new + 1,
       omega (arith, g.1, b),
       record {
@@ -314,22 +295,22 @@ module _ (run : Run) (facts : Facts) (x : Placed) (edges : Edges) (s : State) (h
         work = (p, (n, refl), omega arith, g.0);
       },
     )
-    looked_goes p now arguments before few b (Ok (Through last)) g =
-        through_goes x.colon refl last (paging.looked_through last) now arguments before (omega (arith, few, g.1)) g.0
+    looked_goes p now arguments before b (Ok (Through last)) g =
+        through_goes x.colon refl last (paging.looked_through last) now arguments before g
 
-    first_goes : IsInPages q → unread_of s.world ≤ cap → unread_of s.world + 1 ≤ most → (r : Result Taken Code)
+    first_goes : IsInPages q → unread_of s.world + 1 ≤ most → (r : Result Taken Code)
         → Succeeds (LooksOn run (facts_seeking facts) s.world s.arguments x edges s.world)
         (r >>>= λ taken. paging.look_first q x.element taken s.world) →
         Replies s.world s.arguments s.left
         (r >>>= λ taken. outcomes.looking (outcomes.miss_where x.colon x.element frame) rest
         (paging.look_first q x.element taken s.world))
-    first_goes p few b (Err c) g = absurd g
-    first_goes p few b (Ok taken) g = looked_goes p s.world s.arguments s.left few b _ g
+    first_goes p b (Err c) g = absurd g
+    first_goes p b (Ok taken) g = looked_goes p s.world s.arguments s.left b _ g
 
   has_none : x.colon ≡ false → x.element.colons ≡ 0
   has_none e = no_colons x.element.colons (outcomes.is_leave _) (subst (λ colon. colon ≡ false) h.colon e)
 
-  pub search_proceeds : (q : Search) (most : ℕ) → 1 ≤ most → FitsOn run edges → IsInBuffer q
+  pub search_proceeds : (q : Search) (most : ℕ) → 1 ≤ most → FitsOn run.n edges → IsInBuffer q
       → x.element.kind ≡ kind.Search q → KindStands (kind.Search q) facts x frame →
       Goes (kind.Search q) most (settle x.element s
       (outcomes.found_in_buffer q x.element (outcomes.miss_of x.element frame) s.left s.arguments s.world))
@@ -337,18 +318,18 @@ module _ (run : Run) (facts : Facts) (x : Placed) (edges : Edges) (s : State) (h
       subst (λ colon. Goes (kind.Search q) most
       (settle x.element s (outcomes.found_in_buffer q x.element (outcomes.miss_where colon x.element frame) s.left
       s.arguments s.world))) h.colon
-      (taken_goes q e most u (λ unread l. in_buffer_left q b unread some) k (omega arith) has_none
-      (model.arguments_of s.arguments.level)
-      (leads_at (FitsOn run) _ (transfer x facts) (finding q x.element s.world.kept s.arguments) edges t fits
+      (taken_goes q e most some k has_none (model.arguments_of s.arguments.level)
+      (leads_at (FitsOn run.n) _ (transfer x facts) (finding q x.element s.world.kept s.arguments) edges t fits
       (searches_are_sound run facts u s.world.kept s.arguments x q h.whole.world.kept h.described e b has_none)))
 
-  searched : (q : Search) → FitsOn run edges → IsInPages q → x.element.kind ≡ kind.Search q → (output : Output)
+  searched : (q : Search) → FitsOn run.n edges → IsInPages q → x.element.kind ≡ kind.Search q → (output : Output)
       → s.world.files.output ≡ Some output → Succeeds (Seeks run (facts_seeking facts) s.world s.arguments x q edges)
       (model.arguments_of s.arguments.level)
-  searched q fits b e output o = leads_at (FitsOn run) _ (transfer x facts) (model.arguments_of s.arguments.level) edges
-      t fits (page_searches_are_sound run facts s.world s.arguments x q output h.whole.world.kept h.described e b o)
+  searched q fits b e output o = leads_at (FitsOn run.n) _ (transfer x facts) (model.arguments_of s.arguments.level)
+      edges t fits (page_searches_are_sound run facts s.world s.arguments x q output h.whole.world.kept h.described e b
+      o)
 
-  pub look_proceeds : (q : Search) (most : ℕ) → FitsOn run edges → IsInPages q → x.element.kind ≡ kind.Search q
+  pub look_proceeds : (q : Search) (most : ℕ) → FitsOn run.n edges → IsInPages q → x.element.kind ≡ kind.Search q
       → KindStands (kind.Search q) facts x frame → (output : Output) → s.world.files.output ≡ Some output
       → u + 1 ≤ most →
       Goes (kind.Search q) most (settle x.element s
@@ -360,13 +341,12 @@ module _ (run : Run) (facts : Facts) (x : Placed) (edges : Edges) (s : State) (h
       (subst (λ colon. Goes (kind.Search q) most
       (settle x.element s (outcomes.found_in_pages q x.element (outcomes.miss_where colon x.element frame) None
       s.arguments s.world))) h.colon
-      (first_goes q e most u (λ unread l. left_up q unread (omega (arith, l, m))) k b (omega arith) m
-      (model.arguments_of s.arguments.level)
+      (first_goes q e most (omega arith) k b m (model.arguments_of s.arguments.level)
       (then_so _ (LooksOn run (facts_seeking facts) s.world s.arguments x edges s.world)
       (model.arguments_of s.arguments.level) (λ taken. paging.look_first q x.element taken s.world)
       (searched q fits b e output o) (λ taken w i. i.begins))))
 
-  pub look_again : (q : Search) (most : ℕ) → FitsOn run edges → IsInPages q → x.element.kind ≡ kind.Search q
+  pub look_again : (q : Search) (most : ℕ) → FitsOn run.n edges → IsInPages q → x.element.kind ≡ kind.Search q
       → KindStands (kind.Search q) facts x frame → (output : Output) → s.world.files.output ≡ Some output
       → (now : World) (n : ℕ) (left : Option ℕ)
       → IsSeeking run (facts_seeking facts) s.world s.arguments x.element.text now → unread_of now + 1 ≤ most →
@@ -379,8 +359,7 @@ module _ (run : Run) (facts : Facts) (x : Placed) (edges : Edges) (s : State) (h
       (settle x.element (record s { world = now; arguments = model.levels_after_taking s.arguments; left = left })
       (outcomes.looking (outcomes.miss_where colon x.element frame) (model.levels_after_taking s.arguments)
       (paging.look_for q x.element n now)))) h.colon
-      (looked_goes q e most (unread_of now) (λ unread l. left_up q unread (omega (arith, l, m))) k b now
-      (model.levels_after_taking s.arguments) left (omega arith) m _
+      (looked_goes q e most (omega arith) k b now (model.levels_after_taking s.arguments) left m _
       (of_one (Seeks run (facts_seeking facts) s.world s.arguments x q edges)
       (Succeeds (LooksOn run (facts_seeking facts) s.world s.arguments x edges now)
       (paging.look_for q x.element n now)) _ (searched q fits b e output o) (λ taken j. j.more now n i)))

@@ -95,7 +95,7 @@ taken_both (Some m) None = tt
 taken_both (Some m) (Some n) = λ k e f. cc
 
 module _ (run : Run) (facts : Facts) (x : Placed) (edges : Edges) (s : State) (h : BeginsAt run facts x s)
-    (t : transfer x facts ≡ Ok edges) (fits : FitsOn run edges) where
+    (t : transfer x facts ≡ Ok edges) (fits : FitsOn run.n edges) where
   abbrev at : World → Option ℕ → State
   at world left = record s { world = world; arguments = model.levels_after_taking s.arguments; left = left }
 
@@ -195,8 +195,8 @@ module _ (run : Run) (facts : Facts) (x : Placed) (edges : Edges) (s : State) (h
   turns_known : x.element.kind ≡ kind.Page page.Next → IsOpen s.world
       → Succeeds (λ (taken : Taken). TurnsPages run facts.held s.world s.arguments edges taken.first taken.value)
       (model.arguments_of s.arguments.level)
-  turns_known e (output, o) = leads_at (FitsOn run) _ (transfer x facts) (model.arguments_of s.arguments.level) edges t
-      fits (page_turns_are_sound run facts s.world s.arguments x output h.whole.world.kept h.described e o)
+  turns_known e (output, o) = leads_at (FitsOn run.n) _ (transfer x facts) (model.arguments_of s.arguments.level) edges
+      t fits (page_turns_are_sound run facts s.world s.arguments x output h.whole.world.kept h.described e o)
 
   -- what is written changes nothing that is known
   writes_stay : (bytes : List ℕ) (now : World) (o : Option Facts)
@@ -204,7 +204,7 @@ module _ (run : Run) (facts : Facts) (x : Placed) (edges : Edges) (s : State) (h
       → MatchOption o ⊥ (λ next. ComesTo run facts.held s.world next (model.levels_after_taking s.arguments)
       (paging.world_after_writing bytes now))
   writes_stay bytes now None c = c
-  writes_stay bytes now (Some next) c = record { described = c.described; less = c.less; grown = c.grown }
+  writes_stay bytes now (Some next) c = record { described = c.described; grown = c.grown }
 
   pub turn_proceeds : (most : Polynomial) → steps (kind.Page page.Next) facts ≡ Ok most
       → x.element.kind ≡ kind.Page page.Next → IsOpen s.world
@@ -221,7 +221,7 @@ module _ (run : Run) (facts : Facts) (x : Placed) (edges : Edges) (s : State) (h
       → Proceeds (kind.Page page.Write) run facts x edges s (value most run.n)
       (settle x.element s (outside.pages_reply paging.page_written s.left s.arguments s.world))
   write_proceeds most m e (output, o) = pages_proceed page.Write tt paging.page_written written_open (output, o) most m
-      (leads_at (FitsOn run) _ (transfer x facts) (model.arguments_of s.arguments.level) edges t fits
+      (leads_at (FitsOn run.n) _ (transfer x facts) (model.arguments_of s.arguments.level) edges t fits
       (page_writes_are_sound run facts s.world s.arguments x output h.whole.world.kept h.described e o))
 
   pub turn_again : (most : ℕ) → x.element.kind ≡ kind.Page page.Next → IsOpen s.world → (taken : Taken)
@@ -285,5 +285,6 @@ module _ (run : Run) (facts : Facts) (x : Placed) (edges : Edges) (s : State) (h
       → Adds most (settle x.element s (model.arguments_of s.arguments.level >>>= λ taken.
       outside.append_reply taken.value s.left rest s.world))
   append_proceeds most some e ready =
-      append_taken most some _ ready (leads_at (FitsOn run) _ (transfer x facts) (model.arguments_of s.arguments.level)
-      edges t fits (appends_are_sound run facts s.world s.arguments x h.whole.world.kept h.described e))
+      append_taken most some _ ready (leads_at (FitsOn run.n) _ (transfer x facts)
+      (model.arguments_of s.arguments.level) edges t fits
+      (appends_are_sound run facts s.world s.arguments x h.whole.world.kept h.described e))

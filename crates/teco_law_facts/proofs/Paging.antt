@@ -1,8 +1,7 @@
 -- A, P and PW.
-use Rattle.std.proofs.Common.{◌≡◌, ℕ, zero, suc, ◌+◌, ◌≤◌, arith, refl, sym, subst, ap, ℤ, pos, negsuc, ◌≤ℤ◌, int_le}
-use Rattle.std.proofs.Common.{List, [], ◌∷◌, ◌++◌, length, length-append, Bool, true, false, cond, nat_le, ◌==◌}
-use Rattle.std.proofs.Common.{Option, Some, None, option_map, Result, Ok, Err, IfOk, MatchOption, ok_or, map, drop}
-use Rattle.std.proofs.Common.{◌+ℤ◌}
+use Rattle.std.proofs.Common.{◌≡◌, ℕ, suc, ◌+◌, ◌≤◌, arith, refl, sym, subst, ap, ℤ, pos, ◌≤ℤ◌, int_le, List, [], ◌∷◌}
+use Rattle.std.proofs.Common.{◌++◌, length, length-append, Bool, true, false, cond, nat_le, ◌==◌, Option, Some, None}
+use Rattle.std.proofs.Common.{option_map, Result, Ok, Err, IfOk, MatchOption, ok_or}
 use Rattle.std.specs.Prelude.{unwrap_or, ⊤}
 use Rattle.std.specs.Option.{option_map_or}
 use Rattle.std.proofs.lemmas.Int.{ints}
@@ -19,11 +18,10 @@ use Rattle.teco_law_facts.proofs.Parts as Parts
 use Rattle.teco_law_facts.proofs.Searching.{succeeds_then, of_count}
 use Rattle.teco_verifier.specs.facts.Pages as row
 use Rattle.teco_verifier.specs.facts.Transfer.{transfer}
-use Rattle.teco_model.specs.Character.{character, code_at}
+use Rattle.teco_model.specs.Character.{character}
 use Rattle.teco_model.specs.Going.{after}
-use Rattle.teco_law_facts.proofs.Asking.{code_in_text}
 use Rattle.teco_law_facts.proofs.Flowing.{taken_are, taking_is}
-use Rattle.teco_law_facts.proofs.Near.{distances, line_of, beyond_is, code_within}
+use Rattle.teco_law_facts.proofs.Near.{distances}
 use Rattle.teco_law_facts.proofs.Pending.{settled_are}
 use Rattle.teco_law_facts.proofs.Steps.{Covers}
 use Rattle.teco_law_facts.proofs.Transfers.{pending_again, without_answer}
@@ -31,7 +29,7 @@ use Rattle.teco_verifier.specs.facts.Arguments as known
 use Rattle.teco_verifier.specs.facts.Arguments.{KnownTaken}
 use Rattle.teco_verifier.specs.facts.Attempt.{◌>>=◌}
 use Rattle.teco_verifier.specs.facts.Motions.{count_of}
-use Rattle.teco_verifier.specs.facts.Values.{character as codes, IsWithin, IsValue, Surroundings, code_value, value_in}
+use Rattle.teco_verifier.specs.facts.Values.{IsWithin, IsValue}
 use Rattle.teco_verifier.specs.declared.values.Value.{Value}
 use Rattle.teco_verifier.specs.declared.refusal.Refusal.TheVariants as refusal
 use Rattle.teco_verifier.specs.facts.Flows.{Edges, facts_taken}
@@ -45,28 +43,17 @@ use Rattle.teco_model.specs.Paging.{unread, unread_of}
 use Rattle.teco_model.specs.State.{Kept, World}
 use Rattle.teco_poly.specs.Polynomial.{Polynomial, value, number}
 use Rattle.teco_law_facts.proofs.Saved.{Widens, none_again, saved_after_are}
-use Rattle.teco_law_facts.proofs.Shapes.{ahead_most, value-sum_of, held_falls}
+use Rattle.teco_law_facts.proofs.Shapes.{ahead_most, value-sum_of, falls_after}
 use Rattle.teco_law_facts.specs.Describes.{Run, IsWhole, Holds, Describes, IsTaken, IsOptional, ArePending, fore_of}
-use Rattle.teco_law_facts.specs.Describes.{back_of, around_of, Begun, beyond_of, IsMarked, AreEach, HasFallen}
-use Rattle.teco_verifier.specs.facts.Facts.{Facts, nowhere, none_saved, without_digit}
-use Rattle.teco_verifier.specs.facts.Shifts.{moving, ending, facts_behind, Foreseen, facts_answered, silent, Shift}
-use Rattle.teco_verifier.specs.facts.Shifts.{held_fall, capped, falls_behind}
+use Rattle.teco_law_facts.specs.Describes.{back_of}
+use Rattle.teco_verifier.specs.facts.Facts.{Facts, nowhere, none_saved}
+use Rattle.teco_verifier.specs.facts.Shifts.{moving, ending, facts_behind, Foreseen, facts_answered, silent}
 use Rattle.teco_law_facts.specs.SoundElements.{Succeeds, Leads, FitsOn, Arrives}
 use Rattle.teco_law_facts.specs.SoundPages.{ComesTo, Comes, TurnsPages, Appends, AppendsAreSound, PageTurnsAreSound}
 use Rattle.teco_law_facts.specs.SoundPages.{PageWritesAreSound}
 use Rattle.teco_verifier.specs.declared.values.Distances.{Distances}
-use Rattle.teco_verifier.specs.declared.falls.DigitMark.{DigitMark}
-use Rattle.teco_verifier.specs.declared.falls.DigitMark.TheVariants.{Before, At}
-use Rattle.teco_verifier.specs.declared.rules.Rules.{Rules}
-use Rattle.teco_verifier.specs.facts.Falls.{Refilled, NextPage, is_second, Descent}
-use Rattle.teco_verifier.specs.declared.falls.Falls.{Falls}
-use Rattle.teco_law_facts.proofs.Falls.{IsLine, Descends, held_before, each_fallen, ordered_is, fallen_by, fallen_again}
-use Rattle.teco_law_facts.proofs.Beyond.{beyond_more, drop_before, behind_line}
-use Rattle.teco_law_facts.proofs.Registers.{forgotten}
-use Rattle.teco_law_facts.proofs.Numbers.{both_true, are_equal_is}
-use Rattle.teco_law_facts.proofs.Covering.{none_worth}
-use Rattle.teco_model.specs.Condition.{is_code_of}
-use Rattle.teco_base.specs.Bytes.{is_digit}
+use Rattle.teco_law_facts.proofs.Asking.{code_value}
+use Rattle.teco_law_facts.proofs.Bodies.{falls_carried}
 
 -- ---- pages of the unread input
 page_if : (b : Bool) (c : ℕ) (bytes : List ℕ)
@@ -91,35 +78,23 @@ rest_of files = by_input files.input where
 
 -- ---- what holds where pages went by
 module _ (run : Run) (facts : Facts) (u : ℕ) (kept : Kept) (h : Holds run facts u kept) where
-  pub paged_holds : (d : Distances) (descent : Descent) (ends : Bool) (mark : Option DigitMark) (held : Polynomial)
-      (new : Kept) (v : ℕ) → kept.pointer ≤ length kept.text → new.pointer ≤ length new.text
-      → length kept.registers.pairs ≡ REGISTERS → Widens ends (around_of kept) (around_of new)
-      → new.registers ≡ kept.registers → d.back ≤ new.pointer → d.fore + new.pointer ≤ length new.text → v ≤ u
-      → Descends descent (around_of kept) u (around_of new) v
-      → fore_of new + back_of new + v ≤ held_before descent (around_of kept) u → IsMarked (around_of new) mark
-      → length new.text + v ≤ length kept.text + u → value held run.n ≡ value facts.held run.n + value (number 0) run.n
-      → Holds run (facts_behind (record (moving d descent) { ends = ends; digit = mark }) held facts) v new
-  paged_holds d descent ends mark held new v inside inside' count wider r back fore less descends page digit most e =
-      let all : length new.text + v ≤ value held run.n = omega (arith, e, most, h.held) in
-      let old_line = line_of kept inside in
-      let new_line = line_of new inside' in
-      let shift : Shift = record (moving d descent) { ends = ends; digit = mark } in
-      let by = held_falls shift run.n (held_before descent (around_of kept) u) (fore_of new + back_of new + v)
-      (omega (arith, page)) in
-      record {
+  pub paged_holds : (d : Distances) (ends : Bool) (held : Polynomial) (new : Kept) (v : ℕ)
+      → length kept.registers.pairs ≡ REGISTERS → Widens ends (fore_of kept) (back_of kept) (fore_of new) (back_of new)
+      → new.registers ≡ kept.registers → d.back ≤ new.pointer → d.fore + new.pointer ≤ length new.text
+      → fore_of new + v ≤ fore_of kept + u → length new.text + v ≤ length kept.text + u
+      → value held run.n ≡ value facts.held run.n + value (number 0) run.n
+      → Holds run (facts_behind (record (moving d (Some (pos 0))) { ends = ends }) held facts) v new
+  paged_holds d ends held new v count wider r back fore ahead most e =
+      let all : length new.text + v ≤ value held run.n = omega (arith, e, most, h.held) in record {
         position = record {
           begin = omega (arith, back);
           end = omega (arith, fore);
-          fallen = each_fallen (HasFallen (around_of kept) u) (HasFallen (around_of new) v)
-              (falls_behind facts.rules shift) (λ falls begun f. ordered_is (around_of new) v begun new_line facts.rules
-              (capped d) _ (omega (arith, back)) (omega (arith, fore))
-              (fallen_by facts.rules (around_of kept) u (around_of new) v (held_fall shift) falls begun less old_line
-              new_line f descent descends by)) facts.position.falls run.turns h.position.fallen;
-          ahead = ahead_most descent run.n (around_of kept) u (around_of new) v held facts.position.ahead less old_line
-              descends h.position.ahead (omega (arith, all, inside'));
-          saved = rw r (saved_after_are ends (around_of kept) (around_of new) facts.position.saved kept.registers.pairs
-              count wider h.position.saved);
-          digit = digit;
+          fallen = falls_after (Some (pos 0)) facts.position.falls run.turns (fore_of kept + u) (fore_of new + v)
+              (omega (arith, ints, ahead)) h.position.fallen;
+          ahead = ahead_most (Some (pos 0)) run.n (fore_of kept + u) (fore_of new + v) held facts.position.ahead
+              (omega (arith, ints, ahead)) h.position.ahead (omega (arith, all));
+          saved = rw r (saved_after_are ends (fore_of kept) (back_of kept) (fore_of new)
+              (back_of new) facts.position.saved kept.registers.pairs count wider h.position.saved);
         };
         held = all;
         registers = rw r h.registers;
@@ -149,14 +124,15 @@ module _ (run : Run) (facts : Facts) (world : World) (h : Holds run facts (unrea
   rest : unread_of (turned_world world) ≡ length (behind_form_feed (unread world.files))
   rest = ap length (rest_of world.files)
 
-  turned_holds : IsWhole world.kept → Holds run (facts_behind (ending (moving nowhere NextPage)) held facts)
-      (unread_of (turned_world world)) (turned_world world).kept
-  turned_holds whole =
+  turned_holds : length world.kept.registers.pairs ≡ REGISTERS
+      → Holds run (facts_behind (ending (moving nowhere (Some (pos 0)))) held facts) (unread_of (turned_world world))
+      (turned_world world).kept
+  turned_holds count =
       let p = page_short (unread world.files) in
       let r = rest in
-      paged_holds run facts (unread_of world) world.kept h nowhere NextPage true None held (turned_world world).kept
-      (unread_of (turned_world world)) whole.inside (omega arith) whole.count (λ e. absurd (cc)) refl (omega arith)
-      (omega arith) (omega (arith, p, r)) (omega (arith, p, r)) (omega (arith, p, r)) tt (omega (arith, p, r)) e
+      paged_holds run facts (unread_of world) world.kept h nowhere true held (turned_world world).kept
+      (unread_of (turned_world world)) count (λ e. absurd (cc)) refl (omega arith) (omega arith) (omega arith)
+      (omega arith) e
 
   turned_less : length (turned_world world).kept.text + unread_of
       (turned_world world) ≤ length world.kept.text + unread_of world
@@ -171,44 +147,23 @@ module _ (run : Run) (facts : Facts) (world : World) (h : Holds run facts (unrea
   pub again_rest : unread_of (turned_world world) ≡ length (behind_form_feed (unread world.files))
   again_rest = ap length (rest_of world.files)
 
-  -- each fall that holds here holds there
-  abbrev pub FallAgain : Type 0
-  FallAgain = unread_of (turned_world world) ≤ unread_of world → IsLine (around_of (turned_world world).kept)
-      → length (turned_world world).kept.text + unread_of (turned_world world) ≤ unread_of world
-      → AreEach (HasFallen (around_of (turned_world world).kept) (unread_of (turned_world world))) facts.position.falls
-      run.turns
-
-  pub again_holds : FallAgain → facts.position.digit ≡ None
-      → Holds run facts (unread_of (turned_world world)) (turned_world world).kept
-  again_holds falls digit =
+  pub again_holds : Holds run facts (unread_of (turned_world world)) (turned_world world).kept
+  again_holds =
       let p = page_short (unread world.files) in
       let r = again_rest in record {
         position = record {
           begin = rw here (omega arith);
           end = rw here (omega arith);
-          fallen = falls (omega (arith, p, r)) (line_of (turned_world world).kept (omega arith)) (omega (arith, p, r));
-          ahead = omega (arith, h.position.ahead, p, r);
-          saved = none_again (around_of world.kept) (around_of (turned_world world).kept) facts.position.saved
-              world.kept.registers.pairs none h.position.saved;
-          digit = rw digit tt;
+          fallen = falls_carried (fore_of (turned_world world).kept + unread_of (turned_world world))
+              (fore_of world.kept + unread_of world) facts.position.falls run.turns (omega arith) h.position.fallen;
+          ahead = omega (arith, h.position.ahead);
+          saved = none_again (fore_of world.kept) (back_of world.kept) (fore_of (turned_world world).kept)
+              (back_of (turned_world world).kept) facts.position.saved world.kept.registers.pairs none h.position.saved;
         };
-        held = omega (arith, h.held, p, r);
+        held = omega (arith, h.held);
         registers = record { numbers = h.registers.numbers; texts = h.registers.texts };
         pushed = h.pushed;
       }
-
--- of all open iterations
-again_mapped : (old : Surroundings) (u : ℕ) (new : Surroundings) (u' : ℕ) → u' ≤ u → IsLine new
-    → new.fore + new.back + u' ≤ u → (rules : Rules) (all : List Falls) (turns : List Begun)
-    → AreEach (HasFallen old u) (map (falls_behind rules (ending (moving nowhere NextPage))) all) turns
-    → AreEach (HasFallen new u') (map (falls_behind rules (ending (moving nowhere NextPage))) all) turns
-again_mapped old u new u' less line page rules [] [] h = tt
-again_mapped old u new u' less line page rules (falls ∷ all) (begun ∷ turns) h = (
-  fallen_again rules (capped nowhere) old u new u' (held_fall (ending (moving nowhere NextPage))) falls begun
-      (omega arith) (omega arith) less line page h.0,
-  again_mapped old u new u' less line page rules all turns h.1,
-)
-again_mapped old u new u' less line page rules all turns h = absurd (grind arith)
 
 -- ---- the laws
 taking_leads : (L : Edges → Type 0) (Q : Edges → Taken → Type 0) (T : Facts) (act : KnownTaken
@@ -228,19 +183,19 @@ module _ (run : Run) (facts : Facts) (world : World) (pending : arguments.Argume
   taking_holds : Holds run taking (unread_of world) world.kept
   taking_holds = pending_again run facts (unread_of world) world.kept d.state _
 
-  own_is : ArePending (around_of world.kept) taking.arguments (arguments.levels_after_taking pending)
+  own_is : ArePending (fore_of world.kept) (back_of world.kept) taking.arguments (arguments.levels_after_taking pending)
   own_is = taken_are run facts (unread_of world) world.kept pending whole d
 
-  settled_at : (ends : Bool) (around : Surroundings) → Widens ends (around_of world.kept) around
-      → ArePending around (known.settled facts.position.distances ends taking.arguments)
+  settled_at : (ends : Bool) (fore back : ℕ) → Widens ends (fore_of world.kept) (back_of world.kept) fore back
+      → ArePending fore back (known.settled facts.position.distances ends taking.arguments)
       (arguments.levels_after_taking pending)
-  settled_at ends around w = settled_are facts.position.distances ends (around_of world.kept) around
-      (distances run facts (unread_of world) world.kept whole d.state) w taking.arguments
+  settled_at ends fore back w = settled_are facts.position.distances ends (fore_of world.kept)
+      (back_of world.kept) fore back (distances run facts (unread_of world) world.kept whole d.state) w taking.arguments
       (arguments.levels_after_taking pending) own_is
 
   -- a page that is turned, and what is known behind it
   abbrev page_behind : Polynomial → Facts
-  page_behind held = facts_answered (silent (facts_behind (ending (moving nowhere NextPage)) held taking))
+  page_behind held = facts_answered (silent (facts_behind (ending (moving nowhere (Some (pos 0)))) held taking))
 
   module _ (held : Polynomial) (e : value held run.n ≡ value facts.held run.n + value (number 0) run.n)
       (fits : value held run.n ≤ LIMIT) where
@@ -248,12 +203,11 @@ module _ (run : Run) (facts : Facts) (world : World) (pending : arguments.Argume
         (turned_world world)
     page_comes = record {
       described = record {
-        state = pending_again run _ _ _ (turned_holds run taking world taking_holds held e whole) _;
-        pending = settled_at true (around_of (turned_world world).kept) (λ e. absurd (cc));
+        state = pending_again run _ _ _ (turned_holds run taking world taking_holds held e whole.count) _;
+        pending = settled_at true (fore_of (turned_world world).kept) (back_of (turned_world world).kept)
+            (λ e. absurd (cc));
         answers = tt;
       };
-      less = let p = page_short (unread world.files) in let r = rest run taking world taking_holds held e in
-          omega (arith, p, r);
       grown = let t = turned_less run taking world taking_holds held e in omega (arith, e);
     }
 
@@ -261,16 +215,6 @@ module _ (run : Run) (facts : Facts) (world : World) (pending : arguments.Argume
         (model.page_turned world)
     page_succeeds = turned_to world _ refl (turned_short run taking world taking_holds held e fits)
         (ComesTo run facts.held world (page_behind held) (arguments.levels_after_taking pending)) page_comes
-
-    fall_again : (held : Polynomial) (later : World) → unread_of (turned_world later) ≤ unread_of later
-        → IsLine (around_of (turned_world later).kept)
-        → length (turned_world later).kept.text + unread_of (turned_world later) ≤ unread_of later
-        → AreEach (HasFallen (around_of later.kept) (unread_of later)) (page_behind held).position.falls run.turns
-        → AreEach (HasFallen (around_of (turned_world later).kept) (unread_of (turned_world later)))
-        (page_behind held).position.falls run.turns
-    fall_again held later less line page g =
-        again_mapped (around_of later.kept) (unread_of later) (around_of (turned_world later).kept)
-        (unread_of (turned_world later)) less line (omega (arith, page)) facts.rules facts.position.falls run.turns g
 
     -- each page that follows
     page_again : (later : World) → ComesTo run facts.held world (page_behind held)
@@ -284,12 +228,11 @@ module _ (run : Run) (facts : Facts) (world : World) (pending : arguments.Argume
         turned_to later _ refl (omega (arith, p, h.held, fits))
         (ComesTo run facts.held world (page_behind held) (arguments.levels_after_taking pending)) (record {
           described = record {
-            state = again_holds run (page_behind held) later h refl refl
-                (λ less line page. fall_again held later less line page h.position.fallen) refl;
-            pending = settled_at true (around_of (turned_world later).kept) (λ e. absurd (cc));
+            state = again_holds run (page_behind held) later h refl refl;
+            pending = settled_at true (fore_of (turned_world later).kept) (back_of (turned_world later).kept)
+                (λ e. absurd (cc));
             answers = tt;
           };
-          less = omega (arith, c.less, p, r);
           grown = omega (arith, c.grown);
         })
 
@@ -309,22 +252,30 @@ module _ (run : Run) (facts : Facts) (world : World) (pending : arguments.Argume
 
   -- the edges where what is known fits
   abbrev FitsThen : (Edges → Type 0) → Result Edges Refusal → Type 0
-  FitsThen P (Ok edges) = FitsOn run edges → P edges
+  FitsThen P (Ok edges) = FitsOn run.n edges → P edges
   FitsThen P (Err why) = ⊤
 
   as_leads : (Q : Edges → Taken → Type 0) (t : Taken) (r : Result Edges Refusal) → FitsThen (λ edges. Q edges t) r
-      → Leads (FitsOn run) Q r (Ok t)
+      → Leads (FitsOn run.n) Q r (Ok t)
   as_leads Q t (Ok edges) h = h
   as_leads Q t (Err why) h = tt
 
   -- nothing is changed
   abbrev unchanged : Facts
-  unchanged = facts_answered (silent (without_digit taking))
+  unchanged = facts_answered (silent taking)
 
   stays : (files : Files) → unread files ≡ unread world.files
       → ComesTo run facts.held world unchanged (arguments.levels_after_taking pending)
       (record { kept = world.kept; files = files })
-  stays files e = search (pending_again, forgotten, taking_holds, own_is, arith)
+  stays files e = let l : length (unread files) ≡ unread_of world = ap length e in record {
+    described = subst (λ u. Describes run unchanged u world.kept (arguments.levels_after_taking pending)) (sym l)
+        (record {
+          state = pending_again run taking (unread_of world) world.kept taking_holds _;
+          pending = own_is;
+          answers = tt;
+        });
+    grown = omega arith;
+  }
 
   -- a part that is written
   part_written : (P : model.Progress → Type 0) (r : Result Part Code) → Parts.Comes r
@@ -349,7 +300,7 @@ module _ (run : Run) (facts : Facts) (world : World) (pending : arguments.Argume
     range_turns : (r : Result (Unit {0}) Refusal) (v w : ℤ)
         → IfOk r (λ u. Parts.Comes (part_named (Some v) (Some w) world.kept))
         → FitsThen (Turns (Some v) (Some w))
-        (transfers.on ((r >>= λ named. Ok (silent (without_digit taking))) >>= λ known. Ok (facts_answered known)))
+        (transfers.on ((r >>= λ named. Ok (silent taking)) >>= λ known. Ok (facts_answered known)))
     range_turns (Err why) v w h = tt
     range_turns (Ok u) v w h = λ l. record {
       begins = with_output (λ p. ComesTo run facts.held world unchanged (arguments.levels_after_taking pending) p.world)
@@ -364,8 +315,8 @@ module _ (run : Run) (facts : Facts) (world : World) (pending : arguments.Argume
         → IfOk r (λ u. pos 1 ≤ℤ unwrap_or v (pos 1)) → (sum : Result Polynomial Refusal)
         → IfOk sum (λ held. value held run.n ≡ value facts.held run.n + value (number 0) run.n)
         → FitsThen (Turns m v) (transfers.on
-        ((r >>= λ some. (sum >>= λ held. Ok (facts_behind (ending (moving nowhere NextPage)) held taking)) >>= λ known.
-        Ok (silent known)) >>= λ known. Ok (facts_answered known)))
+        ((r >>= λ some. (sum >>= λ held. Ok (facts_behind (ending (moving nowhere (Some (pos 0)))) held taking))
+        >>= λ known. Ok (silent known)) >>= λ known. Ok (facts_answered known)))
     counted_turns m v c (Err why) h sum e = tt
     counted_turns m v c (Ok u) h (Err why) e = tt
     counted_turns m v c (Ok u) h (Ok held) e = λ l. record {
@@ -382,11 +333,13 @@ module _ (run : Run) (facts : Facts) (world : World) (pending : arguments.Argume
       more = λ later none c. page_again held e l.buffer later c;
     }
 
-    turning_turns : (f o : Option Value) (m v : Option ℤ) → IsOptional (IsValue (around_of world.kept)) f m
-        → IsOptional (IsValue (around_of world.kept)) o v
+    turning_turns : (f o : Option Value) (m v : Option ℤ)
+        → IsOptional (IsValue (fore_of world.kept) (back_of world.kept)) f m
+        → IsOptional (IsValue (fore_of world.kept) (back_of world.kept)) o v
         → FitsThen (Turns m v) (transfers.on (row.turning f o taking >>= λ known. Ok (facts_answered known)))
     turning_turns (Some s) (Some t) (Some v) (Some w) i j =
-        range_turns _ v w (Parts.both_named run taking (unread_of world) world.kept whole taking_holds s t v w i j)
+        range_turns _ v w (Parts.both_named run taking (unread_of world) world.kept whole taking_holds s t v w i.is
+        j.is)
     turning_turns None o None v i j =
         counted_turns None v (λ P h. h) _
         (some_known _ o v refl (of_count run taking (unread_of world) world.kept whole taking_holds o v j)) _
@@ -406,7 +359,7 @@ module _ (run : Run) (facts : Facts) (world : World) (pending : arguments.Argume
     range_writes : (r : Result (Unit {0}) Refusal) (v w : ℤ)
         → IfOk r (λ u. Parts.Comes (part_named (Some v) (Some w) world.kept))
         → FitsThen (Writes (Some v) (Some w))
-        (transfers.on ((r >>= λ named. Ok (silent (without_digit taking))) >>= λ known. Ok (facts_answered known)))
+        (transfers.on ((r >>= λ named. Ok (silent taking)) >>= λ known. Ok (facts_answered known)))
     range_writes (Err why) v w h = tt
     range_writes (Ok u) v w h = λ l.
         with_output (λ p. ComesTo run facts.held world unchanged (arguments.levels_after_taking pending) p.world) _ _
@@ -417,7 +370,7 @@ module _ (run : Run) (facts : Facts) (world : World) (pending : arguments.Argume
         → Succeeds P (model.page_count (unwrap_or v (pos 1)) >>>= λ n. model.one_page_of model.page_written n world)
         → Succeeds P (model.pages_of model.page_written m v world)) (r : Result (Unit {0}) Refusal)
         → IfOk r (λ u. pos 1 ≤ℤ unwrap_or v (pos 1))
-        → FitsThen (Writes m v) (transfers.on ((r >>= λ some. Ok (silent (without_digit taking))) >>= λ known.
+        → FitsThen (Writes m v) (transfers.on ((r >>= λ some. Ok (silent taking)) >>= λ known.
         Ok (facts_answered known)))
     counted_writes m v c (Err why) h = tt
     counted_writes m v c (Ok u) h =
@@ -427,11 +380,13 @@ module _ (run : Run) (facts : Facts) (world : World) (pending : arguments.Argume
         (λ k. with_output (λ p. ComesTo run facts.held world unchanged (arguments.levels_after_taking pending) p.world)
         _ _ out (λ opened. stays _ refl))))
 
-    writing_writes : (f o : Option Value) (m v : Option ℤ) → IsOptional (IsValue (around_of world.kept)) f m
-        → IsOptional (IsValue (around_of world.kept)) o v
+    writing_writes : (f o : Option Value) (m v : Option ℤ)
+        → IsOptional (IsValue (fore_of world.kept) (back_of world.kept)) f m
+        → IsOptional (IsValue (fore_of world.kept) (back_of world.kept)) o v
         → FitsThen (Writes m v) (transfers.on (row.writing f o taking >>= λ known. Ok (facts_answered known)))
     writing_writes (Some s) (Some t) (Some v) (Some w) i j =
-        range_writes _ v w (Parts.both_named run taking (unread_of world) world.kept whole taking_holds s t v w i j)
+        range_writes _ v w (Parts.both_named run taking (unread_of world) world.kept whole taking_holds s t v w i.is
+        j.is)
     writing_writes None o None v i j =
         counted_writes None v (λ P h. h) _
         (some_known _ o v refl (of_count run taking (unread_of world) world.kept whole taking_holds o v j))
@@ -440,13 +395,10 @@ module _ (run : Run) (facts : Facts) (world : World) (pending : arguments.Argume
         (some_known _ None None refl (of_count run taking (unread_of world) world.kept whole taking_holds None None tt))
     writing_writes f o m v i j = absurd (grind arith)
 
-  -- a page comes behind the buffer, and a digit stays where it stands
-  abbrev grown_shift : Shift
-  grown_shift = record (moving facts.position.distances (Refilled 0)) { digit = facts.position.digit }
-
   -- A
   abbrev grown_behind : Polynomial → Facts
-  grown_behind held = facts_answered (silent (facts_behind (grown_shift) held taking))
+  grown_behind held = facts_answered
+      (silent (facts_behind (moving facts.position.distances (Some (pos 0))) held taking))
 
   abbrev grown_world : World
   grown_world = record {
@@ -456,36 +408,6 @@ module _ (run : Run) (facts : Facts) (world : World) (pending : arguments.Argume
     };
     files = model.files_behind_page world.files;
   }
-
-  grown_beyond : beyond_of grown_world.kept ≤ beyond_of world.kept + length (before_form_feed (unread world.files))
-  grown_beyond =
-      let l = length-append world.kept.text (before_form_feed (unread world.files)) in
-      let b = beyond_more (drop world.kept.pointer world.kept.text) (before_form_feed (unread world.files)) in
-      let d : behind_line (drop world.kept.pointer grown_world.kept.text) ≡ behind_line
-      (drop world.kept.pointer world.kept.text ++ before_form_feed (unread world.files)) =
-      ap behind_line (drop_before world.kept.pointer world.kept.text (before_form_feed (unread world.files))
-      whole.inside) in
-      omega (
-        arith,
-        beyond_is world.kept whole.inside,
-        beyond_is grown_world.kept (omega (arith, l, whole.inside)),
-        b,
-        d,
-      )
-
-  code_more : (text more : List ℕ) (z : ℤ) → is_code_of is_digit (code_at text z) ≡ true
-      → is_code_of is_digit (code_at (text ++ more) z) ≡ true
-  code_more (c ∷ text) more (pos zero) e = e
-  code_more (c ∷ text) more (pos (suc n)) e = code_more text more (pos n) e
-  code_more text more z e = absurd (grind arith)
-
-  grown_mark : (mark : Option DigitMark) → IsMarked (around_of world.kept) mark
-      → IsMarked (around_of grown_world.kept) mark
-  grown_mark None m = tt
-  grown_mark (Some Before) m = code_more world.kept.text (before_form_feed (unread world.files))
-      (pos world.kept.pointer +ℤ negsuc 0) m
-  grown_mark (Some At) m = code_more world.kept.text (before_form_feed (unread world.files))
-      (pos world.kept.pointer +ℤ pos 0) m
 
   module _ (held : Polynomial) (e : value held run.n ≡ value facts.held run.n + value (number 0) run.n)
       (fits : value held run.n ≤ LIMIT) where
@@ -498,17 +420,14 @@ module _ (run : Run) (facts : Facts) (world : World) (pending : arguments.Argume
         let h = d.state in record {
           described = record {
             state = pending_again run _ _ _
-                (paged_holds run taking (unread_of world) world.kept taking_holds facts.position.distances
-                (Refilled 0) false facts.position.digit held grown_world.kept (unread_of grown_world) whole.inside
-                (omega (arith, l, whole.inside)) whole.count (λ e. omega (arith, l, whole.inside)) refl h.position.begin
-                (omega (arith, h.position.end, whole.inside, l)) (omega (arith, p, r))
-                (omega (arith, p, r, l, whole.inside), omega (arith, p, r, grown_beyond))
-                (omega (arith, p, r, l, whole.inside)) (grown_mark facts.position.digit h.position.digit)
-                (omega (arith, p, r, l)) e) _;
-            pending = settled_at false (around_of grown_world.kept) (λ e. omega (arith, l, whole.inside));
+                (paged_holds run taking (unread_of world) world.kept taking_holds facts.position.distances false held
+                grown_world.kept (unread_of grown_world) whole.count (λ e. omega (arith, l, whole.inside)) refl
+                h.position.begin (omega (arith, h.position.end, whole.inside)) (omega (arith, whole.inside))
+                (omega arith) e) _;
+            pending = settled_at false (fore_of grown_world.kept) (back_of grown_world.kept)
+                (λ e. omega (arith, l, whole.inside));
             answers = tt;
           };
-          less = omega (arith, p, r);
           grown = omega (arith, e);
         }
 
@@ -516,14 +435,12 @@ module _ (run : Run) (facts : Facts) (world : World) (pending : arguments.Argume
     ended_comes = let h = d.state in record {
       described = record {
         state = pending_again run _ _ _
-            (paged_holds run taking (unread_of world) world.kept taking_holds facts.position.distances
-            (Refilled 0) false facts.position.digit held world.kept (unread_of world) whole.inside whole.inside
-            whole.count (λ e. omega arith) refl h.position.begin (omega (arith, h.position.end, whole.inside))
-            (omega arith) (omega arith, omega arith) (omega arith) h.position.digit (omega arith) e) _;
-        pending = settled_at false (around_of world.kept) (λ e. omega arith);
+            (paged_holds run taking (unread_of world) world.kept taking_holds facts.position.distances false held
+            world.kept (unread_of world) whole.count (λ e. omega arith) refl h.position.begin
+            (omega (arith, h.position.end, whole.inside)) (omega arith) (omega arith) e) _;
+        pending = settled_at false (fore_of world.kept) (back_of world.kept) (λ e. omega arith);
         answers = tt;
       };
-      less = omega arith;
       grown = omega (arith, e);
     }
 
@@ -566,42 +483,26 @@ module _ (run : Run) (facts : Facts) (world : World) (pending : arguments.Argume
   page_added : (sum : Result Polynomial Refusal)
       → IfOk sum (λ held. value held run.n ≡ value facts.held run.n + value (number 0) run.n)
       → FitsThen (AppendsBy None) (transfers.on
-      (((sum >>= λ held. Ok (facts_behind (grown_shift) held taking)) >>= λ known. Ok (silent known)) >>= λ known.
-      Ok (facts_answered known)))
+      (((sum >>= λ held. Ok (facts_behind (moving facts.position.distances (Some (pos 0))) held taking)) >>= λ known.
+      Ok (silent known)) >>= λ known. Ok (facts_answered known)))
   page_added (Err why) e = tt
   page_added (Ok held) e = λ l input q. with_input held e l.buffer input world.files.input refl q
 
-  -- the code of a character, of which it may be known where it stands
-  offset_is : (s : Value) (n : ℤ) → row.is_offset s ≡ true → IsValue (around_of world.kept) s n → s.lo ≡ n
-  offset_is s n e i = search (both_true, none_worth, are_equal_is, arith, ints)
-
-  code_if : (b : Bool) (s : Value) (n : ℤ) → (b ≡ true → s.lo ≡ n)
-      → IsValue (around_of world.kept) (cond b (code_value s.lo) (value_in codes)) (character n world.kept)
-  code_if false s n e = code_in_text (around_of world.kept) world.kept.text whole.bytes _
-  code_if true s n e =
-      let w = code_within world.kept.text whole.bytes (pos world.kept.pointer +ℤ n) in
-      let q : character s.lo world.kept ≡ character n world.kept = ap (λ z. character z world.kept) (e refl) in
-      record {
-        is = record { low = omega (arith, ints, q); high = omega (arith, ints, q) };
-        form = refl;
-        fits = omega (arith, ints, w);
-        saved = tt;
-      }
-
-  code_asked_is : (rules : Rules) (s : Value) (n : ℤ) → IsValue (around_of world.kept) s n
-      → IsValue (around_of world.kept) (row.code_asked rules s) (character n world.kept)
-  code_asked_is rules s n i = code_if _ s n (λ b. offset_is s n (both_true (is_second rules) (row.is_offset s) b).1 i)
-
-  appends : (o : Option Value) (v : Option ℤ) → IsOptional (IsValue (around_of world.kept)) o v
+  appends : (o : Option Value) (v : Option ℤ) → IsOptional (IsValue (fore_of world.kept) (back_of world.kept)) o v
       → FitsThen (AppendsBy v) (transfers.on (row.append o taking >>= λ known. Ok (facts_answered known)))
   appends None None i = page_added _ (value-sum_of run.n facts.held (number 0))
   appends (Some s) (Some n) i = λ l. record {
     described = record {
       state = pending_again run taking (unread_of world) world.kept taking_holds _;
-      pending = record {
-        level = record { first = tt; value = code_asked_is facts.rules s n i; operator = refl };
-        outer = own_is.outer;
-      };
+      pending =
+          record {
+            level = record {
+              first = tt;
+              value = code_value (fore_of world.kept) (back_of world.kept) world.kept.text whole.bytes _;
+              operator = refl;
+            };
+            outer = own_is.outer;
+          };
       answers = tt;
     };
     grown = omega arith;
@@ -610,7 +511,7 @@ module _ (run : Run) (facts : Facts) (world : World) (pending : arguments.Argume
   appends (Some s) None i = absurd i
 
   -- what is taken
-  taken_is : Covers (IsTaken (around_of world.kept)) (known.arguments_of facts.arguments.level)
+  taken_is : Covers (IsTaken (fore_of world.kept) (back_of world.kept)) (known.arguments_of facts.arguments.level)
       (arguments.arguments_of pending.level)
   taken_is = taking_is run facts (unread_of world) world.kept pending whole d
 
@@ -618,11 +519,12 @@ pub appends_are_sound : AppendsAreSound
 unfolding transfer
 appends_are_sound run facts world pending x whole d e =
     let n = without_answer run facts (unread_of world) world.kept pending d in
-    subst (λ k. Leads (FitsOn run) (Appends run facts.held world pending)
+    subst (λ k. Leads (FitsOn run.n) (Appends run facts.held world pending)
     (transfers.edges_of k x (transfers.answer_for k facts) (transfers.without_answer facts))
     (arguments.arguments_of pending.level)) (sym e)
-    (taking_leads (FitsOn run) (Appends run facts.held world pending) (facts_taken (transfers.without_answer facts))
-    (λ k. row.append k.value (facts_taken (transfers.without_answer facts))) (IsTaken (around_of world.kept)) _ _
+    (taking_leads (FitsOn run.n) (Appends run facts.held world pending) (facts_taken (transfers.without_answer facts))
+    (λ k. row.append k.value (facts_taken (transfers.without_answer facts)))
+    (IsTaken (fore_of world.kept) (back_of world.kept)) _ _
     (taken_is run (transfers.without_answer facts) world pending whole n) (λ k t i.
     as_leads run (transfers.without_answer facts) world pending whole n (Appends run facts.held world pending) t _
     (appends run (transfers.without_answer facts) world pending whole n k.value t.value i.value)))
@@ -631,14 +533,15 @@ pub page_turns_are_sound : PageTurnsAreSound
 unfolding transfer
 page_turns_are_sound run facts world pending x output whole d e q =
     let n = without_answer run facts (unread_of world) world.kept pending d in
-    subst (λ k. Leads (FitsOn run) (λ (edges : Edges) (t : Taken). TurnsPages run facts.held world pending edges t.first
-    t.value) (transfers.edges_of k x (transfers.answer_for k facts) (transfers.without_answer facts))
+    subst (λ k. Leads (FitsOn run.n)
+    (λ (edges : Edges) (t : Taken). TurnsPages run facts.held world pending edges t.first t.value)
+    (transfers.edges_of k x (transfers.answer_for k facts) (transfers.without_answer facts))
     (arguments.arguments_of pending.level)) (sym e)
-    (taking_leads (FitsOn run) (λ (edges : Edges) (t : Taken). TurnsPages run facts.held world pending edges t.first
+    (taking_leads (FitsOn run.n) (λ (edges : Edges) (t : Taken). TurnsPages run facts.held world pending edges t.first
     t.value) (facts_taken (transfers.without_answer facts))
     (λ k. row.turning k.first k.value (facts_taken (transfers.without_answer facts)))
-    (IsTaken (around_of world.kept)) _ _ (taken_is run (transfers.without_answer facts) world pending whole n)
-    (λ k t i.
+    (IsTaken (fore_of world.kept) (back_of world.kept)) _ _
+    (taken_is run (transfers.without_answer facts) world pending whole n) (λ k t i.
     as_leads run (transfers.without_answer facts) world pending whole n
     (λ (edges : Edges) (t : Taken). TurnsPages run facts.held world pending edges t.first t.value) t _
     (turning_turns run (transfers.without_answer facts) world pending whole n output q k.first k.value t.first
@@ -648,18 +551,19 @@ pub page_writes_are_sound : PageWritesAreSound
 unfolding transfer
 page_writes_are_sound run facts world pending x output whole d e q =
     let n = without_answer run facts (unread_of world) world.kept pending d in
-    subst (λ k. Leads (FitsOn run) (λ (edges : Edges) (t : Taken). Succeeds
+    subst (λ k. Leads (FitsOn run.n)
+    (λ (edges : Edges) (t : Taken). Succeeds
     (λ (p : model.Progress). Comes run facts.held world (arguments.levels_after_taking pending) edges p.world)
     (model.pages model.page_written (record { first = t.first; value = t.value }) world))
     (transfers.edges_of k x (transfers.answer_for k facts) (transfers.without_answer facts))
     (arguments.arguments_of pending.level)) (sym e)
-    (taking_leads (FitsOn run) (λ (edges : Edges) (t : Taken). Succeeds
+    (taking_leads (FitsOn run.n) (λ (edges : Edges) (t : Taken). Succeeds
     (λ (p : model.Progress). Comes run facts.held world (arguments.levels_after_taking pending) edges p.world)
     (model.pages model.page_written (record { first = t.first; value = t.value }) world))
     (facts_taken (transfers.without_answer facts))
     (λ k. row.writing k.first k.value (facts_taken (transfers.without_answer facts)))
-    (IsTaken (around_of world.kept)) _ _ (taken_is run (transfers.without_answer facts) world pending whole n)
-    (λ k t i.
+    (IsTaken (fore_of world.kept) (back_of world.kept)) _ _
+    (taken_is run (transfers.without_answer facts) world pending whole n) (λ k t i.
     as_leads run (transfers.without_answer facts) world pending whole n
     (λ (edges : Edges) (t : Taken). Succeeds
     (λ (p : model.Progress). Comes run facts.held world (arguments.levels_after_taking pending) edges p.world)

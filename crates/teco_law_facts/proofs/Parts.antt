@@ -10,16 +10,16 @@ use Rattle.teco_model.specs.Effect.{Effect}
 use Rattle.teco_model.specs.Places.{place_in, part_named}
 use Rattle.teco_model.specs.State.{Kept}
 use Rattle.teco_model.specs.declared.pattern.Span.{Span as Part}
-use Rattle.teco_law_facts.proofs.Motion.{IsPlaced, bound_is_placed}
+use Rattle.teco_law_facts.proofs.Motion.{IsPlaced, placed_is}
 use Rattle.teco_law_facts.proofs.Shapes.{IsDone, Foretells}
 use Rattle.teco_law_facts.proofs.Steps.{given_then}
 use Rattle.teco_law_facts.proofs.Leading.{leads_given}
 use Rattle.teco_verifier.specs.facts.Attempt.{◌>>=◌}
-use Rattle.teco_law_facts.specs.Describes.{Run, IsWhole, Holds, IsOptional, around_of}
+use Rattle.teco_law_facts.specs.Describes.{Run, IsWhole, Holds, IsOptional, fore_of, back_of}
 use Rattle.teco_verifier.specs.facts.Facts.{Facts}
-use Rattle.teco_verifier.specs.facts.Shifts.{Foreseen, KnownPlace}
+use Rattle.teco_verifier.specs.facts.Shifts.{Foreseen, Shift}
 use Rattle.teco_verifier.specs.facts.Typings as typings
-use Rattle.teco_verifier.specs.facts.Values.{IsValue}
+use Rattle.teco_verifier.specs.facts.Values.{IsValue, IsIn}
 use Rattle.teco_verifier.specs.declared.refusal.Refusal.{Refusal}
 use Rattle.teco_verifier.specs.declared.values.Value.{Value}
 
@@ -37,25 +37,25 @@ Comes (Err c) = ⊥
 module _ (run : Run) (facts : Facts) (unread : ℕ) (kept : Kept) (whole : IsWhole kept)
     (h : Holds run facts unread kept) where
   -- a place that is known lies in the text
-  pub within_text : (m : ℕ) (place : KnownPlace) → IsPlaced run facts unread kept whole h (pos m) place
+  pub within_text : (m : ℕ) (shift : Shift) → IsPlaced run facts unread kept whole h (pos m) shift
       → m ≤ length kept.text
-  within_text m place p = omega (arith, ints, p.end)
+  within_text m shift p = omega (arith, ints, p.end)
 
-  both_in : (v w : ℤ) (from to : KnownPlace) → IsPlaced run facts unread kept whole h v from
+  both_in : (v w : ℤ) (from to : Shift) → IsPlaced run facts unread kept whole h v from
       → IsPlaced run facts unread kept whole h w to → Comes (part_named (Some v) (Some w) kept)
   both_in (pos a) (pos b) from to p q =
       rw (in_text kept a (within_text a from p), in_text kept b (within_text b to q)) tt
   both_in (negsuc a) w from to p q = absurd (omega (arith, ints, p.begin))
   both_in (pos a) (negsuc b) from to p q = absurd (omega (arith, ints, q.begin))
 
-  pub both_named : (s t : Value) (v w : ℤ) → IsValue (around_of kept) s v → IsValue (around_of kept) t w
-      → IfOk (typings.part_named facts.rules (Some s) (Some t) facts.position.distances)
+  pub both_named : (s t : Value) (v w : ℤ) → IsIn s (fore_of kept) (back_of kept) v
+      → IsIn t (fore_of kept) (back_of kept) w → IfOk (typings.part_named (Some s) (Some t) facts.position.distances)
       (λ u. Comes (part_named (Some v) (Some w) kept))
   both_named s t v w i j =
       given_then (IsPlaced run facts unread kept whole h v) (λ u. Comes (part_named (Some v) (Some w) kept)) _ _
-      (bound_is_placed run facts unread kept whole h facts.rules s v i) (λ from p.
+      (placed_is run facts unread kept whole h s v i) (λ from p.
       given_then (IsPlaced run facts unread kept whole h w) (λ u. Comes (part_named (Some v) (Some w) kept)) _ _
-      (bound_is_placed run facts unread kept whole h facts.rules t w j) (λ to q. both_in v w from to p q))
+      (placed_is run facts unread kept whole h t w j) (λ to q. both_in v w from to p q))
 
   part_leads : (known : Result Foreseen Refusal) (go_on : Part → Result Effect Code)
       → ((part : Part) → Foretells run facts unread kept known (go_on part)) → (part : Result Part Code) → Comes part
@@ -64,15 +64,15 @@ module _ (run : Run) (facts : Facts) (unread : ℕ) (kept : Kept) (whole : IsWho
   part_leads known go_on k (Err e) c = absurd c
 
   -- a part that is named leads on
-  pub parts_lead : (f o : Option Value) (m v : Option ℤ) → IsOptional (IsValue (around_of kept)) f m
-      → IsOptional (IsValue (around_of kept)) o v
+  pub parts_lead : (f o : Option Value) (m v : Option ℤ) → IsOptional (IsValue (fore_of kept) (back_of kept)) f m
+      → IsOptional (IsValue (fore_of kept) (back_of kept)) o v
       → (known : Result Foreseen Refusal) (go_on : Part → Result Effect Code)
       → ((part : Part) → Foretells run facts unread kept known (go_on part))
-      → Foretells run facts unread kept (typings.part_named facts.rules f o facts.position.distances >>= λ named. known)
+      → Foretells run facts unread kept (typings.part_named f o facts.position.distances >>= λ named. known)
       (part_named m v kept >>>= go_on)
   parts_lead (Some s) (Some t) (Some v) (Some w) i j known go_on k =
       leads_given (λ u. Comes (part_named (Some v) (Some w) kept)) _ (IsDone run facts unread kept) _ _ _
-      (both_named s t v w i j) (λ u ok. part_leads known go_on k _ ok)
+      (both_named s t v w i.is j.is) (λ u ok. part_leads known go_on k _ ok)
   parts_lead None o None v i j known go_on k = k _
   parts_lead (Some s) None (Some v) None i j known go_on k = k _
   parts_lead f o m v i j known go_on k = absurd (grind arith)

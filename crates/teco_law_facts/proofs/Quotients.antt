@@ -14,7 +14,7 @@ use Rattle.teco_verifier.specs.declared.values.Distances.{Distances}
 use Rattle.teco_verifier.specs.declared.refusal.Refusal.TheVariants as refusal
 use Rattle.teco_law_facts.proofs.Steps.{Covers}
 use Rattle.teco_verifier.specs.facts.Values.{IsValue, IsWithin, single, any_number, value_in, interval_of}
-use Rattle.teco_verifier.specs.facts.Values.{interval_quotient, quotient, bitwise, is_single, Surroundings}
+use Rattle.teco_verifier.specs.facts.Values.{interval_quotient, quotient, bitwise, is_single}
 use Rattle.teco_verifier.specs.facts.Arguments.{quotient_of}
 use Rattle.teco_law_facts.proofs.Numbers.{AreDistances, interval_of_in, value_in_in, kept_in_32_bits_in}
 
@@ -83,10 +83,9 @@ quotient_within r s x y apart h i =
       not_zero (inl a) l u = omega (arith, ints)
       not_zero (inr a) l u = omega (arith, ints)
 
-pub any_number_is : (around : Surroundings) (v : ℤ) → FitsSigned w32 v → IsValue around (value_in any_number) v
-any_number_is around v f = record {
+pub any_number_is : (fore back : ℕ) (v : ℤ) → FitsSigned w32 v → IsValue fore back (value_in any_number) v
+any_number_is fore back v f = record {
   is = record { low = omega (arith, ints, f); high = omega (arith, ints, f) };
-  form = refl;
   fits = f;
   saved = tt;
 }
@@ -98,35 +97,34 @@ pub or_fits : (x y : ℤ) → FitsSigned w32 (or x y)
 or_fits x y = omega (arith, ints)
 
 -- / & #
-module _ (distances : Distances) (around : Surroundings) (b : AreDistances distances around) (s t : Value) (v w : ℤ)
-    (h : IsValue around s v) (i : IsValue around t w) where
+module _ (distances : Distances) (fore back : ℕ) (b : AreDistances distances fore back) (s t : Value) (v w : ℤ)
+    (h : IsValue fore back s v) (i : IsValue fore back t w) where
   of_dividend : IsWithin (interval_of distances s) v
-  of_dividend = interval_of_in s distances around v b.least (omega (arith, b.within)) (omega (arith, b.within)) h.is
+  of_dividend = interval_of_in s distances fore back v b.least (omega (arith, b.within)) (omega (arith, b.within)) h.is
 
   of_divisor : IsWithin (interval_of distances t) w
-  of_divisor = interval_of_in t distances around w b.least (omega (arith, b.within)) (omega (arith, b.within)) i.is
+  of_divisor = interval_of_in t distances fore back w b.least (omega (arith, b.within)) (omega (arith, b.within)) i.is
 
   quotient_in : (pos 1 ≤ℤ (interval_of distances t).lo) ⊎ ((interval_of distances t).hi ≤ℤ negsuc 0)
-      → IsValue around (quotient distances s t) (in_32_bits (int_div v w))
+      → IsValue fore back (quotient distances s t) (in_32_bits (int_div v w))
   quotient_in apart =
       record {
-        is = value_in_in _ around _
+        is = value_in_in _ fore back _
             (kept_in_32_bits_in _ (int_div v w)
             (quotient_within (interval_of distances s) (interval_of distances t) v w apart of_dividend of_divisor));
-        form = refl;
         fits = SFits-int_wrap w32 _;
         saved = tt;
       }
 
-  is_divided : (w : ℤ) → (w ≡ pos 0 → ⊥) → IsValue around (quotient distances s t) (in_32_bits (int_div v w))
-      → Covers (IsValue around) (Ok (quotient distances s t)) (ok_or (div v w) code.Div)
+  is_divided : (w : ℤ) → (w ≡ pos 0 → ⊥) → IsValue fore back (quotient distances s t) (in_32_bits (int_div v w))
+      → Covers (IsValue fore back) (Ok (quotient distances s t)) (ok_or (div v w) code.Div)
   is_divided (pos zero) n q = absurd (n refl)
   is_divided (pos (suc d)) n q = q
   is_divided (negsuc d) n q = q
 
   divided_if : (x y : Bool) → int_lt (pos 0) (interval_of distances t).lo ≡ x
       → int_lt (interval_of distances t).hi (pos 0) ≡ y
-      → Covers (IsValue around) (cond (x || y) (Ok (quotient distances s t)) (Err refusal.Divisor))
+      → Covers (IsValue fore back) (cond (x || y) (Ok (quotient distances s t)) (Err refusal.Divisor))
       (ok_or (div v w) code.Div)
   divided_if true y e f = let d = of_divisor in
       is_divided w (λ z. above (omega (arith, ints)) d.low z) (quotient_in (inl (omega (arith, ints)))) where
@@ -138,12 +136,12 @@ module _ (distances : Distances) (around : Surroundings) (b : AreDistances dista
         below a l z = omega (arith, ints)
   divided_if false false e f = tt
 
-  pub divided_covers : Covers (IsValue around) (quotient_of distances s t) (ok_or (div v w) code.Div)
+  pub divided_covers : Covers (IsValue fore back) (quotient_of distances s t) (ok_or (div v w) code.Div)
   divided_covers = divided_if _ _ refl refl
 
   bitwise_if : (op : ℤ → ℤ → ℤ) → ((x y : ℤ) → FitsSigned w32 (op x y)) → (x y : Bool)
       → is_single (interval_of distances s) ≡ x → is_single (interval_of distances t) ≡ y
-      → IsValue around (cond (x && y) (single (op (interval_of distances s).lo (interval_of distances t).lo))
+      → IsValue fore back (cond (x && y) (single (op (interval_of distances s).lo (interval_of distances t).lo))
       (value_in any_number)) (op v w)
   bitwise_if op f true true p q =
       let d = of_dividend in
@@ -152,13 +150,12 @@ module _ (distances : Distances) (around : Surroundings) (b : AreDistances dista
       let r : (interval_of distances t).lo ≡ w = omega (arith, ints) in
       rw (l, r) (record {
         is = record { low = omega (arith, ints); high = omega (arith, ints) };
-        form = refl;
         fits = f v w;
         saved = tt;
       })
-  bitwise_if op f true false p q = any_number_is around (op v w) (f v w)
-  bitwise_if op f false y p q = any_number_is around (op v w) (f v w)
+  bitwise_if op f true false p q = any_number_is fore back (op v w) (f v w)
+  bitwise_if op f false y p q = any_number_is fore back (op v w) (f v w)
 
   pub bitwise_in : (op : ℤ → ℤ → ℤ) → ((x y : ℤ) → FitsSigned w32 (op x y))
-      → IsValue around (bitwise op (interval_of distances s) (interval_of distances t)) (op v w)
+      → IsValue fore back (bitwise op (interval_of distances s) (interval_of distances t)) (op v w)
   bitwise_in op f = bitwise_if op f _ _ refl refl

@@ -1,7 +1,7 @@
 -- U, %, X, ^U, G, the push-down list, and what types.
 use Rattle.std.proofs.Common.{◌≡◌, ℕ, zero, suc, ◌+◌, ◌-◌, ◌≤◌, arith, w32, refl, ℤ, pos, ◌+ℤ◌, List, [], length}
 use Rattle.std.proofs.Common.{drop, length-take, length-drop, length-append, ◌++◌, ◌<◌, get_or, set, Bool, true}
-use Rattle.std.proofs.Common.{false, cond, nat_le, IfOk, Option, Some, None, Result, Ok, Err, ◌∷◌, ◌∙◌}
+use Rattle.std.proofs.Common.{false, cond, nat_le, IfOk, Option, Some, None, Result, Ok, Err}
 use Rattle.std.specs.Prelude.{unwrap_or}
 use Rattle.std.proofs.lemmas.Int.{ints, SFits-int_wrap}
 use Rattle.std.proofs.lemmas.Bool.Decides.{nat_tests}
@@ -24,7 +24,7 @@ use Rattle.teco_model.specs.declared.kind.Typing.TheVariants as typing_kind
 use Rattle.teco_model.specs.declared.pattern.Span.{Span as Part}
 use Rattle.teco_poly.specs.Polynomial.{Polynomial, value}
 use Rattle.teco_law_facts.proofs.Saved.{IsSaved, saved_at}
-use Rattle.teco_law_facts.proofs.Each.{IsNumber, IsText, each_at, each_set, each_kept, each_length}
+use Rattle.teco_law_facts.proofs.Each.{IsNumber, IsText, each_at, each_set, each_kept, each_length, all_set}
 use Rattle.teco_law_facts.proofs.Insertion.{inserted_foretold}
 use Rattle.teco_law_facts.proofs.Parts.{parts_lead}
 use Rattle.teco_law_facts.proofs.Motion.{place_known, count_within}
@@ -35,8 +35,8 @@ use Rattle.teco_verifier.specs.facts.Arguments.{KnownTaken}
 use Rattle.teco_verifier.specs.facts.Arguments as known
 use Rattle.teco_verifier.specs.facts.Attempt.{◌>>=◌}
 use Rattle.teco_law_facts.specs.Describes.{Run, IsWhole, Holds, IsAt, AreRegisters, IsPushed, ArePushed, IsTaken}
-use Rattle.teco_law_facts.specs.Describes.{IsOptional, around_of}
-use Rattle.teco_verifier.specs.facts.Facts.{Facts, Pushed, number_of, text_of, without_digit}
+use Rattle.teco_law_facts.specs.Describes.{IsOptional, fore_of, back_of}
+use Rattle.teco_verifier.specs.facts.Facts.{Facts, Pushed, number_of, text_of}
 use Rattle.teco_verifier.specs.facts.Motions.{count_of}
 use Rattle.teco_verifier.specs.facts.Shifts.{Foreseen, is_place, silent}
 use Rattle.teco_law_facts.specs.SoundElements.{Succeeds, Fits, IsNamedByStorage}
@@ -47,13 +47,6 @@ use Rattle.teco_verifier.specs.facts.Values.{kept_in_32_bits, IsValue, value_in}
 use Rattle.teco_verifier.specs.declared.refusal.Refusal.{Refusal}
 use Rattle.teco_verifier.specs.declared.values.Interval.{Interval}
 use Rattle.teco_verifier.specs.declared.values.Value.{Value}
-use Rattle.teco_verifier.specs.expansion.Names.{named_by_storage}
-
-text_there : (texts : List Polynomial) (r : ℕ) (most : Polynomial) → r < length texts
-    → get_or (set texts r most) r [] ≡ most
-text_there [] r most l = absurd (omega arith)
-text_there (p ∷ texts) zero most l = refl
-text_there (p ∷ texts) (suc r) most l = text_there texts r most (omega arith)
 
 zero_within : IsWithin any_number (pos 0)
 zero_within = record { low = omega (arith, ints); high = omega (arith, ints) }
@@ -106,45 +99,22 @@ module _ (run : Run) (facts : Facts) (unread : ℕ) (kept : Kept) (whole : IsWho
       (record { position = h.position; held = h.held; registers = h.registers; pushed = h.pushed }) refl refl refl refl
       tt
 
-  -- and of what ends the digit that is known
-  pub forgotten : Holds run facts unread kept → Holds run (without_digit facts) unread kept
-  forgotten i = let p = i.position in
-      record {
-        position = record {
-          begin = p.begin;
-          end = p.end;
-          fallen = p.fallen;
-          ahead = p.ahead;
-          saved = p.saved;
-          digit = tt;
-        };
-        held = i.held;
-        registers = i.registers;
-        pushed = i.pushed;
-      }
-
-  untouched_without : (typed : List ℕ)
-      → IsDone run facts unread kept (silent (without_digit facts)) (no_answer (record kept { typed = typed }))
-  untouched_without typed = let i = forgotten h in
-      done_with run facts unread kept whole h (without_digit facts) _ None
-      (record { position = i.position; held = i.held; registers = i.registers; pushed = i.pushed }) refl refl refl refl
-      tt
-
   -- the position where a number is set, saved or not
-  renumbered : (r : ℕ) (saved : Bool) (pair : Pair) → IsPlaceIf saved (around_of kept) pair.number
-      → IsAt run (record facts.position { saved = set facts.position.saved r saved }) (around_of kept) unread
-      (set kept.registers.pairs r pair)
+  renumbered : (r : ℕ) (saved : Bool) (pair : Pair) → IsPlaceIf saved (fore_of kept) (back_of kept) pair.number
+      → IsAt run (record facts.position { saved = set facts.position.saved r saved }) (fore_of kept)
+      (back_of kept) unread (set kept.registers.pairs r pair)
   renumbered r saved pair p = let i = h.position in
       record {
         begin = i.begin;
         end = i.end;
         fallen = i.fallen;
         ahead = i.ahead;
-        digit = i.digit;
-        saved = each_set (IsSaved (around_of kept)) facts.position.saved kept.registers.pairs r saved pair i.saved p;
+        saved = each_set (IsSaved (fore_of kept) (back_of kept)) facts.position.saved kept.registers.pairs r saved pair
+            i.saved p;
       }
 
-  with_number : (r : ℕ) (i : Interval) (saved : Bool) (v : ℤ) → IsWithin i v → IsPlaceIf saved (around_of kept) v
+  with_number : (r : ℕ) (i : Interval) (saved : Bool) (v : ℤ) → IsWithin i v
+      → IsPlaceIf saved (fore_of kept) (back_of kept) v
       → Holds run (row.with_number r i saved facts) unread (model.kept_with_number r v kept)
   with_number r i saved v p q = record {
     position = renumbered r saved _ q;
@@ -153,14 +123,15 @@ module _ (run : Run) (facts : Facts) (unread : ℕ) (kept : Kept) (whole : IsWho
     pushed = h.pushed;
   }
 
-  of_value : (s : Value) (v : ℤ) → IsValue (around_of kept) s v → IsWithin (interval_of facts.position.distances s) v
+  of_value : (s : Value) (v : ℤ) → IsValue (fore_of kept) (back_of kept) s v
+      → IsWithin (interval_of facts.position.distances s) v
   of_value s v i =
       let d = distances run facts unread kept whole h in
-      interval_of_in s facts.position.distances (around_of kept) v d.least (omega (arith, d.within))
+      interval_of_in s facts.position.distances (fore_of kept) (back_of kept) v d.least (omega (arith, d.within))
       (omega (arith, d.within)) i.is
 
   -- U and %
-  set_foretold : (r : ℕ) (o : Option Value) (v : Option ℤ) → IsOptional (IsValue (around_of kept)) o v
+  set_foretold : (r : ℕ) (o : Option Value) (v : Option ℤ) → IsOptional (IsValue (fore_of kept) (back_of kept)) o v
       → Foretells run facts unread kept (known.needed_value o >>= λ n.
       Ok (silent (row.with_number r (interval_of facts.position.distances n) (is_place n facts.position.distances)
       facts))) (needed_value v >>>= λ n. Ok (no_answer (model.kept_with_number r n kept)))
@@ -170,7 +141,7 @@ module _ (run : Run) (facts : Facts) (unread : ℕ) (kept : Kept) (whole : IsWho
       (with_number r _ _ v (of_value s v i) (place_known run facts unread kept whole h s v i)) refl refl refl refl tt
   set_foretold r o v i = absurd (grind arith)
 
-  added : (r : ℕ) (o : Option Value) (v : Option ℤ) → IsOptional (IsValue (around_of kept)) o v
+  added : (r : ℕ) (o : Option Value) (v : Option ℤ) → IsOptional (IsValue (fore_of kept) (back_of kept)) o v
       → IsDone run facts unread kept (row.addition r o facts) (model.addition r (unwrap_or v (pos 1)) kept)
   added r o v i =
       let now = number_at run facts.numbers facts.texts kept.registers.pairs h.registers r in
@@ -181,27 +152,26 @@ module _ (run : Run) (facts : Facts) (unread : ℕ) (kept : Kept) (whole : IsWho
       done_with run facts unread kept whole h _ _
       (Some (value_in (kept_in_32_bits (interval_sum (number_of r facts) (count_of o facts.position.distances)))))
       (with_number r _ false _ new tt) refl refl refl refl
-      (record { is = value_in_in _ (around_of kept) _ new; form = refl; fits = SFits-int_wrap w32 _; saved = tt })
+      (record { is = value_in_in _ (fore_of kept) (back_of kept) _ new; fits = SFits-int_wrap w32 _; saved = tt })
 
   -- the position where a text is set
   retexted : (r : ℕ) (text : List ℕ)
-      → IsAt run facts.position (around_of kept) unread (with_text r text kept.registers).pairs
+      → IsAt run facts.position (fore_of kept) (back_of kept) unread (with_text r text kept.registers).pairs
   retexted r text = let i = h.position in record {
     begin = i.begin;
     end = i.end;
     fallen = i.fallen;
     ahead = i.ahead;
-    digit = i.digit;
-    saved = each_kept (IsSaved (around_of kept)) facts.position.saved kept.registers.pairs false r _
-        i.saved (saved_at (around_of kept) facts.position.saved kept.registers.pairs i.saved r);
+    saved = each_kept (IsSaved (fore_of kept) (back_of kept)) facts.position.saved kept.registers.pairs false r _
+        i.saved (saved_at (fore_of kept) (back_of kept) facts.position.saved kept.registers.pairs i.saved r);
   }
 
   -- the shape of all that stores a text
   stored_at : (r : ℕ) (most : Polynomial) (text : List ℕ) (b : Bool) → nat_le (length text) LIMIT ≡ b → r < REGISTERS
-      → run.library r ≡ false → length text ≤ value most run.n → Fits run (row.with_text r most facts)
+      → length text ≤ value most run.n → Fits run.n (row.with_text r most facts)
       → Succeeds (IsDone run facts unread kept (silent (row.with_text r most facts)))
       (cond b (Ok (no_answer (record kept { registers = with_text r text kept.registers }))) (Err code.Ful))
-  stored_at r most text true e w free l f =
+  stored_at r most text true e w l f =
       done_with run facts unread kept whole h _ _ None
       (record {
         position = retexted r text;
@@ -210,15 +180,18 @@ module _ (run : Run) (facts : Facts) (unread : ℕ) (kept : Kept) (whole : IsWho
         pushed =
             h.pushed;
       }) refl refl refl refl tt
-  stored_at r most text false e w free l f = search (each_length, text_there, nat_tests, arith)
+  stored_at r most text false e w l f =
+      let count = each_length (IsText run.n) facts.texts kept.registers.pairs h.registers.texts in
+      let fits = all_set (λ most. value most run.n ≤ LIMIT) facts.texts r most (omega (arith, whole.count)) f.texts in
+      absurd (grind (arith, nat_tests))
 
   appended : (r : ℕ) (most : Polynomial) (text : List ℕ) (sum : Result Polynomial Refusal)
       → IfOk sum (λ p. value p run.n ≡ value (text_of r facts) run.n + value most run.n) → r < REGISTERS
-      → run.library r ≡ false → length text ≤ value most run.n
+      → length text ≤ value most run.n
       → Foretells run facts unread kept (sum >>= λ p. Ok (silent (row.with_text r p facts)))
       (model.text_setting r (model.text_in r kept ++ text) kept)
-  appended r most text (Ok p) e w free l =
-      λ f. stored_at r p (model.text_in r kept ++ text) _ refl w free
+  appended r most text (Ok p) e w l =
+      λ f. stored_at r p (model.text_in r kept ++ text) _ refl w
       (omega (
         arith,
         length-append (model.text_in r kept) text,
@@ -226,56 +199,55 @@ module _ (run : Run) (facts : Facts) (unread : ℕ) (kept : Kept) (whole : IsWho
         l,
         text_at run facts.numbers facts.texts kept.registers.pairs h.registers r,
       )) f
-  appended r most text (Err e) p w free l = tt
+  appended r most text (Err e) p w l = tt
 
-  stored : (colons r : ℕ) (most : Polynomial) (text : List ℕ) → r < REGISTERS → run.library r ≡ false
-      → length text ≤ value most run.n → Foretells run facts unread kept (row.text_storage colons r most facts)
-      (model.text_storage colons r text kept)
-  stored zero r most text w free l = λ f. stored_at r most text _ refl w free l f
-  stored (suc colons) r most text w free l = appended r most text _ (value-sum_of run.n (text_of r facts) most) w free l
+  stored : (colons r : ℕ) (most : Polynomial) (text : List ℕ) → r < REGISTERS → length text ≤ value most run.n
+      → Foretells run facts unread kept (row.text_storage colons r most facts) (model.text_storage colons r text kept)
+  stored zero r most text w l = λ f. stored_at r most text _ refl w l f
+  stored (suc colons) r most text w l = appended r most text _ (value-sum_of run.n (text_of r facts) most) w l
 
   -- a text of the library is refused
   unless_library : (library : Bool) (known : Result Foreseen Refusal) (effect : Result Effect Code)
-      → (library ≡ false → Foretells run facts unread kept known effect)
+      → Foretells run facts unread kept known effect
       → Foretells run facts unread kept (row.not_of_library library >>= λ free. known) effect
   unless_library true known effect f = tt
-  unless_library false known effect f = f refl
+  unless_library false known effect f = f
 
   own_text_foretold : (library : Bool) (colons r : ℕ) (text : List ℕ) (o : Option Value) (v : Option ℤ) → r < REGISTERS
-      → run.library r ≡ library → IsOptional (IsValue (around_of kept)) o v
+      → IsOptional (IsValue (fore_of kept) (back_of kept)) o v
       → Foretells run facts unread kept (row.own_text_storage library colons r text o facts)
       (model.own_text_storage colons r text v kept)
-  own_text_foretold library colons r text None None w knows i =
-      unless_library library _ _ (λ free. stored colons r _ text w (knows ∙ free)
-      (omega (arith, value-number (length text) run.n)))
-  own_text_foretold library colons r text (Some s) (Some v) w knows i = tt
-  own_text_foretold library colons r text o v w knows i = absurd (grind arith)
+  own_text_foretold library colons r text None None w i =
+      unless_library library _ _ (stored colons r _ text w (omega (arith, value-number (length text) run.n)))
+  own_text_foretold library colons r text (Some s) (Some v) w i = tt
+  own_text_foretold library colons r text None (Some v) w i = absurd i
+  own_text_foretold library colons r text (Some s) None w i = absurd i
 
   retrieval_foretold : (colons r : ℕ)
       → Foretells run facts unread kept (row.retrieval colons r facts) (model.retrieval colons r kept)
   retrieval_foretold zero r = inserted_foretold run facts unread kept whole h 0 (text_of r facts) (model.text_in r kept)
       (omega arith) (text_at run facts.numbers facts.texts kept.registers.pairs h.registers r)
-  retrieval_foretold (suc colons) r = λ l. untouched_without _
+  retrieval_foretold (suc colons) r = λ l. untouched _ _
 
   pub storage_foretold : (s : Storage) (library : Bool) (e : Element) (taking : KnownTaken) (taken : Taken)
-      → IsNamedByStorage s → run.library (named_by_storage s) ≡ library → IsTaken (around_of kept) taking taken
+      → IsNamedByStorage s → IsTaken (fore_of kept) (back_of kept) taking taken
       → Foretells run facts unread kept (row.storage s library e.colons e.text taking facts)
       (model.storage s e taken kept)
-  storage_foretold (SetNumber r) library e taking taken w knows i = set_foretold r taking.value taken.value i.value
-  storage_foretold (Add r) library e taking taken w knows i = λ l. added r taking.value taken.value i.value
-  storage_foretold (Get r) library e taking taken w knows i = retrieval_foretold e.colons r
-  storage_foretold (Copy r) library e taking taken w knows i =
+  storage_foretold (SetNumber r) library e taking taken w i = set_foretold r taking.value taken.value i.value
+  storage_foretold (Add r) library e taking taken w i = λ l. added r taking.value taken.value i.value
+  storage_foretold (Get r) library e taking taken w i = retrieval_foretold e.colons r
+  storage_foretold (Copy r) library e taking taken w i =
       parts_lead run facts unread kept whole h taking.first taking.value taken.first taken.value i.first i.value _
       (λ part. model.text_storage e.colons r (characters_of part kept) kept)
-      (λ part. unless_library library _ _ (λ free. stored e.colons r facts.held (characters_of part kept) w
-      (knows ∙ free) (omega (arith, part_short part kept, h.held))))
-  storage_foretold (SetText r) library e taking taken w knows i =
-      own_text_foretold library e.colons r e.text taking.value taken.value w knows i.value
+      (λ part. unless_library library _ _
+      (stored e.colons r facts.held (characters_of part kept) w (omega (arith, part_short part kept, h.held))))
+  storage_foretold (SetText r) library e taking taken w i =
+      own_text_foretold library e.colons r e.text taking.value taken.value w i.value
 
   -- ---- T, V, ^A, ^T and =
   number_foretold : (o : Option Value) (v : Option ℤ) (c : ℤ → Kept)
       → ((n : ℤ) → IsDone run facts unread kept (silent facts) (no_answer (c n)))
-      → IsOptional (IsValue (around_of kept)) o v
+      → IsOptional (IsValue (fore_of kept) (back_of kept)) o v
       → Foretells run facts unread kept (known.needed_value o >>= λ s. Ok (silent facts))
       (needed_value v >>>= λ n. Ok (no_answer (c n)))
   number_foretold None None c d i = tt
@@ -283,7 +255,7 @@ module _ (run : Run) (facts : Facts) (unread : ℕ) (kept : Kept) (whole : IsWho
   number_foretold o v c d i = absurd (grind arith)
 
   pub typing_foretold : (t : Typing) (e : Element) (taking : KnownTaken) (taken : Taken)
-      → IsTaken (around_of kept) taking taken
+      → IsTaken (fore_of kept) (back_of kept) taking taken
       → Foretells run facts unread kept (typings.typing t taking facts) (model_typing.typing t e taken kept)
   typing_foretold typing_kind.Part e taking taken i =
       parts_lead run facts unread kept whole h taking.first taking.value taken.first taken.value i.first i.value _

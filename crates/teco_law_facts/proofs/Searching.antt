@@ -1,7 +1,7 @@
 -- S and FS: what is known of both outcomes is true.
 use Rattle.std.proofs.Common.{◌≡◌, ℕ, zero, suc, ◌+◌, ◌≤◌, arith, refl, sym, subst, ap, ◌∙◌, ℤ, pos, negsuc, ◌≤ℤ◌}
 use Rattle.std.proofs.Common.{int_le, int_lt, List, [], ◌∷◌, map, length, Bool, true, false, cond, nat_le, ◌&&◌}
-use Rattle.std.proofs.Common.{Option, Some, None, Result, Ok, Err, IfOk, IfSome, inl, inr, ◌+ℤ◌}
+use Rattle.std.proofs.Common.{Option, Some, None, Result, Ok, Err, IfOk, IfSome, inl, inr, ◌-◌}
 use Rattle.std.specs.Prelude.{unwrap_or, not}
 use Rattle.std.proofs.lemmas.Int.{ints}
 use Rattle.std.proofs.lemmas.List.{length-map}
@@ -12,16 +12,17 @@ use Rattle.teco_base.specs.declared.code.Code.TheVariants as code
 use Rattle.teco_base.specs.Text.{text_after_replacement}
 use Rattle.teco_model.specs.Arguments as model
 use Rattle.teco_model.specs.Checked.{◌>>=◌ as ◌>>>=◌}
-use Rattle.teco_model.specs.Condition.{is_zero, is_code_of}
+use Rattle.teco_model.specs.Condition.{is_zero}
 use Rattle.teco_model.specs.Element.{Element}
 use Rattle.teco_model.specs.laws.Matching.{IsMatch}
-use Rattle.teco_model.specs.Pattern.{Pattern, minimum, parts}
+use Rattle.teco_model.specs.Pattern.{Pattern, minimum}
 use Rattle.teco_model.specs.Search as searching
 use Rattle.teco_model.specs.Search.{Finding, Found, Missed}
 use Rattle.teco_model.specs.State.{Kept}
 use Rattle.teco_model.specs.Going.{after}
 use Rattle.teco_model.specs.Searching.{kept_by_miss, at_start}
-use Rattle.teco_law_facts.specs.SoundSearches.{answer_where}
+use Rattle.teco_law_facts.specs.SoundSearches.{answer_where, IsInBuffer, MissArrives, SearchArrives, SearchesAreSound}
+use Rattle.teco_law_facts.specs.SoundSearches.{finding}
 use Rattle.teco_model.specs.declared.arguments.Taken.{Taken}
 use Rattle.teco_model.specs.declared.kind.Search.{Search}
 use Rattle.teco_model.specs.declared.kind.Search.TheVariants.{Find, Replace, FindInPages, ReplaceInPages}
@@ -29,9 +30,9 @@ use Rattle.teco_model.specs.declared.pattern.Span.{Span}
 use Rattle.teco_poly.specs.Polynomial.{Polynomial, value}
 use Rattle.teco_law_facts.proofs.Insertion.{replaced_at, replaced_within}
 use Rattle.teco_law_facts.proofs.Flowing.{each_dropped, taken_are}
-use Rattle.teco_law_facts.proofs.Matching.{HasPattern, pattern_with, LiesAhead, match_lies, EndsSo, EndsInDigit}
+use Rattle.teco_law_facts.proofs.Matching.{HasPattern, pattern_with, LiesAhead, match_lies}
 use Rattle.teco_law_facts.proofs.Meeting.{IsJoin, position_joined}
-use Rattle.teco_law_facts.proofs.Motion.{or_single, moved_by}
+use Rattle.teco_law_facts.proofs.Motion.{or_single}
 use Rattle.teco_law_facts.proofs.Numbers.{AreDistances, interval_of_in}
 use Rattle.teco_law_facts.proofs.Pending.{settled_are, taken_covers}
 use Rattle.teco_law_facts.proofs.Near.{distances}
@@ -43,26 +44,20 @@ use Rattle.teco_verifier.specs.facts.Arguments as known
 use Rattle.teco_verifier.specs.facts.Arguments.{KnownTaken}
 use Rattle.teco_verifier.specs.facts.Attempt.{◌>>=◌}
 use Rattle.teco_law_facts.specs.Describes.{Run, run_behind, IsWhole, Holds, IsAt, Describes, HasFallen, IsTaken}
-use Rattle.teco_law_facts.specs.Describes.{IsOptional, ArePending, fore_of, back_of, around_of, IsMarked}
+use Rattle.teco_law_facts.specs.Describes.{IsOptional, ArePending, fore_of, back_of}
 use Rattle.teco_verifier.specs.facts.Facts.{Position, Facts}
 use Rattle.teco_verifier.specs.facts.Flows.{Edges, leaving, facts_taken}
 use Rattle.teco_verifier.specs.facts.Motions.{count_of, success}
 use Rattle.teco_verifier.specs.facts.Searches as row
-use Rattle.teco_verifier.specs.facts.Shifts.{Shift, shifted, facts_behind, position_after, saved_after, falls_behind}
+use Rattle.teco_verifier.specs.facts.Shifts.{Shift, shifted, facts_behind, position_after, saved_after, fall_after}
 use Rattle.teco_law_facts.specs.SoundElements.{Succeeds, Leads, Arrives, FitsOn, ArrivesOn}
-use Rattle.teco_law_facts.specs.SoundSearches.{IsInBuffer, MissArrives, SearchArrives, SearchesAreSound, finding}
 use Rattle.teco_verifier.specs.facts.Transfer as transfers
 use Rattle.teco_verifier.specs.facts.Transfer.{Placed, transfer}
-use Rattle.teco_verifier.specs.facts.Values.{IsValue, IsWithin, value_in, Surroundings}
+use Rattle.teco_verifier.specs.facts.Values.{IsValue, IsWithin, value_in}
 use Rattle.teco_verifier.specs.declared.refusal.Refusal.{Refusal}
 use Rattle.teco_verifier.specs.declared.refusal.Refusal.TheVariants as refusal
 use Rattle.teco_verifier.specs.declared.values.Interval.{Interval}
 use Rattle.teco_verifier.specs.declared.values.Value.{Value}
-use Rattle.teco_verifier.specs.declared.falls.DigitMark.TheVariants.{Before}
-use Rattle.teco_verifier.specs.facts.Falls.{is_second}
-use Rattle.teco_verifier.specs.declared.falls.Falls.{Falls}
-use Rattle.teco_base.specs.Bytes.{is_digit}
-use Rattle.teco_model.specs.Character.{code_at}
 
 -- ---- the count is at least 1
 abbrev pub Counts : Option ℤ → Option ℤ → Type 0
@@ -94,65 +89,39 @@ allowed_count Replace i value h = in_buffer _ _ _ i value refl refl refl h
 allowed_count FindInPages i value h = in_pages _ i value refl h
 allowed_count ReplaceInPages i value h = in_pages _ i value refl h
 
--- ---- a digit that ends a match
-at_digit : (text : List ℕ) (end : ℕ) → EndsInDigit text end
-    → is_code_of is_digit (code_at text (pos end +ℤ negsuc 0)) ≡ true
-at_digit text end (at, e, (c, g, d)) = search (arith, ints)
-
-pub marked_found : (x y : Bool) (kept : Kept) → (y ≡ true → EndsInDigit kept.text kept.pointer)
-    → IsMarked (around_of kept) (cond (x && y) (Some Before) None)
-marked_found true true kept d = at_digit kept.text kept.pointer (d refl)
-marked_found true false kept d = tt
-marked_found false y kept d = tt
-
-pub unmarked_found : (x : Bool) → cond (x && false) (Some Before) None ≡ None
-unmarked_found true = refl
-unmarked_found false = refl
-
 -- ---- what a search leaves
 module _ (run : Run) (facts : Facts) (unread : ℕ) (kept : Kept) (whole : IsWhole kept)
     (h : Holds run facts unread kept) where
-  pub of_count : (o : Option Value) (v : Option ℤ) → IsOptional (IsValue (around_of kept)) o v
+  pub of_count : (o : Option Value) (v : Option ℤ) → IsOptional (IsValue (fore_of kept) (back_of kept)) o v
       → IsWithin (count_of o facts.position.distances) (unwrap_or v (pos 1))
   of_count o v i =
       let d = distances run facts unread kept whole h in
-      interval_of_in _ facts.position.distances (around_of kept) _ d.least (omega (arith, d.within))
-      (omega (arith, d.within)) (or_single (around_of kept) o v (pos 1) i)
+      interval_of_in _ facts.position.distances (fore_of kept) (back_of kept) _ d.least (omega (arith, d.within))
+      (omega (arith, d.within)) (or_single (fore_of kept) (back_of kept) o v (pos 1) i)
 
-  pub counted : (s : Search) (f o : Option Value) (m v : Option ℤ) → IsOptional (IsValue (around_of kept)) f m
-      → IsOptional (IsValue (around_of kept)) o v
+  pub counted : (s : Search) (f o : Option Value) (m v : Option ℤ)
+      → IsOptional (IsValue (fore_of kept) (back_of kept)) f m → IsOptional (IsValue (fore_of kept) (back_of kept)) o v
       → IfOk (row.count_checked s f o facts.position.distances) (λ u. Counts m v)
   counted s None o None v i j = allowed_count s (count_of o facts.position.distances) v (of_count o v j)
   counted s (Some f) o m v i j = tt
   counted s None o (Some m) v i j = absurd i
 
-  -- what is found, with the digit that is known behind it
-  abbrev pub found_shift : Search → ℕ → Element → Shift
-  found_shift s least e = record (row.shift_found s least (length e.second) facts.position.distances)
-      { digit = row.digit_found facts.rules s e.text }
-
+  -- what is found
   found_at : (s : Search) → IsInBuffer s → (e : Element) (least : ℕ) (span : Span) (last : List ℕ)
-      → LiesAhead (row.end_in_digit (parts e.text)) kept.text kept.pointer least span
-      → value facts.held run.n + value (found_shift s least e).growth run.n ≤ LIMIT
-      → Succeeds (λ new. Shifts run.n (found_shift s least e) kept new)
+      → LiesAhead kept.text kept.pointer least span
+      → value facts.held run.n + value (row.shift_found s least (length e.second) facts.position.distances).growth
+      run.n ≤ LIMIT
+      → Succeeds (λ new. Shifts run.n (row.shift_found s least (length e.second) facts.position.distances) kept new)
       (searching.kept_after s e span (record kept { search_text = last }))
   found_at Find b e least span last l f =
-      let moved = moved_by run facts unread kept whole h
-      (record { back = facts.position.distances.back + least; fore = 0 }) (Some (pos least))
-      (row.digit_found facts.rules Find e.text) span.end (omega (arith, h.position.begin, l.ahead, l.long))
-      (omega (arith, l.within)) (omega (arith, ints, l.ahead, l.long, l.within, whole.inside))
-      (marked_found (is_second facts.rules) (row.end_in_digit (parts e.text)) (record kept { pointer = span.end })
-      l.last) in
       record {
         registers = refl;
-        inside = moved.inside;
-        behind = moved.behind;
-        ahead = moved.ahead;
-        grown = moved.grown;
-        fallen = moved.fallen;
-        elsewhere = moved.elsewhere;
-        wider = moved.wider;
-        digit = moved.digit;
+        behind = omega (arith, h.position.begin, l.ahead, l.long);
+        ahead = omega (arith, l.within);
+        grown = omega arith;
+        fallen =
+            omega (arith, ints, l.ahead, l.long, l.within, whole.inside);
+        wider = λ e. omega (arith, l.within, whole.inside);
       }
   found_at Replace b e least span last l f = put_at _ refl
     where
@@ -160,23 +129,21 @@ module _ (run : Run) (facts : Facts) (unread : ℕ) (kept : Kept) (whole : IsWho
       within = replaced_within run facts unread kept whole h span.start span.end (length e.second) e.second
           (omega (arith, l.long)) l.within (omega arith) (omega (arith, f, value-number (length e.second) run.n))
 
-      no_digit : row.digit_found facts.rules Replace e.text ≡ None
-      no_digit = unmarked_found (is_second facts.rules)
-
-      shifts : Shifts run.n (found_shift Replace least e) kept
+      shifts : Shifts run.n (row.shift_found Replace least (length e.second) facts.position.distances) kept
           (record kept {
             text = text_after_replacement kept.text span.start span.end e.second;
             pointer = span.start + length e.second;
             last_length = length e.second;
           })
-      shifts = replaced_at run facts unread kept whole h (found_shift Replace least e)
-          (Some (pos least)) span.start span.end e.second refl no_digit (omega (arith, l.long)) l.within
-          (omega (arith, h.position.begin, l.ahead)) (omega (arith, l.within))
-          (omega (arith, l.long, value-number (length e.second) run.n))
+      shifts = replaced_at run facts unread kept whole h
+          (row.shift_found Replace least (length e.second) facts.position.distances) span.start span.end e.second
+          (omega (arith, l.long)) l.within (omega (arith, h.position.begin, l.ahead)) (omega (arith, l.within))
+          (omega (arith, value-number (length e.second) run.n))
           (omega (arith, ints, l.ahead, l.long, l.within, whole.inside)) (λ e. absurd (cc))
 
       put_at : (b : Bool) → nat_le (length (text_after_replacement kept.text span.start span.end e.second)) LIMIT ≡ b
-          → Succeeds (λ new. Shifts run.n (found_shift Replace least e) kept new)
+          → Succeeds (λ new. Shifts run.n (row.shift_found Replace least (length e.second) facts.position.distances)
+          kept new)
           (cond b (Ok (record kept {
             text = text_after_replacement kept.text span.start span.end e.second;
             pointer = span.start + length e.second;
@@ -185,70 +152,65 @@ module _ (run : Run) (facts : Facts) (unread : ℕ) (kept : Kept) (whole : IsWho
           })) (Err code.Ful))
       put_at true p = record {
         registers = refl;
-        inside = shifts.inside;
         behind = shifts.behind;
         ahead = shifts.ahead;
         grown = shifts.grown;
         fallen = shifts.fallen;
-        elsewhere = shifts.elsewhere;
         wider = shifts.wider;
-        digit =
-            shifts.digit;
       }
       put_at false p = absurd (grind (arith, nat_tests, within))
   found_at s b e least span last l f = absurd (grind arith)
 
   -- and what is missed
   to_begin : Shifts run.n (row.shift_to_begin facts.position.distances) kept (record kept { pointer = 0 })
-  to_begin = moved_by run facts unread kept whole h
-      (record { back = 0; fore = facts.position.distances.back + facts.position.distances.fore }) None None 0
-      (omega arith) (omega (arith, h.position.begin, h.position.end, whole.inside)) tt tt
+  to_begin = record {
+    registers = refl;
+    behind = omega arith;
+    ahead = omega (arith, h.position.begin, h.position.end, whole.inside);
+    grown = omega arith;
+    fallen = tt;
+    wider =
+        λ e. omega (arith, whole.inside);
+  }
 
-  failed_at_begin : IsAt run (position_after facts.rules (row.shift_to_begin facts.position.distances) facts.held
-      facts.position) (around_of (record kept { pointer = 0 })) unread kept.registers.pairs
+  failed_at_begin : IsAt run (position_after (row.shift_to_begin facts.position.distances) facts.held facts.position)
+      (length kept.text - 0) 0 unread kept.registers.pairs
   failed_at_begin = shifted_at run facts unread kept whole h (row.shift_to_begin facts.position.distances)
       (record kept { pointer = 0 }) facts.held to_begin h.held
 
   failed_in : (colons : ℕ) (last : List ℕ) → let new = kept_by_miss colons (record kept { search_text = last }) in
-      IsAt run (row.position_failed_in colons facts) (around_of new) unread new.registers.pairs
+      IsAt run (row.position_failed_in colons facts) (fore_of new) (back_of new) unread new.registers.pairs
   failed_in zero last = failed_at_begin
   failed_in (suc zero) last = failed_at_begin
   failed_in (suc (suc colons)) last = h.position
 
   failed_at : (s : Search) → IsInBuffer s → (colons : ℕ) (last : List ℕ) → let new =
       kept_by_miss colons (record kept { search_text = last }) in
-      IsAt run (row.position_failed s colons facts) (around_of new) unread new.registers.pairs
+      IsAt run (row.position_failed s colons facts) (fore_of new) (back_of new) unread new.registers.pairs
   failed_at Find b colons last = failed_in colons last
   failed_at Replace b colons last = failed_in colons last
   failed_at s b colons last = absurd (grind arith)
 
-  falls_alike : (s : Search) → IsInBuffer s → (colons : ℕ) (f : Falls → Falls)
-      → length (map f facts.position.falls) ≡ length (row.position_failed s colons facts).falls
-  falls_alike Find b zero f = omega (
+  falls_alike : (s : Search) → IsInBuffer s → (colons : ℕ) (v : Option ℤ)
+      → length (map (fall_after v) facts.position.falls) ≡ length (row.position_failed s colons facts).falls
+  falls_alike Find b zero v = omega (
     arith,
-    length-map facts.position.falls f,
-    length-map facts.position.falls (falls_behind facts.rules (row.shift_to_begin facts.position.distances)),
+    length-map facts.position.falls (fall_after v),
+    length-map facts.position.falls (fall_after None),
   )
-  falls_alike Find b (suc zero) f =
-      omega (
-        arith,
-        length-map facts.position.falls f,
-        length-map facts.position.falls (falls_behind facts.rules (row.shift_to_begin facts.position.distances)),
-      )
-  falls_alike Find b (suc (suc colons)) f = omega (arith, length-map facts.position.falls f)
-  falls_alike Replace b zero f = omega (
+  falls_alike Find b (suc zero) v =
+      omega (arith, length-map facts.position.falls (fall_after v), length-map facts.position.falls (fall_after None))
+  falls_alike Find b (suc (suc colons)) v = omega (arith, length-map facts.position.falls (fall_after v))
+  falls_alike Replace b zero v = omega (
     arith,
-    length-map facts.position.falls f,
-    length-map facts.position.falls (falls_behind facts.rules (row.shift_to_begin facts.position.distances)),
+    length-map facts.position.falls (fall_after v),
+    length-map facts.position.falls (fall_after None),
   )
-  falls_alike Replace b (suc zero) f =
-      omega (
-        arith,
-        length-map facts.position.falls f,
-        length-map facts.position.falls (falls_behind facts.rules (row.shift_to_begin facts.position.distances)),
-      )
-  falls_alike Replace b (suc (suc colons)) f = omega (arith, length-map facts.position.falls f)
-  falls_alike s b colons f = absurd (grind arith)
+  falls_alike Replace b (suc zero) v =
+      omega (arith, length-map facts.position.falls (fall_after v), length-map facts.position.falls (fall_after None))
+  falls_alike Replace b (suc (suc colons)) v = omega (arith, length-map facts.position.falls (fall_after v))
+  falls_alike FindInPages b colons v = absurd b
+  falls_alike ReplaceInPages b colons v = absurd b
 
   -- a miss leaves the buffer as it is
   missed_wider : (colons : ℕ) (last : List ℕ) → let new = kept_by_miss colons (record kept { search_text = last }) in
@@ -272,7 +234,8 @@ module _ (run : Run) (facts : Facts) (unread : ℕ) (kept : Kept) (whole : IsWho
       → length (saved_after ends facts.position.saved) ≡ length (row.position_failed s colons facts).saved
   saved_alike s b colons ends =
       let l : length facts.position.saved ≡ REGISTERS =
-      saved_count (around_of kept) facts.position.saved kept.registers.pairs h.position.saved ∙ whole.count in
+      saved_count (fore_of kept) (back_of kept) facts.position.saved kept.registers.pairs h.position.saved
+      ∙ whole.count in
       length_after ends facts.position.saved l ∙ (sym l ∙ sym (ap length (missed_saved s b colons)))
 
 -- ---- steps
@@ -293,21 +256,18 @@ minimum_known L Q kept c text (Ok None) f g k m h = tt
 minimum_known L Q kept c text (Ok (Some least)) f g k m h = let has =
     pattern_with kept.registers (not (is_zero kept.mode)) (c ∷ text) least m in rw has.is (h least has)
 
--- what a pattern's matches are long at least, and whether a digit ends them
-record IsLong (p : Pattern) (digit : Bool) (buffer : List ℕ) (least : ℕ) : Type 0 where
-  long : (span : Span) → IsMatch p buffer span → span.start + least ≤ span.end
-  last : (span : Span) → IsMatch p buffer span → EndsSo digit buffer span.end
+-- what a pattern's matches are long at least
+abbrev IsLong : Pattern → List ℕ → ℕ → Type 0
+IsLong p buffer least = (span : Span) → IsMatch p buffer span → span.start + least ≤ span.end
 
 minimum_leads : {Y Z : Type 0} (L : Y → Type 0) (Q : Y → Z → Type 0) (kept : Kept) (text : List ℕ) (f : ℕ
     → Result Facts Refusal) (g : Facts → Result Y Refusal) (k : Pattern → Result Z Code)
-    → ((least : ℕ) (p : Pattern) → IsLong p (row.end_in_digit (parts text)) kept.text least
-    → Leads L Q (f least >>= g) (k p))
+    → ((least : ℕ) (p : Pattern) → IsLong p kept.text least → Leads L Q (f least >>= g) (k p))
     → Leads L Q ((row.minimum_of text >>= f) >>= g)
     (searching.pattern_of (searching.search_text_of text kept) kept >>>= k)
 minimum_leads L Q kept [] f g k h = tt
 minimum_leads L Q kept (c ∷ text) f g k h =
-    minimum_known L Q kept c text _ f g k refl
-    (λ least has. h least has.it (record { long = has.long kept.text; last = has.last kept.text }))
+    minimum_known L Q kept c text _ f g k refl (λ least has. h least has.it (has.long kept.text))
 
 -- ---- the law
 module _ (run : Run) (facts : Facts) (unread : ℕ) (kept : Kept) (arguments : model.Arguments) (whole : IsWhole kept)
@@ -316,38 +276,37 @@ module _ (run : Run) (facts : Facts) (unread : ℕ) (kept : Kept) (arguments : m
   abbrev taking : Facts
   taking = facts_taken facts
 
-  now : AreDistances facts.position.distances (around_of kept)
+  now : AreDistances facts.position.distances (fore_of kept) (back_of kept)
   now = distances run facts unread kept whole d.state
 
   taking_holds : Holds run taking unread kept
   taking_holds = pending_again run facts unread kept d.state _
 
-  taking_are : ArePending (around_of kept) taking.arguments (model.levels_after_taking arguments)
+  taking_are : ArePending (fore_of kept) (back_of kept) taking.arguments (model.levels_after_taking arguments)
   taking_are = taken_are run facts unread kept arguments whole d
 
   -- what is pending at another place
-  settled_at : (ends : Bool) (around : Surroundings) → Widens ends (around_of kept) around
-      → ArePending around (known.settled facts.position.distances ends taking.arguments)
+  settled_at : (ends : Bool) (fore back : ℕ) → Widens ends (fore_of kept) (back_of kept) fore back
+      → ArePending fore back (known.settled facts.position.distances ends taking.arguments)
       (model.levels_after_taking arguments)
-  settled_at ends around w = settled_are facts.position.distances ends (around_of kept) around now w taking.arguments
-      (model.levels_after_taking arguments) taking_are
+  settled_at ends fore back w = settled_are facts.position.distances ends (fore_of kept)
+      (back_of kept) fore back now w taking.arguments (model.levels_after_taking arguments) taking_are
 
   abbrev failed : Position
   failed = row.position_failed s x.element.colons taking
 
-  success_is : (around : Surroundings) (v : ℤ) → negsuc 0 ≤ℤ v → v ≤ℤ pos 0 → IsValue around (value_in success) v
-  success_is around v l u = record {
+  success_is : (fore back : ℕ) (v : ℤ) → negsuc 0 ≤ℤ v → v ≤ℤ pos 0 → IsValue fore back (value_in success) v
+  success_is fore back v l u = record {
     is = record { low = omega (arith, ints); high = omega (arith, ints) };
-    form = refl;
     fits = omega (arith, ints);
     saved = tt;
   }
 
   module _ (least : ℕ) (held : Polynomial)
       (more : value held run.n ≡ value facts.held run.n + value
-      (found_shift run taking unread kept whole taking_holds s least x.element).growth run.n) where
+      (row.shift_found s least (length x.element.second) facts.position.distances).growth run.n) where
     abbrev shift : Shift
-    shift = found_shift run taking unread kept whole taking_holds s least x.element
+    shift = row.shift_found s least (length x.element.second) facts.position.distances
 
     abbrev found : Facts
     found = facts_behind shift held taking
@@ -368,7 +327,7 @@ module _ (run : Run) (facts : Facts) (unread : ℕ) (kept : Kept) (arguments : m
         record {
           described = record {
             state = found_holds new sh;
-            pending = settled_at shift.ends (around_of new) sh.wider;
+            pending = settled_at shift.ends (fore_of new) (back_of new) sh.wider;
             answers = tt;
           };
           grown = omega (arith, more, sh.grown);
@@ -380,7 +339,7 @@ module _ (run : Run) (facts : Facts) (unread : ℕ) (kept : Kept) (arguments : m
     found_answers position j new sh = let h = found_holds new sh in record {
       described = record {
         state = record {
-          position = j.left (around_of new) unread new.registers.pairs h.position;
+          position = j.left (fore_of new) (back_of new) unread new.registers.pairs h.position;
           held = h.held;
           registers = h.registers;
           pushed = h.pushed;
@@ -389,11 +348,10 @@ module _ (run : Run) (facts : Facts) (unread : ℕ) (kept : Kept) (arguments : m
             record {
               level = record {
                 first = tt;
-                value = success_is (around_of new) (negsuc 0) (omega (arith, ints)) (omega (arith, ints));
-                operator =
-                    refl;
+                value = success_is (fore_of new) (back_of new) (negsuc 0) (omega (arith, ints)) (omega (arith, ints));
+                operator = refl;
               };
-              outer = (settled_at shift.ends (around_of new) sh.wider).outer;
+              outer = (settled_at shift.ends (fore_of new) (back_of new) sh.wider).outer;
             };
         answers = (negsuc 0, refl, record { either = inl refl; found = λ e. h.position; failed = λ e. absurd (cc) });
       };
@@ -424,7 +382,7 @@ module _ (run : Run) (facts : Facts) (unread : ℕ) (kept : Kept) (arguments : m
         let text : length new.text ≡ length kept.text = ap length (missed_text x.element.colons last) in record {
           described = record {
             state = record {
-              position = j.right (around_of new) unread new.registers.pairs i;
+              position = j.right (fore_of new) (back_of new) unread new.registers.pairs i;
               held = omega (arith, text, more, h.held);
               registers =
                   rw (missed_registers x.element.colons last)
@@ -436,11 +394,10 @@ module _ (run : Run) (facts : Facts) (unread : ℕ) (kept : Kept) (arguments : m
                 record {
                   level = record {
                     first = tt;
-                    value = success_is (around_of new) (pos 0) (omega (arith, ints)) (omega (arith, ints));
-                    operator =
-                        refl;
+                    value = success_is (fore_of new) (back_of new) (pos 0) (omega (arith, ints)) (omega (arith, ints));
+                    operator = refl;
                   };
-                  outer = (settled_at shift.ends (around_of new)
+                  outer = (settled_at shift.ends (fore_of new) (back_of new)
                       (λ e. missed_wider run taking unread kept whole taking_holds x.element.colons last)).outer;
                 };
             answers = (pos 0, refl, record { either = inr refl; found = λ e. absurd (cc); failed = λ e. i });
@@ -453,20 +410,18 @@ module _ (run : Run) (facts : Facts) (unread : ℕ) (kept : Kept) (arguments : m
         (after (record (at_start (record kept { search_text = last })) { typed = typed }) model.no_arguments)
     missed_leaves none last typed =
         let h = d.state in
-        let i : IsAt run failed (around_of (record kept { pointer = 0 })) unread kept.registers.pairs =
-        subst (λ colons. IsAt run (row.position_failed s colons taking) (around_of (record kept { pointer = 0 }))
-        unread kept.registers.pairs) (sym none)
+        let i : IsAt run failed (length kept.text - 0) 0 unread kept.registers.pairs =
+        subst (λ colons. IsAt run (row.position_failed s colons taking)
+        (length kept.text - 0) 0 unread kept.registers.pairs) (sym none)
         (failed_at run taking unread kept whole taking_holds s inside_buffer 0 last) in record {
           described = record {
             state = record {
               position = record {
                 begin = i.begin;
                 end = i.end;
-                fallen = each_dropped (HasFallen (around_of (record kept { pointer = 0 })) unread) 1 failed.falls
-                    run.turns i.fallen;
+                fallen = each_dropped (HasFallen (length kept.text - 0 + unread)) 1 failed.falls run.turns i.fallen;
                 ahead = i.ahead;
                 saved = i.saved;
-                digit = i.digit;
               };
               held = h.held;
               registers = record { numbers = h.registers.numbers; texts = h.registers.texts };
@@ -486,10 +441,8 @@ module _ (run : Run) (facts : Facts) (unread : ℕ) (kept : Kept) (arguments : m
     ArrivesBy colon edges (Missed new) =
         MissArrives colon run facts.held unread kept arguments x.element.colons edges new
 
-    span_found : (span : Span) (last : List ℕ)
-        → LiesAhead (row.end_in_digit (parts x.element.text)) kept.text kept.pointer least span
-        → value held run.n ≤ LIMIT → (Q : Finding → Type 0)
-        → ((new : Kept) → Shifts run.n shift kept new → Q (Found new))
+    span_found : (span : Span) (last : List ℕ) → LiesAhead kept.text kept.pointer least span → value held run.n ≤ LIMIT
+        → (Q : Finding → Type 0) → ((new : Kept) → Shifts run.n shift kept new → Q (Found new))
         → Succeeds Q (searching.finding_of s x.element (Some span) (record kept { search_text = last }))
     span_found span last l fits Q k =
         succeeds_then (λ new. Shifts run.n shift kept new) Q _ Found k
@@ -497,8 +450,8 @@ module _ (run : Run) (facts : Facts) (unread : ℕ) (kept : Kept) (arguments : m
         (omega (arith, more, fits)))
 
     answered_by : (r : Result Position Refusal) → IfOk r (IsJoin run found.position failed) → (o : Option Span)
-        → IfSome o (LiesAhead (row.end_in_digit (parts x.element.text)) kept.text kept.pointer least) → (last : List ℕ)
-        → Leads (FitsOn run) (ArrivesBy true) (transfers.on (r >>= λ position. Ok (answered position)))
+        → IfSome o (LiesAhead kept.text kept.pointer least) → (last : List ℕ)
+        → Leads (FitsOn run.n) (ArrivesBy true) (transfers.on (r >>= λ position. Ok (answered position)))
         (searching.finding_of s x.element o (record kept { search_text = last }))
     answered_by (Err why) j o l last = tt
     answered_by (Ok position) j None l last = λ fits. missed_answers position j last
@@ -507,14 +460,13 @@ module _ (run : Run) (facts : Facts) (unread : ℕ) (kept : Kept) (arguments : m
         (ArrivesBy true (record { on = Some (answered position); away = None })) (found_answers position j)
 
     outcome_leads : (colon : Bool) → (colon ≡ false → x.element.colons ≡ 0) → (o : Option Span)
-        → IfSome o (LiesAhead (row.end_in_digit (parts x.element.text)) kept.text kept.pointer least) → (last : List ℕ)
-        → Leads (FitsOn run) (ArrivesBy colon)
+        → IfSome o (LiesAhead kept.text kept.pointer least) → (last : List ℕ)
+        → Leads (FitsOn run.n) (ArrivesBy colon)
         (transfers.search_outcomes colon found (row.facts_failed s x.element.colons taking))
         (searching.finding_of s x.element o (record kept { search_text = last }))
     outcome_leads true c o l last =
         answered_by _ (position_joined run found.position failed
-        (falls_alike run taking unread kept whole taking_holds s inside_buffer x.element.colons
-        (falls_behind facts.rules shift))
+        (falls_alike run taking unread kept whole taking_holds s inside_buffer x.element.colons shift.fall)
         (saved_alike run taking unread kept whole taking_holds s inside_buffer x.element.colons shift.ends)) o l last
     outcome_leads false c None l last = λ fits typed. missed_leaves (c refl) last typed
     outcome_leads false c (Some span) l last =
@@ -527,55 +479,55 @@ module _ (run : Run) (facts : Facts) (unread : ℕ) (kept : Kept) (arguments : m
   -- what is held after what was put in
   grown_leads : (least : ℕ) (r : Result Polynomial Refusal)
       → IfOk r (λ held. value held run.n ≡ value facts.held run.n + value
-      (found_shift run taking unread kept whole taking_holds s least x.element).growth run.n) → (o : Option Span)
-      → IfSome o (LiesAhead (row.end_in_digit (parts x.element.text)) kept.text kept.pointer least) → (last : List ℕ)
-      → Leads (FitsOn run) (SearchArrives run facts.held unread kept arguments x)
-      ((r >>= λ held. Ok (facts_behind (found_shift run taking unread kept whole taking_holds s least x.element) held
+      (row.shift_found s least (length x.element.second) facts.position.distances).growth run.n) → (o : Option Span)
+      → IfSome o (LiesAhead kept.text kept.pointer least) → (last : List ℕ)
+      → Leads (FitsOn run.n) (SearchArrives run facts.held unread kept arguments x)
+      ((r >>= λ held. Ok (facts_behind (row.shift_found s least (length x.element.second) facts.position.distances) held
       taking)) >>= λ found. transfers.search_outcomes x.colon found (row.facts_failed s x.element.colons taking))
       (searching.finding_of s x.element o (record kept { search_text = last }))
   grown_leads least (Err why) e o l last = tt
   grown_leads least (Ok held) e o l last =
       arrives_so x.colon has_colon (outcome_leads least held e x.colon has_colon o l last) where
         arrives_so : (colon : Bool) → (colon ≡ false → x.element.colons ≡ 0)
-            → Leads (FitsOn run) (ArrivesBy least held e x.colon)
+            → Leads (FitsOn run.n) (ArrivesBy least held e x.colon)
             (transfers.search_outcomes x.colon (found least held e) (row.facts_failed s x.element.colons taking))
             (searching.finding_of s x.element o (record kept { search_text = last }))
-            → Leads (FitsOn run) (SearchArrives run facts.held unread kept arguments x)
+            → Leads (FitsOn run.n) (SearchArrives run facts.held unread kept arguments x)
             (transfers.search_outcomes x.colon (found least held e) (row.facts_failed s x.element.colons taking))
             (searching.finding_of s x.element o (record kept { search_text = last }))
         arrives_so colon c h = leads_as _ _ h where
           leads_as : (r : Result Edges Refusal) (c : Result Finding Code)
-              → Leads (FitsOn run) (ArrivesBy least held e x.colon) r c
-              → Leads (FitsOn run) (SearchArrives run facts.held unread kept arguments x) r c
+              → Leads (FitsOn run.n) (ArrivesBy least held e x.colon) r c
+              → Leads (FitsOn run.n) (SearchArrives run facts.held unread kept arguments x) r c
           leads_as (Err why) c h = tt
           leads_as (Ok edges) (Err c) h = h
           leads_as (Ok edges) (Ok (Found new)) h = h
           leads_as (Ok edges) (Ok (Missed new)) h = h
 
   searched : (t : Taken) (m : ℕ) → searching.count_of t.first t.value ≡ Ok (pos (suc m))
-      → Leads (FitsOn run) (SearchArrives run facts.held unread kept arguments x) (row.facts_found s x.element taking
+      → Leads (FitsOn run.n) (SearchArrives run facts.held unread kept arguments x) (row.facts_found s x.element taking
       >>= λ found. transfers.search_outcomes x.colon found (row.facts_failed s x.element.colons taking))
       (searching.search s x.element t kept)
   searched t m e =
       rw e
-      (minimum_leads (FitsOn run) (SearchArrives run facts.held unread kept arguments x) kept x.element.text
-      (λ least. shifted (found_shift run taking unread kept whole taking_holds s least x.element) taking)
+      (minimum_leads (FitsOn run.n) (SearchArrives run facts.held unread kept arguments x) kept x.element.text
+      (λ least. shifted (row.shift_found s least (length x.element.second) facts.position.distances) taking)
       (λ found. transfers.search_outcomes x.colon found (row.facts_failed s x.element.colons taking))
       (λ p. searching.finding_of s x.element
       (searching.match_of p x.element.colons (pos (suc m)) kept.text kept.pointer)
       (record kept { search_text = searching.search_text_of x.element.text kept }))
       (λ least p long. grown_leads least _ (value-sum_of run.n facts.held _) _
-      (match_lies p kept.text least (row.end_in_digit (parts x.element.text)) long.long long.last x.element.colons m
-      kept.pointer) _))
+      (match_lies p kept.text least long x.element.colons m kept.pointer) _))
 
   allowed_first : (r : Result (Unit {0}) Refusal) (z : Result Edges Refusal) (c : Result Finding Code)
-      → Leads (FitsOn run) (SearchArrives run facts.held unread kept arguments x) z c
-      → Leads (FitsOn run) (SearchArrives run facts.held unread kept arguments x) (r >>= λ allowed. z) c
+      → Leads (FitsOn run.n) (SearchArrives run facts.held unread kept arguments x) z c
+      → Leads (FitsOn run.n) (SearchArrives run facts.held unread kept arguments x) (r >>= λ allowed. z) c
   allowed_first (Ok u) z c h = h
   allowed_first (Err why) z c h = tt
 
-  at_search : (r : Result KnownTaken Refusal) (c : Result Taken Code) → Covers (IsTaken (around_of kept)) r c
-      → Leads (FitsOn run) (SearchArrives run facts.held unread kept arguments x)
+  at_search : (r : Result KnownTaken Refusal) (c : Result Taken Code)
+      → Covers (IsTaken (fore_of kept) (back_of kept)) r c
+      → Leads (FitsOn run.n) (SearchArrives run facts.held unread kept arguments x)
       ((r >>= λ known. row.count_checked s known.first known.value facts.position.distances >>= λ u. Ok taking)
       >>= λ taken. transfers.search_allowed x.inside x.colon >>= λ allowed. row.facts_found s x.element taken
       >>= λ found. transfers.search_outcomes x.colon found (row.facts_failed s x.element.colons taken))
@@ -585,11 +537,10 @@ module _ (run : Run) (facts : Facts) (unread : ℕ) (kept : Kept) (arguments : m
   at_search (Ok k) (Ok t) h = by_count _
       (counted run facts unread kept whole d.state s k.first k.value t.first t.value h.first h.value) where
         by_count : (r : Result (Unit {0}) Refusal) → IfOk r (λ u. Counts t.first t.value)
-            → Leads (FitsOn run) (SearchArrives run facts.held unread kept arguments x)
-            ((r >>= λ u. Ok taking) >>= λ taken.
-            transfers.search_allowed x.inside x.colon >>= λ allowed. row.facts_found s x.element taken >>= λ found.
-            transfers.search_outcomes x.colon found (row.facts_failed s x.element.colons taken))
-            (searching.search s x.element t kept)
+            → Leads (FitsOn run.n) (SearchArrives run facts.held unread kept arguments x)
+            ((r >>= λ u. Ok taking) >>= λ taken. transfers.search_allowed x.inside x.colon >>= λ allowed.
+            row.facts_found s x.element taken >>= λ found. transfers.search_outcomes x.colon found
+            (row.facts_failed s x.element.colons taken)) (searching.search s x.element t kept)
         by_count (Err why) n = tt
         by_count (Ok u) (m, e) = allowed_first _ _ _ (searched t m e)
 
@@ -597,9 +548,9 @@ pub searches_are_sound : SearchesAreSound
 unfolding transfer
 searches_are_sound run facts unread kept arguments x s whole d e b c =
     let n = without_answer run facts unread kept arguments d in
-    subst (λ k. Leads (FitsOn run) (SearchArrives run facts.held unread kept arguments x)
+    subst (λ k. Leads (FitsOn run.n) (SearchArrives run facts.held unread kept arguments x)
     (transfers.edges_of k x (transfers.answer_for k facts) (transfers.without_answer facts))
     (finding s x.element kept arguments)) (sym e)
     (at_search run (transfers.without_answer facts) unread kept arguments whole n s b x c _ _
-    (taken_covers facts.position.distances (around_of kept) (distances run facts unread kept whole d.state)
-    facts.arguments.level arguments.level d.pending.level))
+    (taken_covers facts.position.distances (fore_of kept) (back_of kept)
+    (distances run facts unread kept whole d.state) facts.arguments.level arguments.level d.pending.level))

@@ -1,9 +1,8 @@
 -- N and FN: page after page goes by, and what is known is true where they find, and where no page is left.
 use Rattle.std.proofs.Common.{◌∙◌, ◌≡◌, ℕ, suc, ◌+◌, ◌-◌, ◌≤◌, arith, refl, sym, subst, ℤ, pos, negsuc, ◌≤ℤ◌, List}
 use Rattle.std.proofs.Common.{[], ◌∷◌, length, ◌++◌, length-append, length-take, length-drop, map, Bool, true, false}
-use Rattle.std.proofs.Common.{cond, nat_le, ◌==◌, Option, Some, None, Result, Ok, Err, IfOk, inl, inr, ok_or, take}
-use Rattle.std.proofs.Common.{drop, ◌&&◌, not, ap}
-use Rattle.std.specs.Prelude.{unwrap_or, not, ⊤}
+use Rattle.std.proofs.Common.{cond, nat_le, ◌==◌, Option, Some, None, Result, Ok, Err, IfOk, inl, inr, ok_or, not}
+use Rattle.std.specs.Prelude.{unwrap_or, ⊤}
 use Rattle.std.proofs.lemmas.Int.{ints}
 use Rattle.std.proofs.lemmas.List.{length-map}
 use Rattle.std.proofs.lemmas.Bool.Decides.{nat_tests}
@@ -19,8 +18,8 @@ use Rattle.teco_model.specs.Element.{Element}
 use Rattle.teco_model.specs.Files.{Output, with_written}
 use Rattle.teco_model.specs.Pages.{behind_form_feed}
 use Rattle.teco_model.specs.Paging as paging
-use Rattle.teco_model.specs.Paging.{unread, Met, MetHere, unread_of}
-use Rattle.teco_model.specs.Pattern.{minimum, parts}
+use Rattle.teco_model.specs.Paging.{unread, Met, MetHere, unread_of, Turned}
+use Rattle.teco_model.specs.Pattern.{minimum}
 use Rattle.teco_model.specs.Search as searching
 use Rattle.teco_law_facts.specs.SoundSearches.{answer_where}
 use Rattle.teco_model.specs.State.{Kept, World}
@@ -33,43 +32,35 @@ use Rattle.teco_model.specs.declared.pattern.Span.{Span}
 use Rattle.teco_poly.specs.Polynomial.{Polynomial, value, number}
 use Rattle.teco_law_facts.proofs.Saved.{none_are, none_again, saved_count, length_after}
 use Rattle.teco_law_facts.proofs.Flowing.{each_dropped, taken_are, taking_is}
-use Rattle.teco_law_facts.proofs.Matching.{pattern_with, LiesAhead, LastLies, sought_lies, EndsSo}
+use Rattle.teco_law_facts.proofs.Matching.{pattern_with, LiesAhead, LastLies, sought_lies}
 use Rattle.teco_law_facts.proofs.Meeting.{IsJoin, position_joined}
-use Rattle.teco_law_facts.proofs.Near.{distances, line_of, beyond_is}
+use Rattle.teco_law_facts.proofs.Near.{distances}
 use Rattle.teco_law_facts.proofs.Paging.{page_short, turned_world, turned_to, again_rest, again_holds}
 use Rattle.teco_law_facts.proofs.Pending.{settled_are}
-use Rattle.teco_law_facts.proofs.Searching.{Counts, counted, succeeds_then, marked_found, unmarked_found}
-use Rattle.teco_law_facts.proofs.Shapes.{Shifts, value-sum_of, value-number, held_falls, le_self}
+use Rattle.teco_law_facts.proofs.Searching.{Counts, counted, succeeds_then}
+use Rattle.teco_law_facts.proofs.Shapes.{Shifts, value-sum_of, value-number, falls_after, more_unread, ahead_most}
 use Rattle.teco_law_facts.proofs.Steps.{Covers, given_then}
 use Rattle.teco_law_facts.proofs.Transfers.{without_answer}
 use Rattle.teco_verifier.specs.facts.Arguments as known
 use Rattle.teco_verifier.specs.facts.Arguments.{KnownTaken}
 use Rattle.teco_verifier.specs.facts.Attempt.{◌>>=◌}
 use Rattle.teco_law_facts.specs.Describes.{AreSaved, Run, run_behind, IsWhole, Holds, IsAt, Describes, HasFallen}
-use Rattle.teco_law_facts.specs.Describes.{IsTaken, ArePending, fore_of, back_of, around_of, Begun, beyond_of}
-use Rattle.teco_law_facts.specs.Describes.{AreEach}
-use Rattle.teco_verifier.specs.facts.Facts.{none_saved, Position, Facts, sum_of, nowhere}
+use Rattle.teco_law_facts.specs.Describes.{IsTaken, ArePending, fore_of, back_of}
+use Rattle.teco_verifier.specs.facts.Facts.{none_saved, Position, Facts}
 use Rattle.teco_verifier.specs.facts.Flows.{Edges, leaving, facts_taken}
 use Rattle.teco_verifier.specs.facts.Motions.{success}
-use Rattle.teco_verifier.specs.facts.Printed.{steps_of_search, is_in_pages}
+use Rattle.teco_verifier.specs.facts.Printed.{steps_of_search}
 use Rattle.teco_verifier.specs.facts.Searches as row
-use Rattle.teco_verifier.specs.facts.Shifts.{saved_after, Shift, shifted, facts_behind, held_fall, with_held_fall}
-use Rattle.teco_verifier.specs.facts.Shifts.{capped, falls_behind, ahead_after, moving, ending}
+use Rattle.teco_verifier.specs.facts.Shifts.{saved_after, Shift, shifted, facts_behind, fall_after}
 use Rattle.teco_law_facts.specs.SoundElements.{Succeeds, Leads, FitsOn}
 use Rattle.teco_law_facts.specs.SoundPages.{ComesTo, Comes}
 use Rattle.teco_law_facts.specs.SoundSeeking.{IsInPages, facts_seeking, IsSeeking, MissComes, LooksOn, Seeks}
-use Rattle.teco_law_facts.specs.SoundSeeking.{PageSearchesAreSound, SearchStepsAreBounded, pages_left}
+use Rattle.teco_law_facts.specs.SoundSeeking.{PageSearchesAreSound, SearchStepsAreBounded}
 use Rattle.teco_verifier.specs.facts.Transfer as transfers
 use Rattle.teco_verifier.specs.facts.Transfer.{Placed, transfer}
-use Rattle.teco_verifier.specs.facts.Values.{IsValue, value_in, Surroundings}
+use Rattle.teco_verifier.specs.facts.Values.{IsValue, value_in}
 use Rattle.teco_verifier.specs.declared.refusal.Refusal.{Refusal}
 use Rattle.teco_verifier.specs.declared.values.Distances.{Distances}
-use Rattle.teco_verifier.specs.declared.rules.Rules.{Rules}
-use Rattle.teco_verifier.specs.facts.Falls.{By, Refilled, is_second, falls_without_end, falls_after, in_order}
-use Rattle.teco_verifier.specs.declared.falls.Falls.{Falls}
-use Rattle.teco_law_facts.proofs.Falls.{IsLine, Descends, each_fallen, each_remapped, ordered_is, anywhere_of}
-use Rattle.teco_law_facts.proofs.Falls.{anywhere_without, anywhere_later, without_end, refilled_by, lost_by}
-use Rattle.teco_law_facts.proofs.Beyond.{behind_line, beyond_later, drop_joined}
 
 -- ---- how many are sought
 pages_of_count : (v : ℤ) (m : ℕ) → searching.nonzero v ≡ Ok (pos (suc m)) → paging.page_count v ≡ Ok (suc m)
@@ -105,16 +96,8 @@ page_shorter : (c : ℕ) (bytes : List ℕ) → length (behind_form_feed (c ∷ 
 page_shorter c bytes = omega (arith, shorter_if (c == FF) bytes)
 
 -- ---- what a match leaves
--- with the digit that is known behind it
-abbrev found_shift : Rules → Search → ℕ → Element → Distances → Shift
-found_shift rules s least e distances =
-    record (row.shift_found s least (length e.second) distances) { digit = row.digit_found rules s e.text }
-
-module _ (rules : Rules) (n : ℕ) (kept : Kept) (e : Element) (least : ℕ) (distances : Distances) (span : Span)
-    (l : LiesAhead (row.end_in_digit (parts e.text)) kept.text kept.pointer least span) where
-  inside : kept.pointer ≤ length kept.text
-  inside = omega (arith, l.ahead, l.long, l.within)
-
+module _ (n : ℕ) (kept : Kept) (e : Element) (least : ℕ) (distances : Distances) (span : Span)
+    (l : LiesAhead kept.text kept.pointer least span) where
   replaced_length : length (text_after_replacement kept.text span.start span.end e.second) ≡ span.start +
       (length e.second + (length kept.text - span.end))
   replaced_length = omega (
@@ -126,27 +109,7 @@ module _ (rules : Rules) (n : ℕ) (kept : Kept) (e : Element) (least : ℕ) (di
     l.within,
   )
 
-  replaced_beyond : beyond_of (record kept {
-    text = text_after_replacement kept.text span.start span.end e.second;
-    pointer = span.start + length e.second;
-    last_length = length e.second;
-  }) ≡ behind_line (drop span.end kept.text)
-  replaced_beyond =
-      beyond_is (record kept {
-        text = text_after_replacement kept.text span.start span.end e.second;
-        pointer = span.start + length e.second;
-        last_length = length e.second;
-      }) (omega (arith, replaced_length))
-      ∙ ap behind_line (drop_joined (span.start + length e.second) (take span.start kept.text ++ e.second)
-      (drop span.end kept.text) (omega (
-        arith,
-        length-append (take span.start kept.text) e.second,
-        length-take span.start kept.text,
-        l.long,
-        l.within,
-      )))
-
-  replaced : Shifts n (found_shift rules ReplaceInPages least e distances) kept
+  replaced : Shifts n (row.shift_found ReplaceInPages least (length e.second) distances) kept
       (record kept {
         text = text_after_replacement kept.text span.start span.end e.second;
         pointer = span.start + length e.second;
@@ -154,27 +117,16 @@ module _ (rules : Rules) (n : ℕ) (kept : Kept) (e : Element) (least : ℕ) (di
       })
   replaced = let r = replaced_length in record {
     registers = refl;
-    inside = omega (arith, r);
     behind = omega arith;
-    ahead = omega (arith, r, l.within);
+    ahead = omega (arith, r);
     grown = omega (arith, r, l.long, l.within, value-number (length e.second) n);
-    fallen = λ u. (
-      omega (arith, r, l.ahead, l.long, l.within),
-      omega (
-        arith,
-        replaced_beyond,
-        beyond_is kept inside,
-        beyond_later kept.pointer span.end kept.text (omega (arith, l.ahead, l.long)),
-      ),
-    );
-    elsewhere = λ u. refl;
+    fallen = omega (arith, ints, r, l.ahead, l.long, l.within);
     wider = λ e. absurd (cc);
-    digit = rw (unmarked_found (is_second rules)) tt;
   }
 
   replaced_if : (b : Bool) → nat_le (length (text_after_replacement kept.text span.start span.end e.second)) LIMIT ≡ b
       → length kept.text + length e.second ≤ LIMIT
-      → Succeeds (Shifts n (found_shift rules ReplaceInPages least e distances) kept)
+      → Succeeds (Shifts n (row.shift_found ReplaceInPages least (length e.second) distances) kept)
       (cond b (Ok (record kept {
         text = text_after_replacement kept.text span.start span.end e.second;
         pointer = span.start + length e.second;
@@ -186,27 +138,16 @@ module _ (rules : Rules) (n : ℕ) (kept : Kept) (e : Element) (least : ℕ) (di
       omega (arith, l.long, l.within) in absurd (grind (arith, nat_tests, s))
 
   found_in : (s : Search) → IsInPages s
-      → length kept.text + value (found_shift rules s least e distances).growth n ≤ LIMIT
-      → Succeeds (Shifts n (found_shift rules s least e distances) kept) (searching.kept_after s e span kept)
+      → length kept.text + value (row.shift_found s least (length e.second) distances).growth n ≤ LIMIT
+      → Succeeds (Shifts n (row.shift_found s least (length e.second) distances) kept)
+      (searching.kept_after s e span kept)
   found_in FindInPages b short = record {
     registers = refl;
-    inside = l.within;
     behind = omega (arith, l.long);
     ahead = omega (arith, l.within);
     grown = omega arith;
-    fallen = λ u. (
-      omega (arith, l.ahead, l.long, l.within),
-      omega (
-        arith,
-        beyond_is kept inside,
-        beyond_is (record kept { pointer = span.end }) l.within,
-        beyond_later kept.pointer span.end kept.text (omega (arith, l.ahead, l.long)),
-      ),
-    );
-    elsewhere = λ u. refl;
+    fallen = omega (arith, ints, l.ahead, l.long, l.within);
     wider = λ e. absurd (cc);
-    digit = marked_found (is_second rules) (row.end_in_digit (parts e.text)) (record kept { pointer = span.end })
-        l.last;
   }
   found_in ReplaceInPages b short = replaced_if _ refl (omega (arith, short, value-number (length e.second) n))
   found_in Find b short = absurd b
@@ -240,29 +181,38 @@ module _ (run : Run) (facts : Facts) (world : World) (pending : model.Arguments)
   Seeking now = IsSeeking run seeking world pending x.element.text now
 
   -- what is pending at any place
-  anywhere : (around : Surroundings) → ArePending around seeking.arguments (model.levels_after_taking pending)
-  anywhere around = settled_are facts.position.distances true (around_of world.kept) around
+  anywhere : (fore back : ℕ) → ArePending fore back seeking.arguments (model.levels_after_taking pending)
+  anywhere fore back = settled_are facts.position.distances true (fore_of world.kept) (back_of world.kept) fore back
       (distances run facts (unread_of world) world.kept whole d.state) (λ e. absurd (cc)) (facts_taken facts).arguments
       (model.levels_after_taking pending) (taken_are run facts (unread_of world) world.kept pending whole d)
 
   seeks_first : (output : Output) → world.files.output ≡ Some output
       → ((kept : Kept) → searching.search_text_of x.element.text kept ≡ x.element.text)
       → Seeking (paging.world_seeking x.element.text world)
-  seeks_first output out own = search (each_fallen, without_end, anywhere_of, none_are, anywhere, arith)
-
-  falls_again : (now : World) → unread_of (turned_world now) ≤ unread_of now
-      → IsLine (around_of (turned_world now).kept)
-      → length (turned_world now).kept.text + unread_of (turned_world now) ≤ unread_of now
-      → AreEach (HasFallen (around_of now.kept) (unread_of now)) seeking.position.falls run.turns
-      → AreEach (HasFallen (around_of (turned_world now).kept) (unread_of (turned_world now))) seeking.position.falls
-      run.turns
-  falls_again now less line page g =
-      each_remapped (HasFallen (around_of now.kept) (unread_of now))
-      (HasFallen (around_of (turned_world now).kept) (unread_of (turned_world now))) falls_without_end falls_without_end
-      (λ falls begun i. without_end (around_of (turned_world now).kept) (unread_of (turned_world now)) falls begun
-      (anywhere_later (around_of now.kept) (unread_of now) (around_of (turned_world now).kept)
-      (unread_of (turned_world now)) falls begun less line (omega (arith, page))
-      (anywhere_without (around_of now.kept) (unread_of now) falls begun i))) facts.position.falls run.turns g
+  seeks_first output out own = let h = d.state in record {
+    comes = record {
+      described = record {
+        state = record {
+          position = record {
+            begin = omega arith;
+            end = omega arith;
+            fallen = h.position.fallen;
+            ahead = h.position.ahead;
+            saved =
+                none_are (fore_of world.kept) (back_of world.kept) world.kept.registers.pairs whole.count;
+          };
+          held = h.held;
+          registers = record { numbers = h.registers.numbers; texts = h.registers.texts };
+          pushed = h.pushed;
+        };
+        pending = anywhere (fore_of world.kept) (back_of world.kept);
+        answers = tt;
+      };
+      grown = omega arith;
+    };
+    sought = own world.kept;
+    output = (output, out);
+  }
 
   -- a page later
   seeks_again : (now : World) → Seeking now → Seeking (turned_world now)
@@ -272,12 +222,10 @@ module _ (run : Run) (facts : Facts) (world : World) (pending : model.Arguments)
       let r = again_rest run seeking now h refl refl in record {
         comes = record {
           described = record {
-            state = again_holds run seeking now h refl refl
-                (λ less line page. falls_again now less line page h.position.fallen) refl;
-            pending = anywhere (around_of (turned_world now).kept);
+            state = again_holds run seeking now h refl refl;
+            pending = anywhere (fore_of (turned_world now).kept) (back_of (turned_world now).kept);
             answers = tt;
           };
-          less = omega (arith, k.comes.less, p, r);
           grown = omega (arith, k.comes.grown);
         };
         sought = k.sought;
@@ -288,10 +236,9 @@ module _ (run : Run) (facts : Facts) (world : World) (pending : model.Arguments)
       → unread_of (turned_world now) + 1 ≤ unread_of now
   seeks_less now k c bytes e = search (again_rest, page_shorter, arith)
 
-  success_is : (around : Surroundings) (v : ℤ) → negsuc 0 ≤ℤ v → v ≤ℤ pos 0 → IsValue around (value_in success) v
-  success_is around v l u = record {
+  success_is : (fore back : ℕ) (v : ℤ) → negsuc 0 ≤ℤ v → v ≤ℤ pos 0 → IsValue fore back (value_in success) v
+  success_is fore back v l u = record {
     is = record { low = omega (arith, ints); high = omega (arith, ints) };
-    form = refl;
     fits = omega (arith, ints);
     saved = tt;
   }
@@ -301,39 +248,31 @@ module _ (run : Run) (facts : Facts) (world : World) (pending : model.Arguments)
     abbrev failed : Position
     failed = row.position_failed s x.element.colons (facts_taken facts)
 
-    abbrev emptied : World → World
+    emptied : World → World
     emptied now = paging.looked_through now
 
     failed_at_end : (now : World) → Seeking now → unread now.files ≡ [] → (u : ℕ) → u ≤ unread_of now
-        → IsAt run failed (around_of (emptied now).kept) u now.kept.registers.pairs
+        → IsAt run failed 0 0 u now.kept.registers.pairs
     failed_at_end now k e u l = by_search s in_pages where
-      lost : (falls : Falls) (begun : Begun)
-          → HasFallen (around_of now.kept) (unread_of now) (falls_without_end falls) begun
-          → HasFallen (around_of (emptied now).kept) u
-          (falls_behind facts.rules (ending (moving nowhere (By None))) falls) begun
-      lost falls begun i =
-          let line = line_of (emptied now).kept (omega arith) in
-          let by = held_falls (ending (moving nowhere (By None))) run.n
-          (fore_of now.kept + back_of now.kept + unread_of now)
-          (fore_of (emptied now).kept + back_of (emptied now).kept + u) (omega (arith, l)) in
-          ordered_is (around_of (emptied now).kept) u begun line facts.rules (capped nowhere) _ (omega arith)
-          (omega arith) (lost_by (around_of now.kept) (unread_of now) (around_of (emptied now).kept) u
-          (held_fall (ending (moving nowhere (By None)))) falls begun l line
-          (anywhere_without (around_of now.kept) (unread_of now) falls begun i) by)
+      at_end : IsAt run (row.position_failed FindInPages 0 (facts_taken facts)) 0 0 u now.kept.registers.pairs
+      at_end = let h = k.comes.described.state in record {
+        begin = omega arith;
+        end = omega arith;
+        fallen = falls_after None facts.position.falls run.turns (fore_of now.kept + unread_of now)
+            (0 + u) tt h.position.fallen;
+        ahead = omega (arith, h.held, l);
+        saved = none_again (fore_of now.kept) (back_of now.kept) 0 0 none_saved now.kept.registers.pairs refl
+            h.position.saved;
+      }
 
-      at_end : IsAt run (row.position_failed FindInPages 0 (facts_taken facts))
-          (around_of (emptied now).kept) u now.kept.registers.pairs
-      at_end = search (each_remapped, lost, none_again, arith)
-
-      by_search : (s : Search) → IsInPages s → IsAt run (row.position_failed s x.element.colons (facts_taken facts))
-          (around_of (emptied now).kept) u now.kept.registers.pairs
+      by_search : (s : Search) → IsInPages s
+          → IsAt run (row.position_failed s x.element.colons (facts_taken facts)) 0 0 u now.kept.registers.pairs
       by_search FindInPages b = record {
         begin = at_end.begin;
         end = at_end.end;
         fallen = at_end.fallen;
         ahead = at_end.ahead;
         saved = at_end.saved;
-        digit = at_end.digit;
       }
       by_search ReplaceInPages b = record {
         begin = at_end.begin;
@@ -341,24 +280,23 @@ module _ (run : Run) (facts : Facts) (world : World) (pending : model.Arguments)
         fallen = at_end.fallen;
         ahead = at_end.ahead;
         saved = at_end.saved;
-        digit = at_end.digit;
       }
       by_search s b = absurd (grind arith)
 
-    falls_alike : (f : Falls → Falls) → length (map f facts.position.falls) ≡ length failed.falls
-    falls_alike f = by_search s in_pages where
+    falls_alike : (v : Option ℤ) → length (map (fall_after v) facts.position.falls) ≡ length failed.falls
+    falls_alike v = by_search s in_pages where
       by_search : (s : Search) → IsInPages s
-          → length (map f facts.position.falls) ≡ length
+          → length (map (fall_after v) facts.position.falls) ≡ length
           (row.position_failed s x.element.colons (facts_taken facts)).falls
       by_search FindInPages b = omega (
         arith,
-        length-map facts.position.falls f,
-        length-map facts.position.falls (falls_behind facts.rules (ending (moving nowhere (By None)))),
+        length-map facts.position.falls (fall_after v),
+        length-map facts.position.falls (fall_after None),
       )
       by_search ReplaceInPages b = omega (
         arith,
-        length-map facts.position.falls f,
-        length-map facts.position.falls (falls_behind facts.rules (ending (moving nowhere (By None)))),
+        length-map facts.position.falls (fall_after v),
+        length-map facts.position.falls (fall_after None),
       )
       by_search s b = absurd (grind arith)
 
@@ -366,8 +304,8 @@ module _ (run : Run) (facts : Facts) (world : World) (pending : model.Arguments)
     saved_alike : (ends : Bool) → length (saved_after ends facts.position.saved) ≡ length failed.saved
     saved_alike ends = by_search s in_pages where
       all : length facts.position.saved ≡ REGISTERS
-      all = saved_count (around_of world.kept) facts.position.saved world.kept.registers.pairs d.state.position.saved
-          ∙ whole.count
+      all = saved_count (fore_of world.kept) (back_of world.kept) facts.position.saved world.kept.registers.pairs
+          d.state.position.saved ∙ whole.count
 
       by_search : (s : Search) → IsInPages s
           → length (saved_after ends facts.position.saved) ≡ length
@@ -387,9 +325,9 @@ module _ (run : Run) (facts : Facts) (world : World) (pending : model.Arguments)
 
     module _ (least : ℕ) (minimal : IsMinimum x.element.text least) (held : Polynomial)
         (more : value held run.n ≡ value facts.held run.n + value
-        (found_shift facts.rules s least x.element facts.position.distances).growth run.n) where
+        (row.shift_found s least (length x.element.second) facts.position.distances).growth run.n) where
       abbrev shift : Shift
-      shift = found_shift facts.rules s least x.element facts.position.distances
+      shift = row.shift_found s least (length x.element.second) facts.position.distances
 
       abbrev found : Facts
       found = facts_behind shift held (facts_taken facts)
@@ -402,28 +340,25 @@ module _ (run : Run) (facts : Facts) (world : World) (pending : model.Arguments)
             position = position;
           }
 
-      refilled : shift.descent ≡ Refilled least
-      refilled = by_search s in_pages where
-        by_search : (s : Search) → IsInPages s
-            → (found_shift facts.rules s least x.element facts.position.distances).descent ≡ Refilled least
-        by_search FindInPages b = refl
-        by_search ReplaceInPages b = refl
-        by_search s b = absurd (grind arith)
-
       ends : shift.ends ≡ true
       ends = ends_found least (length x.element.second) facts.position.distances
 
-      found_are : (around : Surroundings) → ArePending around found.arguments (model.levels_after_taking pending)
-      found_are around =
-          subst (λ ends. ArePending around (known.settled facts.position.distances ends (facts_taken facts).arguments)
-          (model.levels_after_taking pending)) (sym ends) (anywhere around)
+      found_are : (fore back : ℕ) → ArePending fore back found.arguments (model.levels_after_taking pending)
+      found_are fore back =
+          subst (λ ends. ArePending fore back
+          (known.settled facts.position.distances ends (facts_taken facts).arguments)
+          (model.levels_after_taking pending)) (sym ends) (anywhere fore back)
 
-      answer_is : (around : Surroundings) (v : ℤ) → negsuc 0 ≤ℤ v → v ≤ℤ pos 0
-          → ArePending around (known.levels_after_answer (Some (value_in success)) found.arguments)
+      answer_is : (fore back : ℕ) (v : ℤ) → negsuc 0 ≤ℤ v → v ≤ℤ pos 0
+          → ArePending fore back (known.levels_after_answer (Some (value_in success)) found.arguments)
           (model.levels_after_answer (Some v) (model.levels_after_taking pending))
-      answer_is around v l u = record {
-        level = record { first = tt; value = success_is around v l u; operator = refl };
-        outer = (found_are around).outer;
+      answer_is fore back v l u = record {
+        level = record {
+          first = tt;
+          value = success_is fore back v l u;
+          operator = refl;
+        };
+        outer = (found_are fore back).outer;
       }
 
       found_holds : (now : World) → Seeking now → (new : Kept) → Shifts run.n shift now.kept new
@@ -431,37 +366,19 @@ module _ (run : Run) (facts : Facts) (world : World) (pending : model.Arguments)
       found_holds now k new sh =
           let h = k.comes.described.state in
           let all : length new.text + unread_of now ≤ value held run.n = omega (arith, more, sh.grown, h.held) in
-          let line = line_of new sh.inside in
-          let by = held_falls shift run.n (fore_of now.kept + back_of now.kept + unread_of now)
-          (fore_of new + back_of new + unread_of now) (omega (arith, sh.grown, sh.inside)) in
-          let down : Descends (Refilled least) (around_of now.kept) (unread_of now) (around_of new) (unread_of now) =
-          subst (λ d. Descends d (around_of now.kept) (unread_of now) (around_of new) (unread_of now)) refilled
-          (sh.fallen (unread_of now)) in
-          record {
+          let fell = more_unread shift.fall (fore_of now.kept) (fore_of new) (unread_of now) sh.fallen in record {
             position = record {
               begin = omega (arith, sh.behind);
               end = omega (arith, sh.ahead);
-              fallen = subst (λ d. AreEach (HasFallen (around_of new) (unread_of now))
-                  (map (λ f. in_order facts.rules (capped shift.distances)
-                  (with_held_fall (held_fall shift) (falls_after facts.rules d f))) facts.position.falls) run.turns)
-                  (sym refilled) (each_remapped (HasFallen (around_of now.kept) (unread_of now))
-                  (HasFallen (around_of new) (unread_of now)) falls_without_end
-                  (λ f. in_order facts.rules (capped shift.distances)
-                  (with_held_fall (held_fall shift) (falls_after facts.rules (Refilled least) f)))
-                  (λ falls begun i. ordered_is (around_of new) (unread_of now) begun line facts.rules
-                  (capped shift.distances) _ (omega (arith, sh.behind)) (omega (arith, sh.ahead))
-                  (refilled_by (around_of now.kept) (unread_of now) (around_of new) (unread_of now)
-                  (held_fall shift) falls begun (le_self (unread_of now)) line least
-                  (anywhere_without (around_of now.kept) (unread_of now) falls begun i) down by)) facts.position.falls
-                  run.turns h.position.fallen);
-              ahead = subst (λ d. fore_of new + unread_of now ≤ value (ahead_after d held facts.position.ahead) run.n)
-                  (sym refilled) (omega (arith, down.0, h.position.ahead));
+              fallen = falls_after shift.fall facts.position.falls run.turns (fore_of now.kept + unread_of now)
+                  (fore_of new + unread_of now) fell h.position.fallen;
+              ahead = ahead_most shift.fall run.n (fore_of now.kept + unread_of now) (fore_of new + unread_of now) held
+                  facts.position.ahead fell h.position.ahead (omega (arith, all));
               saved = rw sh.registers
-                  (subst (λ ends. AreSaved (around_of new) (saved_after ends facts.position.saved)
+                  (subst (λ ends. AreSaved (fore_of new) (back_of new) (saved_after ends facts.position.saved)
                   now.kept.registers.pairs) (sym ends)
-                  (none_again (around_of now.kept) (around_of new) none_saved now.kept.registers.pairs refl
-                  h.position.saved));
-              digit = sh.digit;
+                  (none_again (fore_of now.kept) (back_of now.kept) (fore_of new)
+                  (back_of new) none_saved now.kept.registers.pairs refl h.position.saved));
             };
             held = all;
             registers = rw sh.registers (record { numbers = h.registers.numbers; texts = h.registers.texts });
@@ -472,8 +389,11 @@ module _ (run : Run) (facts : Facts) (world : World) (pending : model.Arguments)
       found_comes : (now : World) → Seeking now → (new : Kept) → Shifts run.n shift now.kept new
           → ComesTo run facts.held world found (model.levels_after_taking pending) (record now { kept = new })
       found_comes now k new sh = record {
-        described = record { state = found_holds now k new sh; pending = found_are (around_of new); answers = tt };
-        less = k.comes.less;
+        described = record {
+          state = found_holds now k new sh;
+          pending = found_are (fore_of new) (back_of new);
+          answers = tt;
+        };
         grown = omega (arith, more, sh.grown, k.comes.grown);
       }
 
@@ -484,16 +404,15 @@ module _ (run : Run) (facts : Facts) (world : World) (pending : model.Arguments)
       found_answers position j now k new sh = let h = found_holds now k new sh in record {
         described = record {
           state = record {
-            position = j.left (around_of new) (unread_of now) new.registers.pairs h.position;
+            position = j.left (fore_of new) (back_of new) (unread_of now) new.registers.pairs h.position;
             held = h.held;
             registers = record { numbers = h.registers.numbers; texts = h.registers.texts };
             pushed =
                 h.pushed;
           };
-          pending = answer_is (around_of new) (negsuc 0) (omega (arith, ints)) (omega (arith, ints));
+          pending = answer_is (fore_of new) (back_of new) (negsuc 0) (omega (arith, ints)) (omega (arith, ints));
           answers = (negsuc 0, refl, record { either = inl refl; found = λ e. h.position; failed = λ e. absurd (cc) });
         };
-        less = k.comes.less;
         grown = omega (arith, more, sh.grown, k.comes.grown);
       }
 
@@ -506,17 +425,15 @@ module _ (run : Run) (facts : Facts) (world : World) (pending : model.Arguments)
           let i = failed_at_end now k e (unread_of now) (omega arith) in record {
             described = record {
               state = record {
-                position = j.right (around_of (emptied now).kept)
-                    (unread_of now) now.kept.registers.pairs i;
+                position = j.right 0 0 (unread_of now) now.kept.registers.pairs i;
                 held = omega (arith, more, h.held);
                 registers =
                     record { numbers = h.registers.numbers; texts = h.registers.texts };
                 pushed = h.pushed;
               };
-              pending = answer_is (around_of (emptied now).kept) (pos 0) (omega (arith, ints)) (omega (arith, ints));
+              pending = answer_is 0 0 (pos 0) (omega (arith, ints)) (omega (arith, ints));
               answers = (pos 0, refl, record { either = inr refl; found = λ e. absurd (cc); failed = λ e. i });
             };
-            less = k.comes.less;
             grown = omega (arith, more, k.comes.grown);
           }
 
@@ -532,11 +449,10 @@ module _ (run : Run) (facts : Facts) (world : World) (pending : model.Arguments)
                 position = record {
                   begin = i.begin;
                   end = i.end;
-                  fallen = each_dropped (HasFallen (around_of (emptied now).kept) (unread_of now)) 1 failed.falls
-                      run.turns i.fallen;
-                  ahead = i.ahead;
+                  fallen = each_dropped (HasFallen (0 + unread_of now)) 1 failed.falls run.turns i.fallen;
+                  ahead =
+                      i.ahead;
                   saved = i.saved;
-                  digit = i.digit;
                 };
                 held = omega (arith, h.held);
                 registers = record { numbers = h.registers.numbers; texts = h.registers.texts };
@@ -545,7 +461,6 @@ module _ (run : Run) (facts : Facts) (world : World) (pending : model.Arguments)
               pending = record { level = record { first = tt; value = tt; operator = refl }; outer = tt };
               answers = tt;
             };
-            less = k.comes.less;
             grown = omega (arith, k.comes.grown);
           }
 
@@ -561,15 +476,24 @@ module _ (run : Run) (facts : Facts) (world : World) (pending : model.Arguments)
           (k : Seeking now) where
         page_on : (n : ℕ) (bytes : List ℕ) → unread now.files ≡ bytes
             → Succeeds (LooksOn run seeking world pending x edges now) (paging.page_looked_for bytes n now)
-        page_on n [] e = (along.missed now k e, omega arith)
-        page_on n (c ∷ bytes) e = search (page_short, succeeds_then, turned_to, seeks_again, seeks_less, arith)
+        page_on n [] e = along.missed now k e
+        page_on n (c ∷ bytes) e =
+            let h = k.comes.described.state in
+            let p = page_short (unread now.files) in
+            succeeds_then (λ new. Seeking new × (unread_of new + 1 ≤ unread_of now))
+            (LooksOn run seeking world pending x edges now) (paging.page_turned now) (Turned n) (λ new i. i)
+            (turned_to now _ refl (omega (arith, h.held, fits, more))
+            (λ new. Seeking new × (unread_of new + 1 ≤ unread_of now)) (
+              seeks_again now k,
+              seeks_less now k c bytes e,
+            ))
 
-        here_on : (r : Sought) → LastLies (row.end_in_digit (parts x.element.text)) now.kept.text least now.kept.pointer
-            r → Succeeds (LooksOn run seeking world pending x edges now)
+        here_on : (r : Sought) → LastLies now.kept.text least now.kept.pointer r
+            → Succeeds (LooksOn run seeking world pending x edges now)
             (paging.here_of s x.element now.kept r >>>= λ here. paging.looked_on here now)
         here_on (Last span) l = met_then (LooksOn run seeking world pending x edges now)
-            (Shifts run.n shift now.kept) now _ (λ new sh. (along.met now k new sh, omega arith))
-            (found_in facts.rules run.n now.kept x.element least facts.position.distances span l s in_pages
+            (Shifts run.n shift now.kept) now _ (along.met now k)
+            (found_in run.n now.kept x.element least facts.position.distances span l s in_pages
             (omega (arith, k.comes.described.state.held, fits, more)))
         here_on (Wanted n) l = with_output (LooksOn run seeking world pending x edges now) now.files.output k.output.0 _
             k.output.1 (λ q. page_on n _ refl)
@@ -579,10 +503,7 @@ module _ (run : Run) (facts : Facts) (world : World) (pending : model.Arguments)
         looks_on n =
             let has = pattern_with now.kept.registers (not (is_zero now.kept.mode)) now.kept.search_text least
             (subst (λ text. minimum text ≡ Ok (Some least)) (sym k.sought) minimal.is) in
-            rw has.is (here_on _ (sought_lies has.it now.kept.text least (row.end_in_digit (parts x.element.text))
-            (has.long now.kept.text) (λ span m.
-            subst (λ text. EndsSo (row.end_in_digit (parts text)) now.kept.text span.end) k.sought
-            (has.last now.kept.text span m)) n now.kept.pointer))
+            rw has.is (here_on _ (sought_lies has.it now.kept.text least (has.long now.kept.text) n now.kept.pointer))
 
       seeks : value held run.n ≤ LIMIT → (edges : Edges) → Along edges → (output : Output)
           → world.files.output ≡ Some output → (t : Taken) → Counts t.first t.value
@@ -596,7 +517,7 @@ module _ (run : Run) (facts : Facts) (world : World) (pending : model.Arguments)
 
       -- the edges, by whether the search counts as having a colon
       abbrev SeeksWith : Output → Taken → Edges → Type 0
-      SeeksWith output t edges = FitsOn run edges → Seeks run seeking world pending x s edges t
+      SeeksWith output t edges = FitsOn run.n edges → Seeks run seeking world pending x s edges t
 
       module _ (output : Output) (out : world.files.output ≡ Some output) (t : Taken) (c : Counts t.first t.value) where
         answers_seek : x.colon ≡ true → (r : Result Position Refusal) → IfOk r (IsJoin run found.position failed)
@@ -617,32 +538,32 @@ module _ (run : Run) (facts : Facts) (world : World) (pending : model.Arguments)
         outcomes_seek : (colon : Bool) → x.colon ≡ colon
             → IfOk (transfers.search_outcomes colon found (row.facts_failed s x.element.colons (facts_taken facts)))
             (SeeksWith output t)
-        outcomes_seek true b = answers_seek b _
-            (position_joined run found.position failed (falls_alike (falls_behind facts.rules shift))
+        outcomes_seek true b = answers_seek b _ (position_joined run found.position failed (falls_alike shift.fall)
             (saved_alike shift.ends))
         outcomes_seek false b = leaves_seek b
 
     -- ---- through what is checked first
     module _ (output : Output) (out : world.files.output ≡ Some output) (t : Taken) where
       abbrev Seek : Edges → Type 0
-      Seek edges = FitsOn run edges → Seeks run seeking world pending x s edges t
+      Seek edges = FitsOn run.n edges → Seeks run seeking world pending x s edges t
 
       held_seek : Counts t.first t.value → (least : ℕ) → IsMinimum x.element.text least
-          → IfOk (shifted (found_shift facts.rules s least x.element facts.position.distances) (facts_taken facts)
-          >>= λ found. transfers.search_outcomes x.colon found
+          → IfOk (shifted (row.shift_found s least (length x.element.second) facts.position.distances)
+          (facts_taken facts) >>= λ found. transfers.search_outcomes x.colon found
           (row.facts_failed s x.element.colons (facts_taken facts))) Seek
       held_seek c least minimal = by_sum _ (value-sum_of run.n facts.held _) where
         by_sum : (r : Result Polynomial Refusal)
             → IfOk r (λ held. value held run.n ≡ value facts.held run.n + value
-            (found_shift facts.rules s least x.element facts.position.distances).growth run.n)
-            → IfOk ((r >>= λ held. Ok (facts_behind (found_shift facts.rules s least x.element facts.position.distances)
-            held (facts_taken facts))) >>= λ found. transfers.search_outcomes x.colon found
+            (row.shift_found s least (length x.element.second) facts.position.distances).growth run.n)
+            → IfOk ((r >>= λ held.
+            Ok (facts_behind (row.shift_found s least (length x.element.second) facts.position.distances) held
+            (facts_taken facts))) >>= λ found. transfers.search_outcomes x.colon found
             (row.facts_failed s x.element.colons (facts_taken facts))) Seek
         by_sum (Err why) e = tt
         by_sum (Ok held) e = outcomes_seek least minimal held e output out t c x.colon refl
 
       found_seek : Counts t.first t.value → (r : Result ℕ Refusal) → IfOk r (IsMinimum x.element.text)
-          → IfOk ((r >>= λ least. shifted (found_shift facts.rules s least x.element facts.position.distances)
+          → IfOk ((r >>= λ least. shifted (row.shift_found s least (length x.element.second) facts.position.distances)
           (facts_taken facts)) >>= λ found. transfers.search_outcomes x.colon found
           (row.facts_failed s x.element.colons (facts_taken facts))) Seek
       found_seek c (Err why) m = tt
@@ -660,8 +581,9 @@ module _ (run : Run) (facts : Facts) (world : World) (pending : model.Arguments)
             always_ok (Err why) = tt
 
     taken_seek : (output : Output) → world.files.output ≡ Some output
-        → (r : Result KnownTaken Refusal) (c : Result Taken Code) → Covers (IsTaken (around_of world.kept)) r c
-        → Leads (FitsOn run) (Seeks run seeking world pending x s)
+        → (r : Result KnownTaken Refusal) (c : Result Taken Code)
+        → Covers (IsTaken (fore_of world.kept) (back_of world.kept)) r c
+        → Leads (FitsOn run.n) (Seeks run seeking world pending x s)
         ((r >>= λ k. row.count_checked s k.first k.value facts.position.distances >>= λ u. Ok (facts_taken facts))
         >>= λ taken. transfers.search_allowed x.inside x.colon >>= λ allowed. row.facts_found s x.element taken
         >>= λ found. transfers.search_outcomes x.colon found (row.facts_failed s x.element.colons taken)) c
@@ -672,8 +594,8 @@ module _ (run : Run) (facts : Facts) (world : World) (pending : model.Arguments)
         (counted run facts (unread_of world) world.kept whole d.state s k.first k.value t.first t.value h.first
         h.value)) where
           as_leads : (r : Result Edges Refusal)
-              → IfOk r (λ edges. FitsOn run edges → Seeks run seeking world pending x s edges t)
-              → Leads (FitsOn run) (Seeks run seeking world pending x s) r (Ok t)
+              → IfOk r (λ edges. FitsOn run.n edges → Seeks run seeking world pending x s edges t)
+              → Leads (FitsOn run.n) (Seeks run seeking world pending x s) r (Ok t)
           as_leads (Ok edges) h = h
           as_leads (Err why) h = tt
 
@@ -681,34 +603,24 @@ pub page_searches_are_sound : PageSearchesAreSound
 unfolding transfer
 page_searches_are_sound run facts world pending x s output whole d e b out =
     let n = without_answer run facts (unread_of world) world.kept pending d in
-    subst (λ k. Leads (FitsOn run) (Seeks run (facts_seeking facts) world pending x s)
+    subst (λ k. Leads (FitsOn run.n) (Seeks run (facts_seeking facts) world pending x s)
     (transfers.edges_of k x (transfers.answer_for k facts) (transfers.without_answer facts))
     (model.arguments_of pending.level)) (sym e)
     (taken_seek run (transfers.without_answer facts) world pending whole n x s b output out _ _
     (taking_is run (transfers.without_answer facts) (unread_of world) world.kept pending whole n))
 
 -- ---- steps
-one_more : (run : Run) (facts : Facts) (s : Search) (u : ℕ) (kept : Kept) → Holds run facts u kept
-    → is_in_pages s ≡ true → IfOk (steps_of_search s facts) (λ most. u + 1 ≤ value most run.n + pages_left s facts u)
-one_more run facts s u kept h e =
-    by (is_in_pages s) (is_second facts.rules) e (value-sum_of run.n facts.position.ahead (number 1)) where
-      by : (x y : Bool) → x ≡ true → IfOk (sum_of facts.position.ahead (number 1))
-          (λ most. value most run.n ≡ value facts.position.ahead run.n + value (number 1) run.n)
-          → IfOk (cond (x && not y) (sum_of facts.position.ahead (number 1)) (Ok (number 1)))
-          (λ most. u + 1 ≤ value most run.n + cond (x && y) u 0)
-      by true true e i = omega (arith, value-number 1 run.n)
-      by true false e i = by_sum _ i where
-        by_sum : (r : Result Polynomial Refusal)
-            → IfOk r (λ most. value most run.n ≡ value facts.position.ahead run.n + value (number 1) run.n)
-            → IfOk r (λ most. u + 1 ≤ value most run.n + 0)
-        by_sum (Err why) e = tt
-        by_sum (Ok most) e = omega (arith, e, h.position.ahead, value-number 1 run.n)
-      by false y e i = absurd (cc)
+one_more : (run : Run) (facts : Facts) (u : ℕ) (kept : Kept) → Holds run facts u kept
+    → IfOk (steps_of_search FindInPages facts) (λ most. u + 1 ≤ value most run.n)
+one_more run facts u kept h = by_sum _ (value-sum_of run.n facts.position.ahead (number 1)) where
+  by_sum : (r : Result Polynomial Refusal)
+      → IfOk r (λ most. value most run.n ≡ value facts.position.ahead run.n + value (number 1) run.n)
+      → IfOk r (λ most. u + 1 ≤ value most run.n)
+  by_sum (Err why) e = tt
+  by_sum (Ok most) e = omega (arith, e, h.position.ahead, value-number 1 run.n)
 
 pub search_steps_are_bounded : SearchStepsAreBounded
-search_steps_are_bounded run facts unread kept pending FindInPages d =
-    one_more run facts FindInPages unread kept d.state refl
-search_steps_are_bounded run facts unread kept pending ReplaceInPages d =
-    one_more run facts ReplaceInPages unread kept d.state refl
+search_steps_are_bounded run facts unread kept pending FindInPages d = one_more run facts unread kept d.state
+search_steps_are_bounded run facts unread kept pending ReplaceInPages d = one_more run facts unread kept d.state
 search_steps_are_bounded run facts unread kept pending Find d = omega (arith, value-number 1 run.n)
 search_steps_are_bounded run facts unread kept pending Replace d = omega (arith, value-number 1 run.n)

@@ -57,7 +57,6 @@ use Rattle.teco_model.specs.declared.pattern.Sought.{Sought}
 use Rattle.teco_model.specs.declared.pattern.Sought.TheVariants.{Last, Wanted}
 use Rattle.teco_model.specs.declared.pattern.Span.{Span}
 use Rattle.teco_model.specs.declared.skip.Skip.{Skip}
-use Rattle.teco_law_facts.proofs.Near.{code_within}
 use Rattle.teco_law_facts.proofs.Bytes.{ok_then, ok_any}
 use Rattle.teco_law_facts.proofs.Filing.{yanked, append_whole, abandoned, closed, opened, opened_output, turned}
 use Rattle.teco_law_facts.proofs.Filing.{paged, through, copied, exited, one_page, pages_whole}
@@ -70,6 +69,7 @@ use Rattle.teco_law_facts.proofs.Matching.{match_within}
 use Rattle.teco_law_facts.proofs.Reading.{IsOfBytes, element_bytes}
 use Rattle.teco_law_facts.specs.Describes.{AreBytes, IsWhole}
 use Rattle.teco_law_facts.specs.Wholeness.{AreWholeArguments, IsWholeWorld, IsWholeState, IsWholeOutcome, WholeIsKept}
+use Rattle.teco_law_facts.proofs.Asking.{code_within}
 
 -- ---- a match is a part
 item_on : (i : Item) (text : List ℕ) (start end : ℕ) → Matches i text start end → start ≤ end

@@ -1,6 +1,6 @@
 -- How many steps P and PW take.
-use Rattle.std.proofs.Common.{ℕ, arith, ℤ, pos, ◌≤ℤ◌, Option, Some, None, Result, Ok, Err, IfOk, w32, FitsSigned, refl}
-use Rattle.std.specs.Prelude.{unwrap_or, IsTrue}
+use Rattle.std.proofs.Common.{ℕ, arith, ℤ, pos, ◌≤ℤ◌, Option, Some, None, Result, Ok, Err, IfOk, w32, FitsSigned}
+use Rattle.std.specs.Prelude.{unwrap_or}
 use Rattle.std.proofs.lemmas.Int.{ints}
 use Rattle.teco_model.specs.Arguments as model
 use Rattle.teco_model.specs.State.{Kept}
@@ -12,48 +12,42 @@ use Rattle.teco_law_facts.proofs.Flowing.{tells_then, taking_is, bound_is}
 use Rattle.teco_law_facts.proofs.Motion.{or_single}
 use Rattle.teco_law_facts.proofs.Shapes.{value-number}
 use Rattle.teco_verifier.specs.facts.Arguments.{KnownTaken}
-use Rattle.teco_law_facts.specs.Describes.{Run, IsWhole, Describes, IsTaken, IsOptional, around_of}
+use Rattle.teco_law_facts.specs.Describes.{Run, IsWhole, Describes, IsTaken, IsOptional, fore_of, back_of}
 use Rattle.teco_verifier.specs.facts.Facts.{Facts}
 use Rattle.teco_verifier.specs.facts.Motions.{or_one}
 use Rattle.teco_verifier.specs.facts.Printed.{steps_of_pages, steps_of_page}
 use Rattle.teco_law_facts.specs.SoundFlow.{Tells}
 use Rattle.teco_law_facts.specs.SoundPages.{PagesAtMost, IsTurnOrWrite, PageStepsAreBounded}
-use Rattle.teco_verifier.specs.facts.Values.{IsValue, IsPlaceIf, Surroundings, has_form}
+use Rattle.teco_verifier.specs.facts.Values.{IsValue, IsPlaceIf}
 use Rattle.teco_verifier.specs.declared.refusal.Refusal.{Refusal}
 use Rattle.teco_verifier.specs.declared.values.Value.{Value}
 
-one_fits : (around : Surroundings) (o : Option Value) (v : Option ℤ) → IsOptional (IsValue around) o v
+one_fits : (fore back : ℕ) (o : Option Value) (v : Option ℤ) → IsOptional (IsValue fore back) o v
     → FitsSigned w32 (unwrap_or v (pos 1))
-one_fits around None None i = omega (arith, ints)
-one_fits around (Some s) (Some v) i = i.fits
-one_fits around o v i = absurd (grind arith)
+one_fits fore back None None i = omega (arith, ints)
+one_fits fore back (Some s) (Some v) i = i.fits
+one_fits fore back None (Some v) i = absurd i
+one_fits fore back (Some s) None i = absurd i
 
-one_saved : (around : Surroundings) (o : Option Value) (v : Option ℤ) → IsOptional (IsValue around) o v
-    → IsPlaceIf (or_one o).saved around (unwrap_or v (pos 1))
-one_saved around None v i = tt
-one_saved around (Some s) (Some v) i = i.saved
-one_saved around (Some s) None i = absurd i
-
-one_form : (around : Surroundings) (o : Option Value) (v : Option ℤ) → IsOptional (IsValue around) o v
-    → IsTrue (has_form (or_one o))
-one_form around None v i = refl
-one_form around (Some s) (Some v) i = i.form
-one_form around (Some s) None i = absurd i
+one_saved : (fore back : ℕ) (o : Option Value) (v : Option ℤ) → IsOptional (IsValue fore back) o v
+    → IsPlaceIf (or_one o).saved fore back (unwrap_or v (pos 1))
+one_saved fore back None v i = tt
+one_saved fore back (Some s) (Some v) i = i.saved
+one_saved fore back (Some s) None i = absurd i
 
 module _ (run : Run) (facts : Facts) (unread : ℕ) (kept : Kept) (arguments : model.Arguments) (whole : IsWhole kept)
     (d : Describes run facts unread kept arguments) where
-  counted_steps : (o : Option Value) (v : Option ℤ) → IsOptional (IsValue (around_of kept)) o v
+  counted_steps : (o : Option Value) (v : Option ℤ) → IsOptional (IsValue (fore_of kept) (back_of kept)) o v
       → IfOk (steps_of_pages None o facts) (λ most. unwrap_or v (pos 1) ≤ℤ pos (value most run.n))
   counted_steps o v i = bound_is run facts unread kept arguments whole d (or_one o) (unwrap_or v (pos 1))
       (record {
-        is = or_single (around_of kept) o v (pos 1) i;
-        saved = one_saved (around_of kept) o v i;
-        form = one_form (around_of kept) o v i;
-        fits = one_fits (around_of kept) o v i;
+        is = or_single (fore_of kept) (back_of kept) o v (pos 1) i;
+        saved = one_saved (fore_of kept) (back_of kept) o v i;
+        fits = one_fits (fore_of kept) (back_of kept) o v i;
       })
 
-  pages_most : (f o : Option Value) (m v : Option ℤ) → IsOptional (IsValue (around_of kept)) f m
-      → IsOptional (IsValue (around_of kept)) o v
+  pages_most : (f o : Option Value) (m v : Option ℤ) → IsOptional (IsValue (fore_of kept) (back_of kept)) f m
+      → IsOptional (IsValue (fore_of kept) (back_of kept)) o v
       → IfOk (steps_of_pages f o facts) (λ most. PagesAtMost (value most run.n) m v)
   pages_most (Some s) (Some t) (Some v) (Some w) i j = omega (arith, value-number 1 run.n)
   pages_most None o None v i j = counted_steps o v j
@@ -65,7 +59,7 @@ module _ (run : Run) (facts : Facts) (unread : ℕ) (kept : Kept) (arguments : m
   told (Ok most) t h = λ l. h
   told (Err why) t h = tt
 
-  steps_told : (p : Page) → IsTurnOrWrite p → (k : KnownTaken) (t : Taken) → IsTaken (around_of kept) k t
+  steps_told : (p : Page) → IsTurnOrWrite p → (k : KnownTaken) (t : Taken) → IsTaken (fore_of kept) (back_of kept) k t
       → Tells (λ most (taken : Taken). PagesAtMost (value most run.n) taken.first taken.value) (steps_of_page p k facts)
       (Ok t)
   steps_told page.Next b k t i = told _ t (pages_most k.first k.value t.first t.value i.first i.value)
@@ -74,6 +68,6 @@ module _ (run : Run) (facts : Facts) (unread : ℕ) (kept : Kept) (arguments : m
 
 pub page_steps_are_bounded : PageStepsAreBounded
 page_steps_are_bounded run facts unread kept arguments p whole d b =
-    tells_then (IsTaken (around_of kept))
+    tells_then (IsTaken (fore_of kept) (back_of kept))
     (λ most (taken : Taken). PagesAtMost (value most run.n) taken.first taken.value) _ _ _
     (taking_is run facts unread kept arguments whole d) (steps_told run facts unread kept arguments whole d p b)

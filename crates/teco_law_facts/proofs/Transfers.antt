@@ -1,7 +1,6 @@
 -- The laws of elements that go on behind themselves.
 use Rattle.std.proofs.Common.{◌≡◌, ℕ, zero, suc, ◌+◌, ◌≤◌, arith, w32, refl, sym, subst, ℤ, pos, neg_ℤ, List, [], ◌∷◌}
 use Rattle.std.proofs.Common.{length, drop, Option, Some, None, Result, Ok, Err, Bool, true, false, cond, IfOk, ok_or}
-use Rattle.std.proofs.Common.{ap, ◌∙◌}
 use Rattle.std.proofs.lemmas.Int.{ints, SFits-int_wrap}
 use Rattle.teco_base.specs.declared.code.Code.{Code}
 use Rattle.teco_base.specs.declared.code.Code.TheVariants as code
@@ -45,7 +44,7 @@ use Rattle.teco_verifier.specs.facts.Arguments as known
 use Rattle.teco_verifier.specs.facts.Arguments.{KnownLevel, KnownArguments, KnownTaken}
 use Rattle.teco_verifier.specs.facts.Attempt.{◌>>=◌}
 use Rattle.teco_law_facts.specs.Describes.{Run, IsWhole, Holds, Describes, ArePushed, IsLevel, IsTaken, IsOptional}
-use Rattle.teco_law_facts.specs.Describes.{ArePending, around_of}
+use Rattle.teco_law_facts.specs.Describes.{ArePending, fore_of, back_of}
 use Rattle.teco_verifier.specs.facts.Facts.{Facts, Pushed, with_arguments}
 use Rattle.teco_verifier.specs.facts.Queries as row
 use Rattle.teco_verifier.specs.facts.Shifts.{Foreseen, facts_answered, facts_behind}
@@ -55,24 +54,23 @@ use Rattle.teco_law_facts.specs.SoundElements.{StacksAreSound}
 use Rattle.teco_verifier.specs.facts.Storages as storages
 use Rattle.teco_verifier.specs.facts.Transfer as transfers
 use Rattle.teco_verifier.specs.facts.Transfer.{Placed, transfer}
-use Rattle.teco_verifier.specs.facts.Values.{single, value_in, size, IsValue, any_number, Surroundings}
+use Rattle.teco_verifier.specs.facts.Values.{single, value_in, size, IsValue, any_number}
 use Rattle.teco_verifier.specs.declared.refusal.Refusal.{Refusal}
 use Rattle.teco_verifier.specs.declared.refusal.Refusal.TheVariants as refusal
 use Rattle.teco_verifier.specs.declared.values.Value.{Value}
-use Rattle.teco_verifier.specs.expansion.Names.{named_by, named_by_command}
 
 -- the edge that goes on
 on_leads : (run : Run) (facts : Facts) (unread : ℕ) (kept : Kept) (r : Result Facts Refusal) (c : Result After Code)
-    → Leads (Fits run) (Arrives run facts.held unread kept) r c
-    → Leads (FitsOn run) (ArrivesOn run facts.held unread kept) (transfers.on r) c
+    → Leads (Fits run.n) (Arrives run facts.held unread kept) r c
+    → Leads (FitsOn run.n) (ArrivesOn run facts.held unread kept) (transfers.on r) c
 on_leads run facts unread kept (Ok next) c h = h
 on_leads run facts unread kept (Err why) c h = tt
 
 -- where more was read first
 keeps_on : (run : Run) (facts read : Facts) (unread : ℕ) (kept new : Kept) (x : Result Facts Refusal)
     (y : Result After Code) → value facts.held run.n ≤ value read.held run.n → length new.text ≤ length kept.text
-    → Leads (Fits run) (Arrives run read.held unread new) x y
-    → Leads (Fits run) (Arrives run facts.held unread kept) x y
+    → Leads (Fits run.n) (Arrives run read.held unread new) x y
+    → Leads (Fits run.n) (Arrives run facts.held unread kept) x y
 keeps_on run facts read unread kept new (Ok next) (Ok p) m n h = λ l. let i = h l in
     record { described = i.described; grown = omega (arith, i.grown) }
 keeps_on run facts read unread kept new (Ok next) (Err c) m n h = h
@@ -99,15 +97,16 @@ without_answer run facts unread kept arguments d = let h = d.state in
 
 module _ (run : Run) (facts : Facts) (unread : ℕ) (kept : Kept) (arguments : model.Arguments) (whole : IsWhole kept)
     (d : Describes run facts unread kept arguments) where
-  now : AreDistances facts.position.distances (around_of kept)
+  now : AreDistances facts.position.distances (fore_of kept) (back_of kept)
   now = distances run facts unread kept whole d.state
 
   -- ---- elements that change the arguments alone
   keeps : (x : Result KnownArguments Refusal) (y : Result model.Arguments Code)
-      → Covers (ArePending (around_of kept)) x y
-      → Leads (Fits run) (Arrives run facts.held unread kept) (transfers.facts_after_levels x facts)
+      → Covers (ArePending (fore_of kept) (back_of kept)) x y
+      → Leads (Fits run.n) (Arrives run facts.held unread kept) (transfers.facts_after_levels x facts)
       (y >>>= λ levels. Ok (after kept levels))
-  keeps x y c = covers_leads (ArePending (around_of kept)) (Fits run) (Arrives run facts.held unread kept) x y _ _ c
+  keeps x y c = covers_leads (ArePending (fore_of kept) (back_of kept)) (Fits run.n)
+      (Arrives run facts.held unread kept) x y _ _ c
       (λ p q i l. record {
         described = record {
           state = pending_again run facts unread kept d.state p;
@@ -117,61 +116,63 @@ module _ (run : Run) (facts : Facts) (unread : ℕ) (kept : Kept) (arguments : m
         grown = omega arith;
       })
 
-  levels_keep : (x : Result KnownLevel Refusal) (y : Result Level Code) → Covers (IsLevel (around_of kept)) x y
-      → Covers (ArePending (around_of kept)) (known.with_level facts.arguments x) (model.with_level arguments y)
-  levels_keep x y c = at_level_covers facts.position.distances (around_of kept) now facts.arguments arguments x y
-      d.pending c
+  levels_keep : (x : Result KnownLevel Refusal) (y : Result Level Code)
+      → Covers (IsLevel (fore_of kept) (back_of kept)) x y
+      → Covers (ArePending (fore_of kept) (back_of kept)) (known.with_level facts.arguments x)
+      (model.with_level arguments y)
+  levels_keep x y c = at_level_covers facts.position.distances (fore_of kept) (back_of kept) now facts.arguments
+      arguments x y d.pending c
 
   argued : (a : Argument) (text : List ℕ)
-      → Covers (ArePending (around_of kept)) (transfers.levels_after a text facts.position.distances facts.arguments)
-      (step.levels_after a text arguments)
-  argued DropAll text = nothing_is facts.position.distances (around_of kept) now
+      → Covers (ArePending (fore_of kept) (back_of kept))
+      (transfers.levels_after a text facts.position.distances facts.arguments) (step.levels_after a text arguments)
+  argued DropAll text = nothing_is facts.position.distances (fore_of kept) (back_of kept) now
   argued Digits text = levels_keep _ _
-      (give_covers facts.position.distances (around_of kept) now _ _ facts.arguments.level arguments.level
-      (single_in facts.position.distances (around_of kept) now _ (SFits-int_wrap w32 _)) d.pending.level)
+      (give_covers facts.position.distances (fore_of kept) (back_of kept) now _ _ facts.arguments.level arguments.level
+      (single_in facts.position.distances (fore_of kept) (back_of kept) now _ (SFits-int_wrap w32 _)) d.pending.level)
   argued (Operate operator) text =
-      levels_keep _ _ (operate_covers facts.position.distances (around_of kept) now operator facts.arguments.level
-      arguments.level d.pending.level)
-  argued Open text = opened_is facts.position.distances (around_of kept) now facts.arguments arguments d.pending
-  argued Close text = closed_covers facts.position.distances (around_of kept) now facts.arguments.level arguments.level
-      facts.arguments.outer arguments.outer d.pending.level d.pending.outer
+      levels_keep _ _ (operate_covers facts.position.distances (fore_of kept)
+      (back_of kept) now operator facts.arguments.level arguments.level d.pending.level)
+  argued Open text = opened_is facts.position.distances (fore_of kept) (back_of kept) now facts.arguments arguments
+      d.pending
+  argued Close text = closed_covers facts.position.distances (fore_of kept) (back_of kept) now facts.arguments.level
+      arguments.level facts.arguments.outer arguments.outer d.pending.level d.pending.outer
   argued Comma text = levels_keep _ _
-      (comma_covers facts.position.distances (around_of kept) now facts.arguments.level arguments.level d.pending.level)
+      (comma_covers facts.position.distances (fore_of kept) (back_of kept) now facts.arguments.level arguments.level
+      d.pending.level)
 
-  gives : (s : Value) (v : ℤ) → IsValue (around_of kept) s v
-      → Covers (IsLevel (around_of kept)) (known.level_with facts.position.distances s facts.arguments.level)
-      (model.level_with v arguments.level)
-  gives s v i = give_covers facts.position.distances (around_of kept) now s v facts.arguments.level arguments.level i
-      d.pending.level
+  gives : (s : Value) (v : ℤ) → IsValue (fore_of kept) (back_of kept) s v
+      → Covers (IsLevel (fore_of kept) (back_of kept))
+      (known.level_with facts.position.distances s facts.arguments.level) (model.level_with v arguments.level)
+  gives s v i = give_covers facts.position.distances (fore_of kept) (back_of kept) now s v facts.arguments.level
+      arguments.level i d.pending.level
 
-  zero_is : IsValue (around_of kept) (single (pos 0)) (pos 0)
-  zero_is = single_in facts.position.distances (around_of kept) now (pos 0) (omega (arith, ints))
+  zero_is : IsValue (fore_of kept) (back_of kept) (single (pos 0)) (pos 0)
+  zero_is = single_in facts.position.distances (fore_of kept) (back_of kept) now (pos 0) (omega (arith, ints))
 
-  size_is : IsValue (around_of kept) size (pos (length kept.text))
+  size_is : IsValue (fore_of kept) (back_of kept) size (pos (length kept.text))
   size_is = record {
     is = size_in run facts unread kept whole d.state;
-    form = refl;
     fits = omega (arith, ints, whole.within);
     saved = tt;
   }
 
-  last_is : IsValue (around_of kept) (value_in transfers.last_length) (neg_ℤ (pos kept.last_length))
-  last_is = interval_value _ _ _ (record { low = omega (arith, ints, whole.last); high = omega (arith, ints) })
+  last_is : IsValue (fore_of kept) (back_of kept) (value_in transfers.last_length) (neg_ℤ (pos kept.last_length))
+  last_is = interval_value _ _ _ _ (record { low = omega (arith, ints, whole.last); high = omega (arith, ints) })
       (omega (arith, ints, whole.last))
 
-  valued : (v : Given) → Covers (IsLevel (around_of kept))
+  valued : (v : Given) → Covers (IsLevel (fore_of kept) (back_of kept))
       (transfers.level_with_value v facts.position.distances facts.arguments.level)
       (step.level_with_value v kept arguments.level)
   valued Begin = gives _ _ zero_is
   valued Size = gives _ _ size_is
   valued Pointer = gives _ _ (record {
     is = pointer_in run facts unread kept whole d.state;
-    form = refl;
     fits = omega (arith, ints, whole.within, whole.inside);
     saved = tt;
   })
-  valued Whole = give_both_covers facts.position.distances (around_of kept) now _ _ _ _ facts.arguments.level
-      arguments.level zero_is size_is d.pending.level
+  valued Whole = give_both_covers facts.position.distances (fore_of kept)
+      (back_of kept) now _ _ _ _ facts.arguments.level arguments.level zero_is size_is d.pending.level
   valued LastLength = gives _ _ last_is
   valued LastText = tt
 
@@ -182,16 +183,20 @@ module _ (run : Run) (facts : Facts) (unread : ℕ) (kept : Kept) (arguments : m
   taking_holds : Holds run taking unread kept
   taking_holds = pending_again run facts unread kept d.state _
 
-  taking_are : ArePending (around_of kept) taking.arguments (model.levels_after_taking arguments)
-  taking_are = record { level = empty_is facts.position.distances (around_of kept) now; outer = d.pending.outer }
+  taking_are : ArePending (fore_of kept) (back_of kept) taking.arguments (model.levels_after_taking arguments)
+  taking_are = record {
+    level = empty_is facts.position.distances (fore_of kept) (back_of kept) now;
+    outer = d.pending.outer;
+  }
 
-  answered_are : (around : Surroundings) (o : Option Value) (v : Option ℤ) (pending : KnownArguments)
-      (left : model.Arguments) → IsOptional (IsValue around) o v → ArePending around pending left
-      → ArePending around (known.levels_after_answer o pending) (model.levels_after_answer v left)
-  answered_are around None None pending left i p = p
-  answered_are around (Some s) (Some v) pending left i p =
+  answered_are : (fore back : ℕ) (o : Option Value) (v : Option ℤ) (pending : KnownArguments) (left : model.Arguments)
+      → IsOptional (IsValue fore back) o v → ArePending fore back pending left
+      → ArePending fore back (known.levels_after_answer o pending) (model.levels_after_answer v left)
+  answered_are fore back None None pending left i p = p
+  answered_are fore back (Some s) (Some v) pending left i p =
       record { level = record { first = tt; value = i; operator = refl }; outer = p.outer }
-  answered_are around o v pending left i p = absurd (grind arith)
+  answered_are fore back None (Some v) pending left i p = absurd i
+  answered_are fore back (Some s) None pending left i p = absurd i
 
   arrived : (foreseen : Foreseen) (effect : Effect) → IsDone run taking unread kept foreseen effect
       → Arrives run facts.held unread kept (facts_answered foreseen)
@@ -199,62 +204,64 @@ module _ (run : Run) (facts : Facts) (unread : ℕ) (kept : Kept) (arguments : m
   arrived foreseen effect i = record {
     described = record {
       state = pending_again run foreseen.facts unread effect.kept i.state _;
-      pending = answered_are (around_of effect.kept) foreseen.answer effect.answer foreseen.facts.arguments
-          (model.levels_after_taking arguments) i.answer (i.pending (model.levels_after_taking arguments) taking_are);
+      pending = answered_are (fore_of effect.kept) (back_of effect.kept) foreseen.answer effect.answer
+          foreseen.facts.arguments (model.levels_after_taking arguments) i.answer
+          (i.pending (model.levels_after_taking arguments) taking_are);
       answers = tt;
     };
     grown = i.grown;
   }
 
   pub takes_and_acts : (act : KnownTaken → Facts → Result Foreseen Refusal) (does : Taken → Result Effect Code)
-      → ((known : KnownTaken) (taken : Taken) → IsTaken (around_of kept) known taken
+      → ((known : KnownTaken) (taken : Taken) → IsTaken (fore_of kept) (back_of kept) known taken
       → Foretells run taking unread kept (act known taking) (does taken))
-      → Leads (Fits run) (Arrives run facts.held unread kept) (transfers.after_taking act facts)
+      → Leads (Fits run.n) (Arrives run facts.held unread kept) (transfers.after_taking act facts)
       (model.arguments_of arguments.level >>>= λ taken. does taken >>>= λ effect.
       Ok (after effect.kept (model.levels_after_answer effect.answer (model.levels_after_taking arguments))))
   takes_and_acts act does f =
-      covers_leads (IsTaken (around_of kept)) (Fits run) (Arrives run facts.held unread kept) _ _ _ _
-      (taken_covers facts.position.distances (around_of kept) now facts.arguments.level arguments.level
+      covers_leads (IsTaken (fore_of kept) (back_of kept)) (Fits run.n) (Arrives run facts.held unread kept) _ _ _ _
+      (taken_covers facts.position.distances (fore_of kept) (back_of kept) now facts.arguments.level arguments.level
       d.pending.level) (λ known taken i.
-      leads_on (λ (f : Foreseen). Fits run f.facts) (IsDone run taking unread kept) (Fits run)
+      leads_on (λ (f : Foreseen). Fits run.n f.facts) (IsDone run taking unread kept) (Fits run.n)
       (Arrives run facts.held unread kept) _ _ facts_answered _
       (λ f l. record { buffer = l.buffer; texts = l.texts }) arrived (f known taken i))
 
   executed : (c : Command) (x : Placed) (known : KnownTaken) (taken : Taken) → IsNamedByCommand c
-      → ((r : ℕ) → named_by_command c ≡ Some r → run.library r ≡ x.library) → IsTaken (around_of kept) known taken
+      → IsTaken (fore_of kept) (back_of kept) known taken
       → Foretells run taking unread kept (transfers.execution c x known taking) (step.execution c x.element taken kept)
-  executed (command.Motion m) x known taken w knows i =
+  executed (command.Motion m) x known taken w i =
       motion_foretold run taking unread kept whole taking_holds m x.element known taken i
-  executed (command.Deletion u) x known taken w knows i =
+  executed (command.Deletion u) x known taken w i =
       deletion_foretold run taking unread kept whole taking_holds u known taken i
-  executed (command.Insertion t) x known taken w knows i =
+  executed (command.Insertion t) x known taken w i =
       insertion_foretold run taking unread kept whole taking_holds t x.element known taken i
-  executed (command.Typing t) x known taken w knows i =
+  executed (command.Typing t) x known taken w i =
       typing_foretold run taking unread kept whole taking_holds t x.element known taken i
-  executed (command.Storage s) x known taken w knows i =
-      storage_foretold run taking unread kept whole taking_holds s x.library x.element known taken w (knows _ refl) i
+  executed (command.Storage s) x known taken w i =
+      storage_foretold run taking unread kept whole taking_holds s x.library x.element known taken w i
 
   -- ---- Q, ^X and \
-  replied : (s : Value) (v : ℤ) → IsValue (around_of kept) s v
-      → Leads (Fits run) (Arrives run facts.held unread kept)
+  replied : (s : Value) (v : ℤ) → IsValue (fore_of kept) (back_of kept) s v
+      → Leads (Fits run.n) (Arrives run facts.held unread kept)
       (known.with_level facts.arguments (known.level_with facts.position.distances s facts.arguments.level)
       >>= λ pending. Ok (with_arguments pending facts))
       (model.with_level arguments (model.level_with v arguments.level) >>>= λ levels. Ok (after kept levels))
   replied s v i = keeps _ _ (levels_keep _ _ (gives s v i))
 
   standing_beside : (operator : Option Operator) (o : Option Value) (v : Option ℤ)
-      → IsOptional (IsValue (around_of kept)) o v
-      → IsOptional (IsValue (around_of kept)) (known.value_beside operator o) (model.value_beside operator v)
+      → IsOptional (IsValue (fore_of kept) (back_of kept)) o v
+      → IsOptional (IsValue (fore_of kept) (back_of kept)) (known.value_beside operator o)
+      (model.value_beside operator v)
   standing_beside None o v i = i
   standing_beside (Some operator) o v i = tt
 
-  standing : IsOptional (IsValue (around_of kept)) (known.standing_value facts.arguments.level)
+  standing : IsOptional (IsValue (fore_of kept) (back_of kept)) (known.standing_value facts.arguments.level)
       (model.standing_value arguments.level)
   standing = rw d.pending.level.operator
       (standing_beside facts.arguments.level.operator facts.arguments.level.value arguments.level.value
       d.pending.level.value)
 
-  taken_if : (b : Bool) → IsOptional (IsValue (around_of kept))
+  taken_if : (b : Bool) → IsOptional (IsValue (fore_of kept) (back_of kept))
       (cond b (known.standing_value facts.arguments.level) None) (cond b (model.standing_value arguments.level) None)
   taken_if true = standing
   taken_if false = tt
@@ -269,7 +276,7 @@ module _ (run : Run) (facts : Facts) (unread : ℕ) (kept : Kept) (arguments : m
   behind_whole =
       let p = past run facts unread kept whole d.state in
       record {
-        inside = p.inside;
+        inside = omega (arith, p.ahead);
         within = whole.within;
         bytes = whole.bytes;
         count = whole.count;
@@ -281,35 +288,35 @@ module _ (run : Run) (facts : Facts) (unread : ℕ) (kept : Kept) (arguments : m
 
   read_on : (changed : Result Polynomial Refusal)
       → IfOk changed (λ held. value held run.n ≡ value facts.held run.n + value
-      (row.past_number facts.position.digit facts.position.distances).growth run.n)
-      → Leads (Fits run) (Arrives run facts.held unread kept)
-      ((changed >>= λ held. Ok (facts_behind (row.past_number facts.position.digit facts.position.distances) held
-      facts)) >>= λ read. known.with_level read.arguments
+      (row.past_number facts.position.distances).growth run.n)
+      → Leads (Fits run.n) (Arrives run facts.held unread kept)
+      ((changed >>= λ held. Ok (facts_behind (row.past_number facts.position.distances) held facts)) >>= λ read.
+      known.with_level read.arguments
       (known.level_with read.position.distances (value_in any_number) read.arguments.level) >>= λ pending.
       Ok (with_arguments pending read)) (step.after_query_with query.Conversion 0 None kept arguments)
   read_on (Err e) h = tt
   read_on (Ok held) h =
-      let read = facts_behind (row.past_number facts.position.digit facts.position.distances) held facts in
+      let read = facts_behind (row.past_number facts.position.distances) held facts in
       let p = past run facts unread kept whole d.state in
       let here : Describes run (transfers.without_answer read) unread behind_number arguments = record {
         state = pending_again run read unread behind_number
-            (shifted_holds run facts unread kept whole d.state
-            (row.past_number facts.position.digit facts.position.distances) behind_number held p h) _;
-        pending = settled_are facts.position.distances
-            (row.past_number facts.position.digit facts.position.distances).ends (around_of kept)
-            (around_of behind_number) (distances run facts unread kept whole d.state) p.wider facts.arguments arguments
+            (shifted_holds run facts unread kept whole d.state (row.past_number facts.position.distances) behind_number
+            held p h) _;
+        pending = settled_are facts.position.distances false (fore_of kept) (back_of kept) (fore_of behind_number)
+            (back_of behind_number) (distances run facts unread kept whole d.state) p.wider facts.arguments arguments
             d.pending;
         answers = tt;
       } in
       let fits = number_fits (drop kept.pointer kept.text) in
       keeps_on run facts (transfers.without_answer read) unread kept behind_number _ _ (omega (arith, h)) (omega arith)
       (replied run (transfers.without_answer read) unread behind_number arguments behind_whole here
-      (value_in any_number) _ (interval_value _ _ _ (any_within _ fits) fits))
+      (value_in any_number) _ (interval_value _ _ _ _ (any_within _ fits) fits))
 
 module _ (run : Run) (facts : Facts) (unread : ℕ) (kept : Kept) (arguments : model.Arguments) (whole : IsWhole kept)
     (d : Describes run facts unread kept arguments) where
-  asked_for : (q : Query) (colons : ℕ) (o : Option Value) (v : Option ℤ) → IsOptional (IsValue (around_of kept)) o v
-      → Leads (Fits run) (Arrives run facts.held unread kept) (row.facts_after_query q colons o facts)
+  asked_for : (q : Query) (colons : ℕ) (o : Option Value) (v : Option ℤ)
+      → IsOptional (IsValue (fore_of kept) (back_of kept)) o v
+      → Leads (Fits run.n) (Arrives run facts.held unread kept) (row.facts_after_query q colons o facts)
       (step.after_query_with q colons v kept arguments)
   asked_for (query.Number r) zero None None i =
       replied run facts unread kept arguments whole d _ _ (number_is run facts unread kept whole d.state r)
@@ -320,8 +327,8 @@ module _ (run : Run) (facts : Facts) (unread : ℕ) (kept : Kept) (arguments : m
   asked_for query.Conversion colons None None i =
       read_on run facts unread kept arguments whole d _ (value-sum_of run.n facts.held _)
   asked_for q colons (Some s) (Some v) i =
-      leads_on (λ (f : Foreseen). Fits run f.facts)
-      (IsDone run (taking run facts unread kept arguments whole d) unread kept) (Fits run)
+      leads_on (λ (f : Foreseen). Fits run.n f.facts)
+      (IsDone run (taking run facts unread kept arguments whole d) unread kept) (Fits run.n)
       (Arrives run facts.held unread kept) _ _ facts_answered _
       (λ f l. record { buffer = l.buffer; texts = l.texts }) (arrived run facts unread kept arguments whole d)
       (query_foretold run (taking run facts unread kept arguments whole d) unread kept whole
@@ -332,7 +339,7 @@ module _ (run : Run) (facts : Facts) (unread : ℕ) (kept : Kept) (arguments : m
   -- ---- [ and ]
   popped_if : facts.answer ≡ None → (b : Bool) (r : ℕ) (s : Pushed) (pushes : List Pushed) (top : List Pair)
       → ArePushed run.n run.below (s ∷ pushes) top
-      → Leads (Fits run) (Arrives run facts.held unread kept)
+      → Leads (Fits run.n) (Arrives run facts.held unread kept)
       (cond b (Ok (record (storages.with_text r s.text (storages.with_number r s.number false facts))
       { pushes = pushes })) (Err refusal.Pop))
       ((ok_or (registers_without_top r top kept.registers) code.Pes >>>= λ registers.
@@ -352,14 +359,14 @@ module _ (run : Run) (facts : Facts) (unread : ℕ) (kept : Kept) (arguments : m
 
   popped : facts.answer ≡ None → (library : Bool) (r : ℕ) (pushes : List Pushed)
       → ArePushed run.n run.below pushes kept.registers.stack
-      → Leads (Fits run) (Arrives run facts.held unread kept) (storages.not_of_library library >>= λ free.
+      → Leads (Fits run.n) (Arrives run facts.held unread kept) (storages.not_of_library library >>= λ free.
       storages.with_popped r pushes facts) (step.after_stack (stack.Pop r) kept arguments)
   popped none true r pushes i = tt
   popped none false r [] i = tt
   popped none false r (s ∷ pushes) i = popped_if none _ r s pushes kept.registers.stack i
 
   stacked : facts.answer ≡ None → (s : Stack) (library : Bool)
-      → Leads (Fits run) (Arrives run facts.held unread kept) (storages.stack s library facts)
+      → Leads (Fits run.n) (Arrives run facts.held unread kept) (storages.stack s library facts)
       (step.after_stack s kept arguments)
   stacked none (stack.Push r) library =
       λ l. record {
@@ -377,7 +384,7 @@ pub arguments_are_sound : ArgumentsAreSound
 unfolding transfer
 arguments_are_sound run facts unread kept arguments x a whole d e =
     let n = without_answer run facts unread kept arguments d in
-    subst (λ k. Leads (FitsOn run) (ArrivesOn run facts.held unread kept)
+    subst (λ k. Leads (FitsOn run.n) (ArrivesOn run facts.held unread kept)
     (transfers.edges_of k x (transfers.answer_for k facts) (transfers.without_answer facts))
     (step.after_argument a x.element kept arguments)) (sym e)
     (on_leads run facts unread kept _ _ (keeps run (transfers.without_answer facts) unread kept arguments whole n _ _
@@ -387,7 +394,7 @@ pub values_are_sound : ValuesAreSound
 unfolding transfer
 values_are_sound run facts unread kept arguments x v whole d e =
     let n = without_answer run facts unread kept arguments d in
-    subst (λ k. Leads (FitsOn run) (ArrivesOn run facts.held unread kept)
+    subst (λ k. Leads (FitsOn run.n) (ArrivesOn run facts.held unread kept)
     (transfers.edges_of k x (transfers.answer_for k facts) (transfers.without_answer facts))
     (step.after_value v kept arguments)) (sym e)
     (on_leads run facts unread kept _ _ (keeps run (transfers.without_answer facts) unread kept arguments whole n _ _
@@ -396,22 +403,22 @@ values_are_sound run facts unread kept arguments x v whole d e =
 
 pub commands_are_sound : CommandsAreSound
 unfolding transfer
-commands_are_sound run facts unread kept arguments x c whole d e named library =
+commands_are_sound run facts unread kept arguments x c whole d e named =
     let n = without_answer run facts unread kept arguments d in
-    subst (λ k. Leads (FitsOn run) (ArrivesOn run facts.held unread kept)
+    subst (λ k. Leads (FitsOn run.n) (ArrivesOn run facts.held unread kept)
     (transfers.edges_of k x (transfers.answer_for k facts) (transfers.without_answer facts))
     (step.after_command c x.element kept arguments)) (sym e)
     (on_leads run facts unread kept _ _
     (takes_and_acts run (transfers.without_answer facts) unread kept arguments whole n (transfers.execution c x)
     (λ taken. step.execution c x.element taken kept)
     (λ known taken i. executed run (transfers.without_answer facts) unread kept arguments whole n c x known taken
-    named (λ r q. library r (ap named_by e ∙ q)) i)))
+    named i)))
 
 pub queries_are_sound : QueriesAreSound
 unfolding transfer
 queries_are_sound run facts unread kept arguments x q whole d e named =
     let n = without_answer run facts unread kept arguments d in
-    subst (λ k. Leads (FitsOn run) (ArrivesOn run facts.held unread kept)
+    subst (λ k. Leads (FitsOn run.n) (ArrivesOn run facts.held unread kept)
     (transfers.edges_of k x (transfers.answer_for k facts) (transfers.without_answer facts))
     (step.after_query q x.element kept arguments)) (sym e)
     (on_leads run facts unread kept _ _
@@ -422,7 +429,7 @@ pub stacks_are_sound : StacksAreSound
 unfolding transfer
 stacks_are_sound run facts unread kept arguments x s whole d e named =
     let n = without_answer run facts unread kept arguments d in
-    subst (λ k. Leads (FitsOn run) (ArrivesOn run facts.held unread kept)
+    subst (λ k. Leads (FitsOn run.n) (ArrivesOn run facts.held unread kept)
     (transfers.edges_of k x (transfers.answer_for k facts) (transfers.without_answer facts))
     (step.after_stack s kept arguments)) (sym e)
     (on_leads run facts unread kept _ _

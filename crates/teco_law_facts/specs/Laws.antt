@@ -1,7 +1,7 @@
 -- The laws of facts alone: of the ways of tests, of facts that are covered, of ways that meet, of the entry, and of
 -- the start of a body and its turns.
-use Rattle.std.specs.Prelude.{◌≡◌, ℕ, ℤ, ◌+◌, ◌-◌, ◌*◌, ◌≤◌, IsTrue, length, List, [], ◌∷◌, slice_index_or, Bool}
-use Rattle.std.specs.Prelude.{true, false, Option, Some, None, MatchOption, IfOk, IsErr, ⊤}
+use Rattle.std.specs.Prelude.{◌≡◌, ℕ, ℤ, ◌+◌, ◌-◌, ◌*◌, ◌≤◌, IsTrue, length, List, [], ◌∷◌, Bool, true, false, Option}
+use Rattle.std.specs.Prelude.{MatchOption, IfOk, IsErr, ⊤}
 use Rattle.teco_model.specs.Arguments.{Arguments, no_arguments}
 use Rattle.teco_model.specs.Registers.{Pair, pair_of}
 use Rattle.teco_model.specs.declared.kind.Command.TheVariants as command
@@ -13,21 +13,17 @@ use Rattle.teco_model.specs.State.{Kept}
 use Rattle.teco_poly.specs.Polynomial.{Polynomial, value}
 use Rattle.teco_verifier.specs.facts.Bodies.{Choice, Changes, body_start, begins, returns, has_room}
 use Rattle.teco_verifier.specs.facts.Covers.{covers}
-use Rattle.teco_law_facts.specs.Describes.{Run, Begun, begun_at, run_behind, run_in_turn, IsWhole, Holds, IsAnswer}
-use Rattle.teco_law_facts.specs.Describes.{Describes, AreEach, IsLess, around_of}
-use Rattle.teco_model.specs.Macros.{IsAsked}
-use Rattle.teco_verifier.specs.declared.falls.Falls.{Falls}
-use Rattle.teco_verifier.specs.declared.falls.Rank.{Rank}
-use Rattle.teco_verifier.specs.declared.falls.Rank.TheVariants as rank
+use Rattle.teco_law_facts.specs.Describes.{Run, run_behind, run_in_turn, IsWhole, Holds, IsAnswer, Describes, AreEach}
+use Rattle.teco_law_facts.specs.Describes.{HasFallen, fore_of, back_of}
+use Rattle.teco_model.specs.Macros.{IsAsked, ArgumentRange}
 use Rattle.teco_verifier.specs.facts.Argument.{arguments_given, facts_given}
-use Rattle.teco_verifier.specs.facts.Facts.{Answer, Facts, Entry, without_arguments}
+use Rattle.teco_verifier.specs.facts.Facts.{Answer, Facts, without_arguments}
 use Rattle.teco_verifier.specs.facts.Flows.{entering}
 use Rattle.teco_verifier.specs.facts.Joins.{joined}
-use Rattle.teco_verifier.specs.facts.Ranks.{rank_of}
 use Rattle.teco_verifier.specs.facts.Transfer.{Placed, transfer}
-use Rattle.teco_verifier.specs.facts.Values.{Surroundings, IsValue}
 use Rattle.teco_verifier.specs.facts.Ways.{Numbers, Takes, way}
 use Rattle.teco_verifier.specs.declared.values.Value.{Value}
+use Rattle.teco_verifier.specs.facts.Values.{IsIn}
 
 -- ], X and ^U write the text of a register; none of the library's is written.
 abbrev pub WritesText : Kind → Type 0
@@ -41,9 +37,9 @@ LibraryStays =
     (x : Placed) (facts : Facts) → x.library ≡ true → WritesText x.element.kind → IsErr (transfer x facts)
 
 -- a number is told: it is of a value, or it is an answer
-abbrev pub IsTold : Run → Option Answer → Value → Surroundings → ℕ → List Pair → ℤ → Type 0
-IsTold run answer s around unread pairs v =
-    MatchOption answer (IsValue around s v) (λ a. IsAnswer run a around unread pairs v)
+abbrev pub IsTold : Run → Option Answer → Value → ℕ → ℕ → ℕ → List Pair → ℤ → Type 0
+IsTold run answer s fore back unread pairs v =
+    MatchOption answer (IsIn s fore back v) (λ a. IsAnswer run a fore back unread pairs v)
 
 -- The way that a number takes is reached, and what is known on it holds.
 abbrev pub WaysAreSound : Type 0
@@ -51,7 +47,7 @@ WaysAreSound =
     (run : Run) (facts : Facts) (unread : ℕ) (kept : Kept)
     (numbers : Numbers) (answer : Option Answer) (s : Value) (v : ℤ)
     → IsWhole kept → Holds run facts unread kept
-    → IsTold run answer s (around_of kept) unread kept.registers.pairs v → Takes numbers v
+    → IsTold run answer s (fore_of kept) (back_of kept) unread kept.registers.pairs v → Takes numbers v
     → MatchOption (way numbers answer s facts) ⊥ (λ next. Holds run next unread kept)
 
 -- What covers facts that describe a state describes it.
@@ -81,23 +77,17 @@ abbrev pub JoinsAreSound : Type 0
 JoinsAreSound =
     (facts others : Facts) → MayMeet facts others → IfOk (joined facts others) (MeetsBoth facts others)
 
--- At the entry no iteration is open, N holds all, the texts of the library have their lengths, and nothing is pending
--- but the argument, where one is given.
+-- At the entry no iteration is open, N holds all, and nothing is pending but the argument, where one is given.
 pub record IsEntry (n : ℕ) (unread : ℕ) (kept : Kept) : Type 0 where
   pub held : length kept.text + unread ≤ n
   pub texts : (r : ℕ) → length (pair_of r kept.registers).text ≤ n
 
-abbrev pub HaveLengths : List (Option ℕ) → Kept → Type 0
-HaveLengths lengths kept =
-    (r n : ℕ) → slice_index_or lengths r None ≡ Some n → length (pair_of r kept.registers).text ≡ n
-
 abbrev pub EntryIsSound : Type 0
 EntryIsSound =
-    (n unread : ℕ) (kept : Kept) (entry : Entry) (library : ℕ → Bool) (given : Option ℕ)
-    → IsWhole kept → IsEntry n unread kept → HaveLengths entry.lengths kept → IsAsked entry.argument given
-    → Describes (record { n = n; library = library; turns = []; below = kept.registers.stack })
-    (facts_given entry)
-    unread kept (arguments_given given)
+    (n unread : ℕ) (kept : Kept) (range : Option ArgumentRange) (given : Option ℕ)
+    → IsWhole kept → IsEntry n unread kept → IsAsked range given
+    → Describes (record { n = n; turns = []; below = kept.registers.stack }) (facts_given range) unread kept
+    (arguments_given given)
 
 -- what enters a body from what is known before its <
 abbrev pub entered : Bool → Facts → Facts
@@ -113,57 +103,38 @@ BodyStartsAreSound =
     → Describes (run_in_turn unread kept run) (body_start choice changes (entered counted facts))
     unread kept arguments
 
--- an iteration outside has fallen, and what is unread against what was held in it
-abbrev pub FellBefore : ℕ → Falls → Begun → Type 0
-FellBefore ahead falls start = IsLess ahead falls.fall start.ahead
-
-pub record HasRest (unread : ℕ) (falls : Falls) (start : Begun) : Type 0 where
-  pub rest : IsLess unread falls.rest start.held
-  pub read : unread ≤ start.unread
-  pub part : start.unread ≤ start.ahead
-
 -- What is carried from turn to turn: a kept iteration began its turn with no more ahead than was at its <, and with
--- falls of those outside as they were there; and whatever is kept, no more was unread.
-pub record IsCarried (n : ℕ) (facts : Facts) (kept_iteration : Bool) (begun : Begun) (outer : List Begun) :
-    Type 0 where
-  pub ahead : kept_iteration ≡ true → begun.ahead ≤ value facts.position.ahead n
-  pub falls : kept_iteration ≡ true → AreEach (FellBefore begun.ahead) facts.position.falls outer
-  pub rests : AreEach (HasRest begun.unread) facts.position.falls outer
+-- falls of those outside as they were there.
+pub record IsCarried (run : Run) (facts : Facts) (begun : ℕ) (outer : List ℕ) : Type 0 where
+  pub ahead : begun ≤ value facts.position.ahead run.n
+  pub falls : AreEach (HasFallen begun) facts.position.falls outer
 
 -- Where a choice returns, the facts at the start of the body describe the state behind its >, if no more is held than
 -- the choice has; and what is carried to this turn is carried to the next.
 pub record BeginsAgain
-    (run : Run) (facts start : Facts) (unread : ℕ) (kept : Kept) (kept_iteration : Bool)
-    (outer : List Begun) :
-    Type 0 where
+    (run : Run) (facts start : Facts) (unread : ℕ) (kept : Kept) (kept_iteration : Bool) (outer : List ℕ) : Type 0 where
   pub described : Describes (run_in_turn unread kept (run_behind 1 run)) start unread kept no_arguments
-  pub carried : IsCarried run.n facts kept_iteration (begun_at unread kept) outer
+  pub carried : kept_iteration ≡ true → IsCarried run facts (fore_of kept + unread) outer
 
 abbrev pub ReturnsAreSound : Type 0
 ReturnsAreSound =
     (run : Run) (facts end : Facts) (unread : ℕ) (kept : Kept) (arguments : Arguments)
-    (choice : Choice) (changes : Changes) (counted : Bool) (turns : Polynomial) (begun : Begun)
-    (outer : List Begun)
+    (choice : Choice) (changes : Changes) (counted : Bool) (turns : Polynomial) (begun : ℕ) (outer : List ℕ)
     → IsWhole kept → IsTrue (returns choice changes counted turns (entered counted facts) end)
     → Describes run end unread kept arguments → run.turns ≡ begun ∷ outer
+    → length facts.position.falls ≡ length outer
     → length kept.text + unread ≤ value choice.held run.n
-    → IsCarried run.n facts choice.kept begun outer
+    → (choice.kept ≡ true → IsCarried run facts begun outer)
     → BeginsAgain run facts (body_start choice changes (entered counted facts)) unread kept choice.kept outer
 
--- the amount by which an iteration is ranked
-abbrev pub amount_of : Option Rank → Begun → ℕ
-amount_of (Some rank.Held) begun = begun.held
-amount_of falling begun = begun.ahead
-
--- Without a count there is less of it behind each turn than at its begin.
+-- Without a count less is ahead behind each turn than at its begin.
 abbrev pub TurnsFall : Type 0
 TurnsFall =
     (run : Run) (end : Facts) (unread : ℕ) (kept : Kept) (arguments : Arguments)
-    (choice : Choice) (changes : Changes) (turns : Polynomial) (entering : Facts) (begun : Begun)
-    (outer : List Begun)
-    → kept.pointer ≤ length kept.text → IsTrue (returns choice changes false turns entering end)
+    (choice : Choice) (changes : Changes) (turns : Polynomial) (entering : Facts) (begun : ℕ) (outer : List ℕ)
+    → IsTrue (returns choice changes false turns entering end)
     → Describes run end unread kept arguments → run.turns ≡ begun ∷ outer
-    → amount_of (rank_of end.position) (begun_at unread kept) + 1 ≤ amount_of (rank_of end.position) begun
+    → fore_of kept + unread + 1 ≤ begun
 
 -- Where there is room, what is held grows by no more than a growth in each turn, and at the start of the last turn no
 -- more is held than the choice has.

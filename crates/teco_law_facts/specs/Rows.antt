@@ -1,6 +1,6 @@
 -- What is known along texts, worked by hand.
 use Rattle.std.specs.Prelude.{◌≡◌, ℕ, zero, suc, ℤ, pos, List, [], ◌∷◌, ◌++◌, codes, replicate, Bool, true, false}
-use Rattle.std.specs.Prelude.{Some, None, Result, Ok, Err}
+use Rattle.std.specs.Prelude.{Some, None, Result, Ok, Err, Option}
 use Rattle.teco_poly.specs.declared.coefficients.TheConstants.{COEFFICIENTS}
 use Rattle.teco_base.specs.declared.TheConstants.{REGISTERS}
 use Rattle.teco_base.specs.declared.bytes.TheConstants.{ESC}
@@ -11,15 +11,12 @@ use Rattle.teco_poly.specs.Polynomial.{Polynomial, variable, first}
 use Rattle.teco_poly.specs.Text.{text}
 use Rattle.teco_verifier.specs.facts.Attempt.{◌>>=◌}
 use Rattle.teco_verifier.specs.facts.Bodies.{Choice, Changes, body_start, stands}
-use Rattle.teco_verifier.specs.facts.Facts.{Iteration, Facts, entry_facts, nowhere}
+use Rattle.teco_verifier.specs.facts.Facts.{Iteration, Facts, entry_facts}
 use Rattle.teco_verifier.specs.facts.Flows.{Edges, turns}
 use Rattle.teco_verifier.specs.facts.Transfer.{Placed, transfer}
 use Rattle.teco_verifier.specs.declared.refusal.Refusal.{Refusal}
 use Rattle.teco_verifier.specs.declared.refusal.Refusal.TheVariants as refusal
 use Rattle.teco_verifier.specs.declared.values.Distances.{Distances}
-use Rattle.teco_verifier.specs.declared.falls.Falls.{Falls}
-use Rattle.teco_verifier.specs.declared.rules.Rules.TheVariants.{First}
-use Rattle.teco_verifier.specs.facts.Falls.{falls_at_turn}
 
 -- an element of a text that is one of the library's, and whose register is A
 abbrev pub is_inside : List Iteration → Bool
@@ -55,7 +52,7 @@ behind (suc n) library text at facts = elim (element_at text at) [
 -- what a reader looks at
 pub record Shown : Type 0 where
   pub distances : Distances
-  pub falls : List Falls
+  pub falls : List (Option ℤ)
   pub held : List ℕ
   pub ahead : List ℕ
 
@@ -71,11 +68,7 @@ shown found = do
 
 -- from the entry of a text that is not written to
 abbrev pub from_entry : ℕ → List ℕ → Result Facts Refusal
-from_entry n commands = behind n false commands 0 (entry_facts First [])
-
--- in the first edition the fall alone is known
-abbrev pub fallen : ℤ → Falls
-fallen v = record (falls_at_turn First) { fall = Some v }
+from_entry n commands = behind n false commands 0 entry_facts
 
 -- a body that changes nothing
 abbrev pub unchanged : Changes
@@ -101,7 +94,7 @@ stands_for choice counted most before at n commands = do
 
 -- a kept choice, with the texts as they were
 abbrev pub keeping : Polynomial → Choice
-keeping held = record { held = held; kept = true; distances = nowhere; texts = replicate REGISTERS variable }
+keeping held = record { held = held; kept = true; texts = replicate REGISTERS variable }
 
 abbrev pub multiple : ℕ → ℕ → Polynomial
 multiple constant times = first COEFFICIENTS (constant ∷ times ∷ [])
@@ -127,13 +120,13 @@ pub record FactRows : Type 0 where
         ahead = codes "N";
       })
   -- before a search loop all may be ahead, and there may be a turn for each character and one more
-  pub turned : (from_entry 1 search_loop >>= turns None >>= λ most. Ok (text most)) ≡ Ok (codes "1 + N")
+  pub turned : (from_entry 1 search_loop >>= turns >>= λ most. Ok (text most)) ≡ Ok (codes "1 + N")
   -- a found search fell by what it found, and the insertion grew
   pub searched :
       shown (end_of_body (keeping (multiple 0 2)) 2 2 3 search_loop)
       ≡ Ok (record {
         distances = record { back = 4; fore = 0 };
-        falls = fallen (pos 3) ∷ [];
+        falls = Some (pos 3) ∷ [];
         held = codes "1 + 2*N";
         ahead = codes "N";
       })
@@ -145,7 +138,7 @@ pub record FactRows : Type 0 where
       shown (end_of_body (keeping (multiple 0 1)) 2 2 4 going_back)
       ≡ Ok (record {
         distances = record { back = 0; fore = 3 };
-        falls = fallen (pos 0) ∷ [];
+        falls = Some (pos 0) ∷ [];
         held = codes "N";
         ahead = codes "N";
       })
@@ -169,7 +162,7 @@ pub record FactRows : Type 0 where
   pub by_zero : from_entry 3 (codes "1/Z=") ≡ Err refusal.Divisor
   pub alone : from_entry 1 (codes "=") ≡ Err refusal.Argument
   pub below : from_entry 1 (codes "]A") ≡ Err refusal.Pop
-  pub library : behind 2 true (codes "[A]A") 0 (entry_facts First []) ≡ Err refusal.Written
+  pub library : behind 2 true (codes "[A]A") 0 entry_facts ≡ Err refusal.Written
   pub unanswered : from_entry 1 (codes "Sfoo" ++ ESC ∷ []) ≡ Err refusal.Unverified
   pub no_text : from_entry 1 (codes ":S" ++ ESC ∷ []) ≡ Err refusal.Unverified
   pub pending : from_entry 4 (codes "5+(<") ≡ Err refusal.Pending

@@ -1,6 +1,6 @@
 -- The laws of what elements do to facts: where the transfer gives facts, the machine comes to a state that they
 -- describe.
-use Rattle.std.specs.Prelude.{◌≡◌, ℕ, ◌+◌, ◌<◌, ◌≤◌, ⊤, length, MatchOption, Result, Ok, Err, false, Some}
+use Rattle.std.specs.Prelude.{◌≡◌, ℕ, ◌+◌, ◌<◌, ◌≤◌, ⊤, length, MatchOption, Result, Ok, Err}
 use Rattle.teco_base.specs.declared.TheConstants.{LIMIT, REGISTERS}
 use Rattle.teco_base.specs.declared.code.Code.{Code}
 use Rattle.teco_model.specs.declared.kind.Argument.{Argument}
@@ -21,19 +21,15 @@ use Rattle.teco_model.specs.Step.{after_argument, after_value, after_query, afte
 use Rattle.teco_poly.specs.Polynomial.{Polynomial, value}
 use Rattle.teco_verifier.specs.declared.refusal.Refusal.{Refusal}
 use Rattle.teco_law_facts.specs.Describes.{Run, IsWhole, Describes}
-use Rattle.teco_verifier.specs.facts.Facts.{Facts, text_of}
+use Rattle.teco_verifier.specs.facts.Facts.{Facts}
 use Rattle.teco_verifier.specs.facts.Flows.{Edges}
 use Rattle.teco_verifier.specs.facts.Transfer.{Placed, transfer}
-use Rattle.teco_verifier.specs.expansion.Names.{named_by}
+use Rattle.std.specs.List.{AllByRecursion}
 
--- the buffer, and each text but those of the library, may be as long as is known
-pub record Fits (run : Run) (facts : Facts) : Type 0 where
-  pub buffer : value facts.held run.n ≤ LIMIT
-  pub texts : (r : ℕ) → run.library r ≡ false → value (text_of r facts) run.n ≤ LIMIT
-
--- an element knows whether the register that it names has a text of the library
-abbrev pub KnowsLibrary : Run → Placed → Type 0
-KnowsLibrary run x = (r : ℕ) → named_by x.element.kind ≡ Some r → run.library r ≡ x.library
+-- the buffer and each text may be as long as is known
+pub record Fits (n : ℕ) (facts : Facts) : Type 0 where
+  pub buffer : value facts.held n ≤ LIMIT
+  pub texts : AllByRecursion (λ most. value most n ≤ LIMIT) facts.texts
 
 -- The facts describe the state that the machine comes to, and the buffer grew by no more than they say.
 pub record Arrives
@@ -52,8 +48,8 @@ Leads Fit P (Ok x) y = Fit x → Succeeds (P x) y
 Leads Fit P (Err why) y = ⊤
 
 -- along the edge that goes on
-abbrev pub FitsOn : Run → Edges → Type 0
-FitsOn run edges = MatchOption edges.on ⊤ (Fits run)
+abbrev pub FitsOn : ℕ → Edges → Type 0
+FitsOn n edges = MatchOption edges.on ⊤ (Fits n)
 
 abbrev pub ArrivesOn : Run → Polynomial → ℕ → Kept → Edges → After → Type 0
 ArrivesOn run held unread kept edges after =
@@ -61,7 +57,7 @@ ArrivesOn run held unread kept edges after =
 
 abbrev pub GoesOn : Run → Facts → ℕ → Kept → Placed → Result After Code → Type 0
 GoesOn run facts unread kept x after =
-    Leads (FitsOn run) (ArrivesOn run facts.held unread kept) (transfer x facts) after
+    Leads (FitsOn run.n) (ArrivesOn run facts.held unread kept) (transfer x facts) after
 
 -- digits, operators, parentheses, comma and ESC
 abbrev pub ArgumentsAreSound : Type 0
@@ -102,7 +98,7 @@ abbrev pub CommandsAreSound : Type 0
 CommandsAreSound =
     (run : Run) (facts : Facts) (unread : ℕ) (kept : Kept) (arguments : Arguments) (x : Placed) (c : Command)
     → IsWhole kept → Describes run facts unread kept arguments → x.element.kind ≡ kind.Command c
-    → IsNamedByCommand c → KnowsLibrary run x
+    → IsNamedByCommand c
     → GoesOn run facts unread kept x (after_command c x.element kept arguments)
 
 -- Q, ^X and \

@@ -16,9 +16,7 @@ use Rattle.teco_model.specs.declared.kind.Goal.{Goal}
 use Rattle.teco_model.specs.declared.kind.Kind.TheVariants as kind
 use Rattle.teco_model.specs.declared.kind.Test.{Test}
 use Rattle.teco_poly.specs.Polynomial.{value}
-use Rattle.teco_law_facts.specs.Describes.{Run, IsWhole, Describes, begun_at, run_behind, run_in_turn}
-use Rattle.teco_law_facts.specs.Laws.{amount_of}
-use Rattle.teco_verifier.specs.declared.falls.Rank.{Rank}
+use Rattle.teco_law_facts.specs.Describes.{Run, IsWhole, Describes, run_behind, run_in_turn, fore_of}
 use Rattle.teco_verifier.specs.facts.Facts.{Facts, Iteration}
 use Rattle.teco_verifier.specs.facts.Flows.{Edges, turns}
 use Rattle.teco_law_facts.specs.SoundElements.{Leads}
@@ -82,19 +80,18 @@ IterationsAreSound =
     (λ edges (taken : Taken). EntersOr run unread kept arguments taken.value edges)
     (transfer x facts) (arguments_of arguments.level)
 
--- A count is at most the turns; without one these are more than there is of what falls.
+-- A count is at most the turns; without one these are more than what is ahead.
 abbrev pub AreTurns : ℕ → ℕ → Option ℤ → Type 0
-AreTurns most amount None = amount + 1 ≤ most
-AreTurns most amount (Some n) = n ≤ℤ pos most
+AreTurns most ahead None = ahead + 1 ≤ most
+AreTurns most ahead (Some n) = n ≤ℤ pos most
 
 abbrev pub TurnsAreSound : Type 0
 TurnsAreSound =
-    (run : Run) (facts : Facts) (unread : ℕ) (kept : Kept) (arguments : Arguments) (falling : Option Rank)
+    (run : Run) (facts : Facts) (unread : ℕ) (kept : Kept) (arguments : Arguments)
     → IsWhole kept → Describes run facts unread kept arguments
     → Tells
-    (λ most (taken : Taken). AreTurns (value most run.n) (amount_of falling (begun_at unread kept))
-    taken.value)
-    (turns falling facts) (arguments_of arguments.level)
+    (λ most (taken : Taken). AreTurns (value most run.n) (fore_of kept + unread) taken.value)
+    (turns facts) (arguments_of arguments.level)
 
 -- > goes back, where another turn begins, or on behind its iteration if that is counted; no arguments are left.
 pub record EndsTurn (run : Run) (unread : ℕ) (kept : Kept) (counted : Bool) (edges : Edges) : Type 0 where

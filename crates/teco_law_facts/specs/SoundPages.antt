@@ -20,12 +20,11 @@ use Rattle.teco_law_facts.specs.SoundFlow.{Tells}
 use Rattle.teco_law_facts.specs.SoundElements.{Leads, Succeeds, Arrives, FitsOn}
 use Rattle.teco_verifier.specs.facts.Transfer.{Placed, transfer}
 
--- The facts describe what a world comes to, no more is unread, and what is held grew by no more than they say.
+-- The facts describe what a world comes to, and what is held grew by no more than they say.
 pub record ComesTo
     (run : Run) (held : Polynomial) (old : World) (next : Facts) (arguments : Arguments)
     (new : World) : Type 0 where
   pub described : Describes run next (unread_of new) new.kept arguments
-  pub less : unread_of new ≤ unread_of old
   pub grown :
       length new.kept.text + unread_of new + value held run.n
       ≤ length old.kept.text + unread_of old + value next.held run.n
@@ -48,8 +47,7 @@ AppendsAreSound =
     (run : Run) (facts : Facts) (world : World) (arguments : Arguments) (x : Placed)
     → IsWhole world.kept → Describes run facts (unread_of world) world.kept arguments
     → x.element.kind ≡ kind.Page page.Append
-    → Leads (FitsOn run) (Appends run facts.held world arguments) (transfer x facts)
-    (arguments_of arguments.level)
+    → Leads (FitsOn run.n) (Appends run facts.held world arguments) (transfer x facts) (arguments_of arguments.level)
 
 -- The first page of nP, and m,nP; and each page that follows.
 pub record TurnsPages
@@ -68,7 +66,7 @@ PageTurnsAreSound =
     (run : Run) (facts : Facts) (world : World) (arguments : Arguments) (x : Placed) (output : Output)
     → IsWhole world.kept → Describes run facts (unread_of world) world.kept arguments
     → x.element.kind ≡ kind.Page page.Next → world.files.output ≡ Some output
-    → Leads (FitsOn run)
+    → Leads (FitsOn run.n)
     (λ edges (taken : Taken). TurnsPages run facts.held world arguments edges taken.first taken.value)
     (transfer x facts) (arguments_of arguments.level)
 
@@ -78,7 +76,7 @@ PageWritesAreSound =
     (run : Run) (facts : Facts) (world : World) (arguments : Arguments) (x : Placed) (output : Output)
     → IsWhole world.kept → Describes run facts (unread_of world) world.kept arguments
     → x.element.kind ≡ kind.Page page.Write → world.files.output ≡ Some output
-    → Leads (FitsOn run)
+    → Leads (FitsOn run.n)
     (λ edges (taken : Taken). Succeeds
     (λ (p : Progress). Comes run facts.held world (levels_after_taking arguments) edges p.world)
     (pages page_written (record { first = taken.first; value = taken.value }) world))

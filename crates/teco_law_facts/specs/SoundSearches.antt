@@ -2,7 +2,8 @@
 use Rattle.std.specs.Prelude.{◌≡◌, ℕ, ℤ, pos, negsuc, ⊤, List, Bool, true, false, Option, Some, None, MatchOption}
 use Rattle.std.specs.Prelude.{Result}
 use Rattle.teco_base.specs.declared.code.Code.{Code}
-use Rattle.teco_model.specs.Arguments.{Arguments, arguments_of, levels_after_taking, levels_after_answer, no_arguments}
+use Rattle.teco_model.specs.Arguments.{Arguments, arguments_of, levels_after_taking, levels_after_answer}
+use Rattle.teco_model.specs.Arguments.{no_arguments}
 use Rattle.teco_model.specs.Checked.{◌>>=◌}
 use Rattle.teco_model.specs.Element.{Element}
 use Rattle.teco_model.specs.Search.{Finding, Found, Missed, search}
@@ -65,5 +66,5 @@ SearchesAreSound =
     (run : Run) (facts : Facts) (unread : ℕ) (kept : Kept) (arguments : Arguments) (x : Placed) (s : Search)
     → IsWhole kept → Describes run facts unread kept arguments → x.element.kind ≡ kind.Search s → IsInBuffer s
     → (x.colon ≡ false → x.element.colons ≡ 0)
-    → Leads (FitsOn run) (SearchArrives run facts.held unread kept arguments x) (transfer x facts)
+    → Leads (FitsOn run.n) (SearchArrives run facts.held unread kept arguments x) (transfer x facts)
     (finding s x.element kept arguments)

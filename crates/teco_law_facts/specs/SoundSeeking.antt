@@ -1,7 +1,7 @@
 -- The law of N and FN: page after page goes by, and what is known is true where they find, and where no page is left.
-use Rattle.std.specs.Prelude.{◌≡◌, ℕ, pos, negsuc, ◌+◌, ◌≤◌, ⊤, List, Bool, true, false, if◌then◌else◌, ◌&&◌, Some}
-use Rattle.std.specs.Prelude.{None, MatchOption, IfOk, map}
-use Rattle.teco_model.specs.Arguments.{Arguments, arguments_of, levels_after_taking, levels_after_answer, no_arguments}
+use Rattle.std.specs.Prelude.{◌≡◌, ℕ, pos, negsuc, ◌+◌, ◌≤◌, ⊤, List, Bool, true, false, Some, MatchOption, IfOk}
+use Rattle.teco_model.specs.Arguments.{Arguments, arguments_of, levels_after_taking, levels_after_answer}
+use Rattle.teco_model.specs.Arguments.{no_arguments}
 use Rattle.teco_model.specs.Files.{Output}
 use Rattle.teco_model.specs.Paging.{Looked, Met, Turned, Through, look_first, look_for, looked_through, unread_of}
 use Rattle.teco_law_facts.specs.SoundSearches.{answer_where}
@@ -15,8 +15,7 @@ use Rattle.teco_verifier.specs.facts.Arguments.{settled}
 use Rattle.teco_law_facts.specs.Describes.{Run, IsWhole, Describes, run_behind}
 use Rattle.teco_verifier.specs.facts.Facts.{Facts, nowhere, none_saved}
 use Rattle.teco_verifier.specs.facts.Flows.{Edges, facts_taken}
-use Rattle.teco_verifier.specs.facts.Falls.{is_second, falls_without_end}
-use Rattle.teco_verifier.specs.facts.Printed.{is_in_pages, steps}
+use Rattle.teco_verifier.specs.facts.Printed.{steps}
 use Rattle.teco_law_facts.specs.SoundElements.{Leads, Succeeds, FitsOn}
 use Rattle.teco_law_facts.specs.SoundPages.{ComesTo, Comes}
 use Rattle.teco_verifier.specs.facts.Transfer.{Placed, transfer}
@@ -28,17 +27,12 @@ IsInPages Replace = ⊥
 IsInPages FindInPages = ⊤
 IsInPages ReplaceInPages = ⊤
 
--- What is known while pages go by: the pointer may be anywhere, nothing is saved, no digit is known, more text may come
--- to the end of the buffer, and no more is held or ahead than was before the element.
+-- What is known while pages go by: the pointer may be anywhere, nothing is saved, and no more is held or ahead than was
+-- before the element.
 abbrev pub facts_seeking : Facts → Facts
 facts_seeking facts = record (facts_taken facts) {
   arguments = settled facts.position.distances true (facts_taken facts).arguments;
-  position = record facts.position {
-    distances = nowhere;
-    falls = map falls_without_end facts.position.falls;
-    saved = none_saved;
-    digit = None;
-  };
+  position = record facts.position { distances = nowhere; saved = none_saved };
 }
 
 -- The element sought so far: that is known, its text is the last search text, and an output is open.
@@ -68,12 +62,10 @@ LooksOn run known old pending x edges now (Met new) =
     Comes run known.held old
     (levels_after_answer (answer_where x.colon (negsuc 0)) (levels_after_taking pending)) edges
     new
-    × (unread_of new ≤ unread_of now)
 LooksOn run known old pending x edges now (Turned n new) =
     IsSeeking run known old pending x.element.text new × (unread_of new + 1 ≤ unread_of now)
 LooksOn run known old pending x edges now (Through last) =
     MissComes x.colon run known.held old pending edges (looked_through last)
-    × (unread_of (looked_through last) ≤ unread_of now)
 
 -- the first step of N and FN, and each that follows
 pub record Seeks
@@ -93,12 +85,8 @@ PageSearchesAreSound =
     (output : Output)
     → IsWhole world.kept → Describes run facts (unread_of world) world.kept pending
     → x.element.kind ≡ kind.Search s → IsInPages s → world.files.output ≡ Some output
-    → Leads (FitsOn run) (Seeks run (facts_seeking facts) world pending x s) (transfer x facts)
+    → Leads (FitsOn run.n) (Seeks run (facts_seeking facts) world pending x s) (transfer x facts)
     (arguments_of pending.level)
-
--- In the second edition what is unread is counted once in a whole run, and not with N and FN.
-abbrev pub pages_left : Search → Facts → ℕ → ℕ
-pages_left s facts unread = if is_in_pages s && is_second facts.rules then unread else 0
 
 -- Since less is unread behind each page, N and FN take at most one step more than there is unread; S and FS take one.
 abbrev pub SearchesAtMost : Search → ℕ → ℕ → Type 0
@@ -111,5 +99,4 @@ abbrev pub SearchStepsAreBounded : Type 0
 SearchStepsAreBounded =
     (run : Run) (facts : Facts) (unread : ℕ) (kept : Kept) (pending : Arguments) (s : Search)
     → Describes run facts unread kept pending
-    → IfOk (steps (kind.Search s) facts)
-    (λ most. SearchesAtMost s unread (value most run.n + pages_left s facts unread))
+    → IfOk (steps (kind.Search s) facts) (λ most. SearchesAtMost s unread (value most run.n))

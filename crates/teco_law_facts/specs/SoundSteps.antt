@@ -32,11 +32,11 @@ use Rattle.teco_verifier.specs.facts.Facts.{Facts, Iteration}
 use Rattle.teco_verifier.specs.facts.Flows.{Edges}
 use Rattle.teco_model.specs.Macros.{Needs}
 use Rattle.teco_verifier.specs.facts.Printed.{needs, steps}
-use Rattle.teco_law_facts.specs.SoundElements.{FitsOn, IsNamedByCommand, IsNamedByQuery, IsNamedByStack, KnowsLibrary}
+use Rattle.teco_law_facts.specs.SoundElements.{FitsOn, IsNamedByCommand, IsNamedByQuery, IsNamedByStack}
 use Rattle.teco_law_facts.specs.SoundFlow.{number_needed}
 use Rattle.teco_model.specs.Paging.{unread_of}
 use Rattle.teco_law_facts.specs.SoundPages.{ComesTo, Comes, IsTurnOrWrite}
-use Rattle.teco_law_facts.specs.SoundSeeking.{IsInPages, facts_seeking, IsSeeking, pages_left}
+use Rattle.teco_law_facts.specs.SoundSeeking.{IsInPages, facts_seeking, IsSeeking}
 use Rattle.teco_verifier.specs.facts.Transfer.{Placed, transfer, transfer_return}
 use Rattle.teco_law_facts.specs.Wholeness.{IsWholeState}
 
@@ -95,7 +95,6 @@ pub record BeginsAt (run : Run) (facts : Facts) (x : Placed) (s : State) : Type 
   pub read : element_at s.frames.running.text s.frames.running.place ≡ Ok (Some x.element)
   pub colon : x.colon ≡ has_colon x.element s.frames.running
   pub named : IsNamed x.element.kind
-  pub library : KnowsLibrary run x
   pub stands : KindStands x.element.kind facts x s.frames.running
   pub files : IfOk (needs x.element.kind facts) (λ need. AreOpen need s.world.files)
 
@@ -209,16 +208,10 @@ KindEnds (kind.Search s) run facts x edges old new =
     ⊎ ((x.colon ≡ false) × LeavesFor run facts.held edges x.element old new)
 KindEnds k run facts x edges old new = GoesBehind run facts.held edges x.element old new
 
--- what is unread that is not counted with the element
-abbrev pub unread_left : Kind → Facts → ℕ → ℕ
-unread_left (kind.Search s) facts unread = pages_left s facts unread
-unread_left k facts unread = 0
-
--- A step ends the element, or leaves fewer than so many steps to come, as many at the end as are unread and not
--- counted.
+-- A step ends the element, or leaves fewer than so many steps to come.
 abbrev pub Proceeds : Kind → Run → Facts → Placed → Edges → State → ℕ → Outcome → Type 0
 Proceeds k run facts x edges old most (Next new) =
-    ((unread_left k facts (unread_of new.world) + 1 ≤ most) × KindEnds k run facts x edges old new)
+    ((1 ≤ most) × KindEnds k run facts x edges old new)
     ⊎ ((rest : ℕ) × (rest + 1 ≤ most) × IsUnderway k run facts x edges old rest new)
 Proceeds k run facts x edges old most outcome = ⊥
 
@@ -226,28 +219,24 @@ Proceeds k run facts x edges old most outcome = ⊥
 abbrev pub StepsAreSound : Type 0
 StepsAreSound =
     (run : Run) (facts : Facts) (x : Placed) (edges : Edges) (most : Polynomial) (s : State)
-    → BeginsAt run facts x s → transfer x facts ≡ Ok edges → FitsOn run edges
+    → BeginsAt run facts x s → transfer x facts ≡ Ok edges → FitsOn run.n edges
     → steps x.element.kind facts ≡ Ok most
-    → Proceeds x.element.kind run facts x edges s
-    (value most run.n + unread_left x.element.kind facts (unread_of s.world)) (step s)
+    → Proceeds x.element.kind run facts x edges s (value most run.n) (step s)
 
 abbrev pub LaterStepsAreSound : Type 0
 LaterStepsAreSound =
     (run : Run) (facts : Facts) (x : Placed) (edges : Edges) (most : Polynomial) (old s : State) (rest : ℕ)
-    → BeginsAt run facts x old → transfer x facts ≡ Ok edges → FitsOn run edges
+    → BeginsAt run facts x old → transfer x facts ≡ Ok edges → FitsOn run.n edges
     → steps x.element.kind facts ≡ Ok most → IsUnderway x.element.kind run facts x edges old rest s
     → Proceeds x.element.kind run facts x edges old rest (step s)
 
--- An element that begins takes at most its own steps, and one more for each character that was unread and not counted
--- and is read then: the last of them ends it, and while work is left it is underway.
+-- An element that begins takes at most its own steps: the last of them ends it, and while work is left it is underway.
 pub record Completes
     (run : Run) (facts : Facts) (x : Placed) (edges : Edges) (most : ℕ) (s : State) : Type 0 where
   pub before : ℕ
   pub last : State
   pub new : State
-  pub few :
-      before + 1 + unread_left x.element.kind facts (unread_of new.world)
-      ≤ most + unread_left x.element.kind facts (unread_of s.world)
+  pub few : before + 1 ≤ most
   pub reaches : Reaches before s last
   pub stands : (last ≡ s) ⊎ ((rest : ℕ) × IsUnderway x.element.kind run facts x edges s rest last)
   pub final : step last ≡ Next new
@@ -256,7 +245,7 @@ pub record Completes
 abbrev pub ElementsAreSound : Type 0
 ElementsAreSound =
     (run : Run) (facts : Facts) (x : Placed) (edges : Edges) (most : Polynomial) (s : State)
-    → BeginsAt run facts x s → transfer x facts ≡ Ok edges → FitsOn run edges
+    → BeginsAt run facts x s → transfer x facts ≡ Ok edges → FitsOn run.n edges
     → steps x.element.kind facts ≡ Ok most
     → Completes run facts x edges (value most run.n) s
 

@@ -119,9 +119,9 @@ call_below calls entry (Some range) (Some n) world named asked leaves =
 call_below calls entry argument given world named asked leaves = absurd (grind arith)
 
 pub runs_leave_below : ending.Laws → verifying.Laws → CallLaws → IterationsEnd → NodesAreSound → RunsLeaveBelow
-runs_leave_below laws facts calls ends sound library entry rules argument given nodes table commands most n world are
+runs_leave_below laws facts calls ends sound library entry argument given nodes table commands most n world are
     printed asked ready files =
     call_below calls entry argument given world ready.named asked
-    (given_below laws sound (ready_call library entry rules argument given nodes table commands most n world are printed
-    asked ready) (verifying.elements_go facts ends library entry rules argument given nodes table commands most n world
+    (given_below laws sound (ready_call library entry argument given nodes table commands most n world are printed
+    asked ready) (verifying.elements_go facts ends library entry argument given nodes table commands most n world
     are printed asked ready) files)

@@ -100,18 +100,18 @@ none_begun depth u t h = by_test (stands_at_turn_end u) (depth_of u == depth) (d
 
 module _ (laws : ending.Laws) (sound : NodesAreSound) (bounded : TurnsAreBounded) (c : Course)
     (go : ElementsGo c.library c.entry c.nodes c.table c.n c.below c.first) (closed : AreClosed c.nodes) where
-  open c use {library, entry, nodes, table, n, below, first, zeroth, are, passes, begins, paged}
+  open c use {library, entry, nodes, table, n, below, first, zeroth, are, passes, begins}
 
   abbrev At : ℕ → List OpenTurn → State → Type 0
   At number turns s = described.At laws c go number turns s
 
   abbrev there : (number : ℕ) (turns : List OpenTurn) (s : State) → At number turns s → Shown
-  there number turns s at = shown nodes table number at.here.node.stand.iterations turns s.world
+  there number turns s at = shown number at.here.node.stand.iterations turns s.world
 
   many : (number : ℕ) (turns : List OpenTurn) (s : State) (at : At number turns s)
       → (length at.here.node.stand.iterations ≡ length turns) × (length (there number turns s at).opened ≡ depth_of s)
   many number turns s at =
-      let opened = opened_length nodes table n at.here.node.stand.iterations (open_loops s) turns at.here.opened in
+      let opened = opened_length table n at.here.node.stand.iterations (open_loops s) turns at.here.opened in
       (opened.1, shown_length at.here.node.stand.iterations turns opened.1 ∙ opened.0)
 
   -- moves begin as many turns at least
@@ -157,7 +157,7 @@ module _ (laws : ending.Laws) (sound : NodesAreSound) (bounded : TurnsAreBounded
 
       move : Move (turning nodes table n) here next
       move = subst (λ (node : Node). Move (turning nodes table n) here
-          (shown nodes table g.passes.goes.target node.stand.iterations m.later g.passes.next.world))
+          (shown g.passes.goes.target node.stand.iterations m.later g.passes.next.world))
           (same_node nodes g.passes.goes.target m.there later.here.node m.at later.here.at) m.move
 
       here_many : length here.opened ≡ depth_of s
@@ -175,7 +175,7 @@ module _ (laws : ending.Laws) (sound : NodesAreSound) (bounded : TurnsAreBounded
           absurd (omega (arith, ap length enters.opened, here_many, next_many, before, after))
       back_by depth (Forward goes) some reads before after =
           let e = turn_end at.here.node.element reads in
-          let both = opened_length nodes table n at.here.node.stand.iterations (open_loops s) turns at.here.opened in
+          let both = opened_length table n at.here.node.stand.iterations (open_loops s) turns at.here.opened in
           let fewer = fewer_open (λ begin. end_of nodes begin) g.passes.goes.target at.here.node.stand.iterations turns
           both.1 (omega (arith, both.0, before, some))
           (λ b outer is. let ended = closed.only number at.here.node b at.here.at
@@ -351,7 +351,7 @@ module _ (laws : ending.Laws) (sound : NodesAreSound) (bounded : TurnsAreBounded
           absurd (not_long at.here.node.element reads (g.amid j s (omega (arith, e)) l came).long)
 
       most_turns : (steps count : ℕ) → BeginTurns (depth_of t) steps t count
-          → suc count ≤ value_of n (turns_at nodes table number)
+          → suc count ≤ value_of n (turns_at table number)
       most_turns steps count run =
           let opens = enters.opens in
           let some : 1 ≤ depth_of t = omega (arith, opens) in
@@ -366,7 +366,7 @@ module _ (laws : ending.Laws) (sound : NodesAreSound) (bounded : TurnsAreBounded
           in
           omega (arith, all, counted.enough)
 
-      few_turns : (r : Result Polynomial Refusal) → turns_at nodes table number ≡ r
+      few_turns : (r : Result Polynomial Refusal) → turns_at table number ≡ r
           → TakesFewTurns library nodes table n below s t
       few_turns (Ok most) e = subst (λ (s : State). TakesFewTurns library nodes table n below s t) (alone j refl)
           (record {
@@ -410,11 +410,11 @@ module _ (laws : ending.Laws) (sound : NodesAreSound) (bounded : TurnsAreBounded
         few_where (described.comes laws c go (suc steps) steps number turns from s at (omega arith) came)
 
 pub turns_are_bounded : ending.Laws → verifying.Laws → IterationsEnd → TurnsAreBounded → IterationsAreBounded
-turns_are_bounded laws sound ends bounded library entry rules argument given nodes table commands most n world are
+turns_are_bounded laws sound ends bounded library entry argument given nodes table commands most n world are
     printed asked ready files steps s t came enters =
-    let call = ready_call library entry rules argument given nodes table commands most n world are printed asked ready
+    let call = ready_call library entry argument given nodes table commands most n world are printed asked ready
     in
-    let go = verifying.elements_go sound ends library entry rules argument given nodes table commands most n world are
+    let go = verifying.elements_go sound ends library entry argument given nodes table commands most n world are
     printed asked ready in
     few laws sound.sound bounded (course call) go (ends library entry nodes are) s t enters steps 1 []
     (start_given entry given world) (described.at_first laws call go files) came

@@ -5,7 +5,6 @@ use Rattle.std.proofs.Common.{Ok}
 use Rattle.std.specs.Prelude.{IsTrue}
 use Rattle.std.specs.List.{AllByRecursion}
 use Rattle.std.specs.Option.{option_map_or}
-use Rattle.teco_law_tables.specs.Following.{falling_in}
 use Rattle.teco_law_turns.specs.Table.{IsClosedLoop}
 use Rattle.teco_law_turns.specs.Nests.{Begin, onward, NodesNest}
 use Rattle.teco_law_expansion.specs.Ends.{Descend, IsBegin, AreClosed, IterationsEnd}
@@ -65,20 +64,14 @@ module _ (nodes : List Node) (table : Table) (n : ℕ) where
   held_nowhere k h b = held_unknown k h ∙ ap (λ b. held_if b (held_at nodes table n k)) b
 
   pub turns_known : (begin : ℕ) (facts start : Facts) → facts_at table begin ≡ Some facts
-      → facts_at table (suc begin) ≡ Some start → (most : Polynomial)
-      → turns_where (falling_in nodes table begin) (Some facts) (Some start) ≡ Ok most
-      → value_of n (turns_at nodes table begin) ≡ value most n
+      → facts_at table (suc begin) ≡ Some start → (most : Polynomial) → turns_where (Some facts) (Some start) ≡ Ok most
+      → value_of n (turns_at table begin) ≡ value most n
   turns_known begin facts start h s most t =
-      ap (value_of n) (ap (λ (o : Option Facts). turns_where (falling_in nodes table begin) o
-      (facts_at table (suc begin))) h ∙ (ap (turns_where (falling_in nodes table begin) (Some facts)) s ∙ t))
+      ap (value_of n) (ap (λ (o : Option Facts). turns_where o (facts_at table (suc begin))) h
+      ∙ (ap (turns_where (Some facts)) s ∙ t))
 
-  turns_nowhere : (begin : ℕ) → facts_at table (suc begin) ≡ None → value_of n (turns_at nodes table begin) ≡ 1
-  turns_nowhere begin s = ap (value_of n) (ap (turns_where (falling_in nodes table begin) (facts_at table begin)) s)
-      ∙ (values_of_constants n 1).0
-
-begins_held : (choice : Choice) (entering : Facts) → IsTrue (begins choice entering)
-    → IsTrue (is_at_most entering.held choice.held)
-begins_held choice entering b = let o = and_both _ _ b in let p = and_both _ _ o.0 in (and_both _ _ p.0).0
+  turns_nowhere : (begin : ℕ) → facts_at table (suc begin) ≡ None → value_of n (turns_at table begin) ≡ 1
+  turns_nowhere begin s = ap (value_of n) (ap (turns_where (facts_at table begin)) s) ∙ (values_of_constants n 1).0
 
 -- ---- a fall is told where a turn begins alone
 abbrev fall_where : Bool → Option ℤ
@@ -142,12 +135,12 @@ module _ (library : Library) (entry : ℕ) (nodes : List Node) (are : AreLinked 
       start_held : held_at nodes table n (suc l) ≡ held_at nodes table n l
       start_held = held_beginning nodes table n l nowhere begins_there
 
-      room_nowhere : held_at nodes table n l + (value_of n (turns_at nodes table l) - 1) *
+      room_nowhere : held_at nodes table n l + (value_of n (turns_at table l) - 1) *
           (held_at nodes table n (end_of nodes l) - held_at nodes table n (suc l)) ≤ held_at nodes table n (suc l)
       room_nowhere = omega (
         arith,
         start_held,
-        less_one (value_of n (turns_at nodes table l))
+        less_one (value_of n (turns_at table l))
             (held_at nodes table n (end_of nodes l) - held_at nodes table n (suc l))
             (turns_nowhere nodes table n l nowhere),
       )
@@ -167,7 +160,7 @@ module _ (library : Library) (entry : ℕ) (nodes : List Node) (are : AreLinked 
       held_start = held_known nodes table n (suc l) start there
           ∙ held_same start (body_start body.choice (changes_in nodes l) body.entering) n body.same
 
-      turns_there : value_of n (turns_at nodes table l) ≡ value body.most n
+      turns_there : value_of n (turns_at table l) ≡ value body.most n
       turns_there = turns_known nodes table n l body.facts start body.known there body.most body.turns_are
 
       begins_with : IsTrue (begins body.choice body.entering) → held_at nodes table n l ≤ held_at nodes table n (suc l)
@@ -175,7 +168,7 @@ module _ (library : Library) (entry : ℕ) (nodes : List Node) (are : AreLinked 
         arith,
         held_l,
         held_start,
-        values_compare body.entering.held body.choice.held n (begins_held body.choice body.entering b),
+        values_compare body.entering.held body.choice.held n (and_both _ _ b).0,
       )
 
       -- where its > is not, nothing is held there
@@ -195,12 +188,12 @@ module _ (library : Library) (entry : ℕ) (nodes : List Node) (are : AreLinked 
       room_by : (o : Option Facts) → facts_at table (end_of nodes l) ≡ o
           → IsTrue (stands body.choice (changes_in nodes l) (is_counted body.entering.iterations) body.most
           body.entering o) →
-          held_at nodes table n l + (value_of n (turns_at nodes table l) - 1) *
+          held_at nodes table n l + (value_of n (turns_at table l) - 1) *
           (held_at nodes table n (end_of nodes l) - held_at nodes table n (suc l)) ≤ held_at nodes table n (suc l)
       room_by None ended b = omega (
         arith,
         begins_with b,
-        no_growth (value_of n (turns_at nodes table l) - 1) (held_at nodes table n (end_of nodes l))
+        no_growth (value_of n (turns_at table l) - 1) (held_at nodes table n (end_of nodes l))
             (held_at nodes table n (suc l)) (held_end ended),
       )
       room_by (Some end) ended s =
@@ -214,16 +207,16 @@ module _ (library : Library) (entry : ℕ) (nodes : List Node) (are : AreLinked 
             held_l,
             held_start,
             room.room,
-            as_often (value_of n (turns_at nodes table l)) (value body.most n)
+            as_often (value_of n (turns_at table l)) (value body.most n)
                 (held_at nodes table n (end_of nodes l) - held_at nodes table n (suc l)) room.growth turns_there grown,
           )
 
-      room_there : held_at nodes table n l + (value_of n (turns_at nodes table l) - 1) *
+      room_there : held_at nodes table n l + (value_of n (turns_at table l) - 1) *
           (held_at nodes table n (end_of nodes l) - held_at nodes table n (suc l)) ≤ held_at nodes table n (suc l)
       room_there = room_by _ refl body.stands_there
 
     room_at : (o : Option Facts) → facts_at table (suc l) ≡ o
-        → held_at nodes table n l + (value_of n (turns_at nodes table l) - 1) *
+        → held_at nodes table n l + (value_of n (turns_at table l) - 1) *
         (held_at nodes table n (end_of nodes l) - held_at nodes table n (suc l)) ≤ held_at nodes table n (suc l)
     room_at None nowhere = room_nowhere nowhere
     room_at (Some start) there = room_there start there

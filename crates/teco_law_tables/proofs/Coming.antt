@@ -125,7 +125,6 @@ module _ (nodes : List Node) (node : Node) (facts : Facts) (edges : Edges) (run 
     leads = leads;
     on_way = on;
     described = subst (λ run. Describes run next (unread_of t.world) t.world.kept t.arguments) (sym is) c.described;
-    less = c.less;
     grown = subst (λ n. held_of t.world + value facts.held n ≤ held_of s.world + value next.held n) same c.grown;
   }
 

@@ -1,13 +1,9 @@
 -- An element that begins where a run is described passes, by the laws of facts.
-use Rattle.std.proofs.Common.{◌&&◌, ◌||◌, if◌then◌else◌, [], ◌∷◌, ◌≡◌, ◌⊎◌, inl, inr, ℕ, zero, suc, ◌+◌, ◌≤◌, ◌<◌}
-use Rattle.std.proofs.Common.{refl, sym, ap, ◌∙◌, subst, arith, List, Bool, true, false, Option, Some, None, Result}
-use Rattle.std.proofs.Common.{Ok, Err, is_some, slice_get, ◌∷◌}
+use Rattle.std.proofs.Common.{◌≡◌, ◌⊎◌, inl, inr, ℕ, suc, ◌+◌, ◌≤◌, ◌<◌, refl, sym, ap, ◌∙◌, subst, arith, Bool, true}
+use Rattle.std.proofs.Common.{false, Option, Some, None, Result, Ok, Err, is_some}
 use Rattle.std.specs.Prelude.{IsErr}
 use Rattle.std.specs.Option.{option_map_or}
-use Rattle.teco_verifier.specs.expansion.Node.{numbered, Node, stands}
-use Rattle.teco_verifier.specs.facts.Falls.{is_second}
-use Rattle.teco_verifier.specs.declared.rules.Rules.{Rules}
-use Rattle.teco_model.specs.Paging.{unread_of}
+use Rattle.teco_verifier.specs.expansion.Node.{stands}
 use Rattle.teco_model.specs.declared.kind.Command.TheVariants as command
 use Rattle.teco_model.specs.declared.kind.Storage.{Storage}
 use Rattle.teco_model.specs.declared.kind.Storage.TheVariants as storage
@@ -40,19 +36,18 @@ use Rattle.teco_law_facts.specs.Describes.{Run, IsWhole}
 use Rattle.teco_verifier.specs.facts.Facts.{Answer, Facts}
 use Rattle.teco_verifier.specs.facts.Flows.{Edges}
 use Rattle.teco_law_facts.specs.Laws.{WritesText}
-use Rattle.teco_verifier.specs.facts.Printed.{steps, is_in_pages}
+use Rattle.teco_verifier.specs.facts.Printed.{steps}
 use Rattle.teco_law_facts.specs.SoundElements.{FitsOn}
 use Rattle.teco_law_facts.specs.SoundPages.{IsTurnOrWrite}
 use Rattle.teco_law_facts.specs.SoundSeeking.{IsInPages}
-use Rattle.teco_law_facts.specs.SoundSteps.{AreOpen, BeginsAt, KindUnderway, IsUnderway, KindEnds, unread_left}
-use Rattle.teco_law_facts.specs.SoundSteps.{Proceeds, StepsAreSound, LaterStepsAreSound}
+use Rattle.teco_law_facts.specs.SoundSteps.{AreOpen, BeginsAt, KindUnderway, IsUnderway, KindEnds, Proceeds}
+use Rattle.teco_law_facts.specs.SoundSteps.{StepsAreSound, LaterStepsAreSound}
 use Rattle.teco_verifier.specs.facts.Transfer.{Placed, answer_for, without_answer, edges_of, transfer}
 use Rattle.teco_verifier.specs.table.Behind.{placed, edges_behind, edges_at}
-use Rattle.teco_law_tables.specs.Following.{run_at, is_paged_at, is_paged_from, apart_of}
-use Rattle.teco_law_tables.specs.Moving.{IsLong, IsLast, Alone, Again, Comes}
-use Rattle.teco_verifier.specs.table.Printed.{steps_of, needs_in, turns_pages_by, turns_pages}
+use Rattle.teco_law_tables.specs.Following.{run_at}
+use Rattle.teco_law_tables.specs.Moving.{IsLong, IsLast, Alone, Again}
+use Rattle.teco_verifier.specs.table.Printed.{steps_of, needs_in}
 use Rattle.teco_law_tables.specs.Staying.{is_of_files, ReadsNoFileCommand, NoFileCommands, AreAsOpen, FilesStayOpen}
-use Rattle.teco_verifier.specs.table.Table.{Table}
 use Rattle.teco_law_tables.specs.Turning.{value_of}
 use Rattle.teco_law_tables.proofs.Ground.{Ground, Arrival}
 use Rattle.teco_law_tables.proofs.Coming.{HasLoop, element_comes}
@@ -149,65 +144,6 @@ ends_done (kind.Search q) run facts x edges s new none (inl h) = h.done
 ends_done (kind.Search q) run facts x edges s new none (inr h) = h.1.done
 ends_done k run facts x edges s new none h = h.done
 
--- ---- what is unread that is counted once
-abbrev pages_by : Rules → Kind → Bool
-pages_by rules k = is_second rules && turns_pages_by k
-
-abbrev is_paged_by : Rules → Option Element → Bool
-is_paged_by rules read = is_second rules && option_map_or (λ (e : Element). turns_pages_by e.kind) read false
-
-unread_is : (k : Kind) (facts : Facts) (unread : ℕ)
-    → unread_left k facts unread ≡ (if pages_by facts.rules k then unread else 0)
-unread_is (kind.Search q) facts unread = by (is_in_pages q) (is_second facts.rules)
-  where
-    by : (a b : Bool) → Path ℕ (if a && b then unread else 0) (if b && a then unread else 0)
-    by true true = refl
-    by true false = refl
-    by false true = refl
-    by false false = refl
-unread_is k facts unread = by (is_second facts.rules)
-  where
-    by : (b : Bool) → Path ℕ 0 (if b && false then unread else 0)
-    by true = refl
-    by false = refl
-
-left_apart : (k : Kind) (rules : Rules) (paged : Bool) (j most now before : ℕ)
-    → (paged ≡ false → pages_by rules k ≡ false) → now ≤ before
-    → j + (if pages_by rules k then now else 0) ≤ most + (if pages_by rules k then before else 0)
-    → j + (if paged then now else 0) ≤ most + (if paged then before else 0)
-left_apart k rules paged j most now before none less h = by paged (pages_by rules k) none h
-  where
-    by : (p b : Bool) → (p ≡ false → b ≡ false) → j + (if b then now else 0) ≤ most + (if b then before else 0)
-        → j + (if p then now else 0) ≤ most + (if p then before else 0)
-    by true true none h = h
-    by true false none h = omega (arith, h, less)
-    by false false none h = h
-    by false true none h = let z = none refl in absurd (cc)
-
-none_first : (a b : Bool) → (a || b) ≡ false → a ≡ false
-none_first false b h = refl
-none_first true b h = absurd (cc)
-
-none_later : (a b : Bool) → (a || b) ≡ false → b ≡ false
-none_later false b h = h
-none_later true b h = absurd (cc)
-
-none_paged_from : (table : Table) (k j : ℕ) (rest : List Node) (node : Node) → is_paged_from table k rest ≡ false
-    → slice_get rest j ≡ Some node → is_paged_at table (k + j) node ≡ false
-none_paged_from table k j [] node none at = absurd (cc)
-none_paged_from table k zero (x ∷ rest) node none at = search (none_first, arith)
-none_paged_from table k (suc j) (x ∷ rest) node none at =
-    let z : suc k + j ≡ k + suc j = omega arith in
-    subst (λ i. is_paged_at table i node ≡ false) z
-    (none_paged_from table (suc k) j rest node
-    (none_later (is_paged_at table k x) (is_paged_from table (suc k) rest) none) at)
-
-none_paged : (table : Table) (nodes : List Node) (number : ℕ) (node : Node) → is_paged_from table 1 nodes ≡ false
-    → numbered nodes number ≡ Some node → is_paged_at table number node ≡ false
-none_paged table nodes zero node none at = absurd (cc)
-none_paged table nodes (suc k) node none at = let z : 1 + k ≡ suc k = omega arith in
-    subst (λ i. is_paged_at table i node ≡ false) z (none_paged_from table 1 k nodes node none at)
-
 -- ---- the steps of an element
 pub record Facts_laws : Type 0 where
   pub first : StepsAreSound
@@ -222,12 +158,12 @@ module _ (laws : Facts_laws) (ground : Ground) (arrival : Arrival ground) where
 
   module _ (e : Element) (reads : here.node.element ≡ Some e) (edges : Edges)
       (leads : edges_at nodes here.node here.facts ≡ Ok edges) (most : Polynomial)
-      (takes : steps e.kind here.facts ≡ Ok most) (fits : FitsOn (run_at library n below turns) edges)
-      (begins : BeginsAt (run_at library n below turns) here.facts (placed nodes here.node e) s)
-      (wholes : (k : ℕ) (u : State) → Reaches k s u → IsWhole u.world.kept) (inside : (q : Search)
-      → e.kind ≡ kind.Search q → (placed nodes here.node e).colon ≡ false → HasLoop s.frames.running) where
+      (takes : steps e.kind here.facts ≡ Ok most) (fits : FitsOn n edges)
+      (begins : BeginsAt (run_at n below turns) here.facts (placed nodes here.node e) s) (wholes : (k : ℕ) (u : State)
+      → Reaches k s u → IsWhole u.world.kept) (inside : (q : Search) → e.kind ≡ kind.Search q
+      → (placed nodes here.node e).colon ≡ false → HasLoop s.frames.running) where
     abbrev run_here : Run
-    run_here = run_at library n below turns
+    run_here = run_at n below turns
 
     abbrev x : Placed
     x = placed nodes here.node e
@@ -294,8 +230,7 @@ module _ (laws : Facts_laws) (ground : Ground) (arrival : Arrival ground) where
     -- the step that ends it
     module _ (j : ℕ) (u new : State) (rest : ℕ) (at : At u rest) (came : Reaches j s u) (none : NoFileCommands s j)
         (loaded : IsLoaded library u.world.kept) (files : HasOpen u) (goes : step u ≡ Next new)
-        (few : suc j + unread_left e.kind here.facts (unread_of new.world) ≤ value most n + unread_left e.kind
-        here.facts (unread_of s.world)) (amid : AreAmid here.node.element s j)
+        (few : suc j ≤ value most n) (amid : AreAmid here.node.element s j)
         (ends : KindEnds e.kind run_here here.facts x edges s new) where
       done : new.left ≡ None
       done = ends_done e.kind run_here here.facts x edges s new here.begins ends
@@ -312,23 +247,6 @@ module _ (laws : Facts_laws) (ground : Ground) (arrival : Arrival ground) where
       unfolding run
       reached_next = ap go_on came ∙ goes
 
-      coming : Comes nodes here.node here.facts went.way run_here s new
-      coming = element_comes nodes here.node here.facts edges run_here s u new leads e reads
-          (last_of u rest at) inside went.way went.was ends
-
-      few_apart : suc j + apart_of nodes table new.world ≤ value most n + apart_of nodes table s.world
-      few_apart = left_apart e.kind here.facts.rules (is_paged_from table 1 nodes) (suc j) (value most n)
-          (unread_of new.world) (unread_of s.world)
-          (λ none. sym (ap (is_paged_by here.facts.rules) reads)
-          ∙ (sym (ap (turns_pages here.node) here.known) ∙ none_paged table nodes number here.node none here.at))
-          coming.less
-          (omega (
-            arith,
-            few,
-            unread_is e.kind here.facts (unread_of new.world),
-            unread_is e.kind here.facts (unread_of s.world),
-          ))
-
       ending : Goes library entry nodes table n below number turns s here
       ending = record {
         amid = amid;
@@ -339,11 +257,12 @@ module _ (laws : Facts_laws) (ground : Ground) (arrival : Arrival ground) where
           reaches = came;
           steps = goes;
           few = let e2 : value_of n (steps_of here.node.element here.facts) ≡ value most n =
-              ap (value_of n) (ap (λ read. steps_of read here.facts) reads ∙ takes) in omega (arith, e2, few_apart);
+              ap (value_of n) (ap (λ read. steps_of read here.facts) reads ∙ takes) in omega (arith, e2, few);
           none = none_more j s u none came (none_there u rest at);
           again = last_of u rest at;
           goes = went;
-          comes = coming;
+          comes = element_comes nodes here.node here.facts edges run_here s u new leads e reads
+              (last_of u rest at) inside went.way went.was ends;
           loaded = loaded_next u new rest at loaded goes;
           whole = wholes (suc j) new reached_next;
           files = open_next u new rest at files goes;
@@ -355,8 +274,7 @@ module _ (laws : Facts_laws) (ground : Ground) (arrival : Arrival ground) where
     reached j u new came goes = ap go_on came ∙ goes
 
     proceeding : (fuel j : ℕ) (u : State) (rest : ℕ) → At u rest → Reaches j s u → NoFileCommands s j
-        → IsLoaded library u.world.kept → HasOpen u
-        → j + rest ≤ value most n + unread_left e.kind here.facts (unread_of s.world) → rest < fuel
+        → IsLoaded library u.world.kept → HasOpen u → j + rest ≤ value most n → rest < fuel
         → AreAmid here.node.element s j → (o : Outcome) → step u ≡ o
         → Proceeds e.kind run_here here.facts x edges s rest o
         → Goes library entry nodes table n below number turns s here
@@ -375,7 +293,6 @@ module _ (laws : Facts_laws) (ground : Ground) (arrival : Arrival ground) where
     reached_here = refl
 
     pub passing : HasOpen s → Goes library entry nodes table n below number turns s here
-    passing files = proceeding (suc (value most n + unread_left e.kind here.facts (unread_of s.world))) 0 s
-        (value most n + unread_left e.kind here.facts (unread_of s.world)) (inl refl) reached_here
+    passing files = proceeding (suc (value most n)) 0 s (value most n) (inl refl) reached_here
         (none_yet s) here.loaded files (omega arith) (omega arith) (none_amid here.node.element s) (step s) refl
         (laws.first run_here here.facts x edges most s begins knows fits takes)

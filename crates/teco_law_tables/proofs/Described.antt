@@ -4,8 +4,6 @@ use Rattle.std.proofs.Common.{[], Option, Some, None}
 use Rattle.std.proofs.lemmas.Bool.{cases_order}
 use Rattle.teco_law_tables.specs.Following.{OpenTurn, run_at}
 use Rattle.teco_law_tables.specs.Framing.{LiesBelow}
-use Rattle.teco_verifier.specs.facts.Facts.{entry_of}
-use Rattle.teco_verifier.specs.declared.rules.Rules.{Rules}
 use Rattle.teco_model.specs.Run.{Reaches, run, go_on}
 use Rattle.teco_model.specs.State.{World, State, Next, End}
 use Rattle.teco_model.specs.Step.{step}
@@ -51,7 +49,7 @@ pub reaches_later : (k m : ℕ) (s u v : State) → Reaches k s u → Reaches (k
 reaches_later k m s u v came later = sym (run_on k s u came m) ∙ later
 
 module _ (laws : ending.Laws) (c : Course) (go : ElementsGo c.library c.entry c.nodes c.table c.n c.below c.first) where
-  open c use {library, entry, nodes, table, n, below, first, zeroth, are, passes, begins, paged}
+  open c use {library, entry, nodes, table, n, below, first, zeroth, are, passes, begins}
 
   abbrev pub pass : ElementsPass library entry nodes table n below first
   pass = elements_pass library entry nodes table n below first go
@@ -96,7 +94,7 @@ module _ (laws : ending.Laws) (c : Course) (go : ElementsGo c.library c.entry c.
     next_above =
         subst (λ below. LiesBelow below g.passes.next.world.kept.registers.stack)
         (below_along at.here.node.element g.passes.goes.way (left_by nodes at.here.node) s.world
-        (run_at library n below turns))
+        (run_at n below turns))
         (lies_below _ _ _ _ g.passes.comes.described.state.pushed)
 
     behind : (m : ℕ) → (over entry).position ≡ position_of g.passes.next → Reaches m g.passes.next u → Comes u
@@ -154,15 +152,14 @@ module _ (laws : ending.Laws) (c : Course) (go : ElementsGo c.library c.entry c.
   known k number turns s u at came none = known_by u none (comes (suc k) k number turns s u at (omega arith) came)
 
 -- ---- the run of a macro that is accepted
-abbrev pub ready_call : (library : Library) (entry : ℕ) (rules : Rules) (argument : Option ArgumentRange)
+abbrev pub ready_call : (library : Library) (entry : ℕ) (argument : Option ArgumentRange)
     (given : Option ℕ) (nodes : List Node) (table : Table) (commands most : Polynomial) (n : ℕ) (world : World) →
-    AreLinked library entry nodes → IsPrinted (entry_of rules library argument) nodes table commands most
+    AreLinked library entry nodes → IsPrinted argument nodes table commands most
     → IsAsked argument given → IsReady library entry most n world → Call
-ready_call library entry rules argument given nodes table commands most n world are printed asked ready =
+ready_call library entry argument given nodes table commands most n world are printed asked ready =
     record {
       library = library;
       entry = entry;
-      rules = rules;
       argument = argument;
       given = given;
       nodes = nodes;
@@ -189,8 +186,8 @@ module _ (laws : ending.Laws) (call : Call)
     known_there steps s came none = known laws (course call) go steps 1 [] (course call).first s at_first came none
 
 pub runs_are_described : ending.Laws → verifying.Laws → IterationsEnd → RunsAreDescribed
-runs_are_described laws sound ends library entry rules argument given nodes table commands most n world are printed
+runs_are_described laws sound ends library entry argument given nodes table commands most n world are printed
     asked ready files =
-    known_there laws (ready_call library entry rules argument given nodes table commands most n world are printed asked
-    ready) (verifying.elements_go sound ends library entry rules argument given nodes table commands most n world
+    known_there laws (ready_call library entry argument given nodes table commands most n world are printed asked
+    ready) (verifying.elements_go sound ends library entry argument given nodes table commands most n world
     are printed asked ready) files

@@ -3,7 +3,6 @@ use Rattle.std.proofs.Common.{◌≡◌, ℕ, zero, suc, refl, sym, ap, ◌∙�
 use Rattle.std.proofs.Common.{Option, Some, None, MatchOption, Result, Ok, slice_get}
 use Rattle.std.specs.Prelude.{⊤}
 use Rattle.std.proofs.lemmas.Bool.{ltb-false}
-use Rattle.teco_law_facts.specs.Describes.{Run}
 use Rattle.teco_model.specs.declared.kind.Flow.TheVariants as flow
 use Rattle.teco_model.specs.declared.kind.Kind.{Kind}
 use Rattle.teco_model.specs.declared.kind.Kind.TheVariants as kind
@@ -34,12 +33,12 @@ on_of r edges other h g = let e : r ≡ Ok other = g in let f : edges ≡ other 
     same : Path (Result Edges Refusal) (Ok edges) (Ok other) → edges ≡ other
     same e = cc
 
-module _ (library : Library) (entry : ℕ) (nodes : List Node) (table : Table) (run : Run)
+module _ (library : Library) (entry : ℕ) (nodes : List Node) (table : Table) (n : ℕ)
     (are : AreLinked library entry nodes) (passes : check_nodes nodes table ≡ Ok tt)
     (fit : (k : ℕ) (node : Node) (facts : Facts) → numbered nodes k ≡ Some node → facts_at table k ≡ Some facts
-    → Fits run facts) where
+    → Fits n facts) where
   fits_at : (target : ℕ) (facts : Facts) → nat_lt (length nodes) target ≡ false → facts_at table target ≡ Some facts
-      → Fits run facts
+      → Fits n facts
   fits_at zero facts l known = absurd (cc)
   fits_at (suc k) facts l known = let there =
       node_of nodes (suc k) (omega arith) (omega (arith, ltb-false (length nodes) (suc k) l)) in
@@ -49,17 +48,17 @@ module _ (library : Library) (entry : ℕ) (nodes : List Node) (table : Table) (
       (at : numbered nodes number ≡ Some node) (known : facts_at table number ≡ Some facts)
       (leads : edges_at nodes node facts ≡ Ok edges) where
     on_fits : (way target : ℕ) → begins_turn node.element way ≡ false → along node.element way edges ≡ edges.on
-        → slice_get node.ways way ≡ Some target → (o : Option Facts) → edges.on ≡ o → MatchOption o ⊤ (Fits run)
+        → slice_get node.ways way ≡ Some target → (o : Option Facts) → edges.on ≡ o → MatchOption o ⊤ (Fits n)
     on_fits way target turn is taken None on = tt
     on_fits way target turn is taken (Some next) on =
         let within = way_within nodes table number node e facts next edges way target reads passes at known leads taken
         turn (is ∙ on) in
         let covered = way_covered nodes table number node facts next edges way target passes at known leads taken turn
         (is ∙ on) within in
-        fits_covered run covered.facts next covered.covered (fits_at target covered.facts within covered.known)
+        fits_covered n covered.facts next covered.covered (fits_at target covered.facts within covered.known)
 
     by_way : (k : Kind) → e.kind ≡ k → turns_by_kind k (on_way k) ≡ false → along_kind k (on_way k) edges ≡ edges.on
-        → FitsOn run edges
+        → FitsOn n edges
     by_way k is turn on =
         let linked = are.each number node at in
         let there = way_there library e node.stand.position linked.targets (stands nodes entry)
@@ -70,17 +69,17 @@ module _ (library : Library) (entry : ℕ) (nodes : List Node) (table : Table) (
         (ap (λ read. along read (on_way k) edges) reads ∙ (ap (λ k'. along_kind k' (on_way k) edges) is ∙ on))
         (ap (λ k. slice_get node.ways (on_way k)) (sym is) ∙ there.1) edges.on refl
 
-    entered_fits : e.kind ≡ kind.Flow flow.Iterate → (o : Option Facts) → edges.on ≡ o → MatchOption o ⊤ (Fits run)
+    entered_fits : e.kind ≡ kind.Flow flow.Iterate → (o : Option Facts) → edges.on ≡ o → MatchOption o ⊤ (Fits n)
     entered_fits is None on = tt
     entered_fits is (Some next) on =
         let fits = fit number node facts at known in
         let entering = enters nodes node e facts next edges reads is leads on in
-        subst (Fits run) (sym entering.is) (record { buffer = fits.buffer; texts = fits.texts })
+        subst (Fits n) (sym entering.is) (record { buffer = fits.buffer; texts = fits.texts })
 
-    none_fits : edges.on ≡ None → FitsOn run edges
-    none_fits h = subst (λ o. MatchOption o ⊤ (Fits run)) (sym h) tt
+    none_fits : edges.on ≡ None → FitsOn n edges
+    none_fits h = subst (λ o. MatchOption o ⊤ (Fits n)) (sym h) tt
 
-    kind_fits : (k : Kind) → e.kind ≡ k → FitsOn run edges
+    kind_fits : (k : Kind) → e.kind ≡ k → FitsOn n edges
     kind_fits (kind.Flow flow.Iterate) is = entered_fits is edges.on refl
     kind_fits (kind.Flow flow.Otherwise) is =
         none_fits (on_of _ edges _ (kind_edges nodes node e (kind.Flow flow.Otherwise) facts edges reads is leads) refl)
@@ -94,5 +93,5 @@ module _ (library : Library) (entry : ℕ) (nodes : List Node) (table : Table) (
         none_fits (on_of _ edges _ alone.gives refl)
     kind_fits k is = by_way k is refl refl
 
-    pub edges_fit : FitsOn run edges
+    pub edges_fit : FitsOn n edges
     edges_fit = kind_fits e.kind refl

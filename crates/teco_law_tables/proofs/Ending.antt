@@ -1,17 +1,15 @@
 -- A run with a closed table ends in time.
 use Rattle.std.proofs.Common.{◌≡◌, ◌⊎◌, inl, inr, ℕ, zero, suc, ◌+◌, ◌≤◌, ◌<◌, refl, sym, ap, ◌∙◌, subst, arith, List}
-use Rattle.std.proofs.Common.{[], ◌∷◌, map, length, get_or, Bool, true, false, if◌then◌else◌, Option, Some, None}
-use Rattle.std.proofs.Common.{option_map, Ok, is_some}
+use Rattle.std.proofs.Common.{[], true, Option, Some, None, Ok, is_some}
 use Rattle.std.specs.Prelude.{IsTrue}
 use Rattle.std.specs.List.{AllByRecursion}
-use Rattle.teco_verifier.specs.declared.rules.Rules.{Rules}
 use Rattle.teco_law_turns.specs.Moves.{State as Shown, Move, Forward, FallFollows, IsStart, RunsAreBounded}
 use Rattle.teco_law_turns.specs.Table.{IsClosed, commands as steps_in}
 use Rattle.teco_law_turns.specs.Turns.{RunsAreCovered}
 use Rattle.teco_model.specs.Run.{Reaches, run, go_on}
-use Rattle.teco_model.specs.State.{World, Kept, State, End}
+use Rattle.teco_model.specs.State.{World, State, End}
 use Rattle.teco_model.specs.Step.{step}
-use Rattle.teco_model.specs.Macros.{Library, IsLoaded, ArgumentRange, IsAsked, is_macro}
+use Rattle.teco_model.specs.Macros.{Library, IsLoaded, ArgumentRange, IsAsked}
 use Rattle.teco_law_expansion.specs.Linked.{AreLinked}
 use Rattle.teco_verifier.specs.expansion.Node.{Stand, Node, beginning, over, numbered}
 use Rattle.teco_verifier.specs.expansion.Position.{position_of}
@@ -21,14 +19,13 @@ use Rattle.teco_law_facts.proofs.Bodies.{entry_is_sound}
 use Rattle.teco_law_facts.proofs.Covering.{and_both, covers_are_sound}
 use Rattle.teco_verifier.specs.facts.Argument.{arguments_given, facts_given}
 use Rattle.teco_law_facts.specs.Describes.{IsWhole}
-use Rattle.teco_verifier.specs.facts.Facts.{Facts, entry_of}
-use Rattle.teco_law_facts.specs.Laws.{IsEntry, HaveLengths}
+use Rattle.teco_verifier.specs.facts.Facts.{Facts}
+use Rattle.teco_law_facts.specs.Laws.{IsEntry}
 use Rattle.teco_model.specs.Paging.{unread_of}
 use Rattle.teco_law_facts.specs.SoundSteps.{AreOpen}
 use Rattle.teco_verifier.specs.table.Closed.{say_same, is_entry, check}
 use Rattle.teco_law_tables.specs.Ending.{Passes, ElementsPass, EndsWithin, start_given, RunsEndInTime}
 use Rattle.teco_law_tables.specs.Following.{OpenTurn, run_at, AreOpened, IsDescribed, held_of, loops_of, shown}
-use Rattle.teco_law_tables.specs.Following.{is_paged_from, apart_of, pages_in}
 use Rattle.teco_law_tables.specs.Laws.{TablesAreClosed}
 use Rattle.teco_law_tables.specs.Moving.{MovesOn, ComesOn, Over, On, StepsMove}
 use Rattle.teco_verifier.specs.table.Printed.{steps_of, needs_in}
@@ -59,24 +56,23 @@ pub record Course : Type 0 where
   pub first : State
   pub zeroth : Shown
   pub begins : IsStart (turning nodes table n) zeroth
-  pub paged : zeroth.apart ≤ pages_in nodes table n
 
 module _ (laws : Laws) (c : Course) (pass : ElementsPass c.library c.entry c.nodes c.table c.n c.below c.first) where
-  open c use {library, entry, nodes, table, n, below, first, zeroth, are, passes, begins, paged}
+  open c use {library, entry, nodes, table, n, below, first, zeroth, are, passes, begins}
 
   abbrev EndsInTime : Type 0
-  EndsInTime = EndsWithin first (steps_in (turning nodes table n) + pages_in nodes table n)
+  EndsInTime = EndsWithin first (steps_in (turning nodes table n))
 
   pub closed : IsClosed (turning nodes table n)
   closed = laws.closed library entry nodes table n are passes
 
   few_steps : (moves total k : ℕ) (last : Shown) → Came (turning nodes table n) moves zeroth total last
-      → k ≤ (turning nodes table n).own last.node + last.apart
-      → total + k ≤ steps_in (turning nodes table n) + pages_in nodes table n
+      → k ≤ (turning nodes table n).own last.node
+      → total + k ≤ steps_in (turning nodes table n)
   few_steps moves total k last c l =
       let all = laws.bounded (turning nodes table n) zeroth moves (total + k) closed begins
       (came_takes (turning nodes table n) moves zeroth last total k c l) in
-      omega (arith, all, paged)
+      omega (arith, all)
 
   -- where a run has come to
   pub record At (number : ℕ) (turns : List OpenTurn) (s : State) : Type 0 where
@@ -85,7 +81,7 @@ module _ (laws : Laws) (c : Course) (pass : ElementsPass c.library c.entry c.nod
     pub reached : Reaches total first s
     pub here : IsDescribed library nodes table n below number turns s
     pub came : Came (turning nodes table n) moves zeroth total
-        (shown nodes table number here.node.stand.iterations turns s.world)
+        (shown number here.node.stand.iterations turns s.world)
     pub files : AreOpen (needs_in nodes table) s.world.files
     pub none : NoFileCommands first total
 
@@ -94,7 +90,7 @@ module _ (laws : Laws) (c : Course) (pass : ElementsPass c.library c.entry c.nod
   ends_here number turns s at e = record {
     steps = at.total;
     new = s.world;
-    few = let few = few_steps at.moves at.total 0 (shown nodes table number at.here.node.stand.iterations turns s.world)
+    few = let few = few_steps at.moves at.total 0 (shown number at.here.node.stand.iterations turns s.world)
         at.came (omega arith) in omega (arith, few);
     none = at.none;
     ends = record { last = s; steps = at.reached; end = e };
@@ -102,8 +98,7 @@ module _ (laws : Laws) (c : Course) (pass : ElementsPass c.library c.entry c.nod
 
   module _ (number : ℕ) (turns : List OpenTurn) (s : State) (at : At number turns s)
       (passing : Passes library entry nodes table n below number turns s at.here) where
-    own_there : suc passing.before + apart_of nodes table passing.next.world ≤ own_of n (numbered nodes number)
-        (facts_at table number) + apart_of nodes table s.world
+    own_there : suc passing.before ≤ own_of n (numbered nodes number) (facts_at table number)
     own_there = let e : own_of n (numbered nodes number) (facts_at table number) ≡ value_of n
         (steps_of at.here.node.element at.here.facts) =
         ap (λ (o : Option Node). own_of n o (facts_at table number)) at.here.at
@@ -121,7 +116,7 @@ module _ (laws : Laws) (c : Course) (pass : ElementsPass c.library c.entry c.nod
     ends_there o = record {
       steps = at.total + suc passing.before;
       new = passing.next.world;
-      few = few_steps at.moves at.total (suc passing.before) _ at.came (omega (arith, own_there));
+      few = few_steps at.moves at.total (suc passing.before) _ at.came own_there;
       none = none_next;
       ends = record { last = passing.next; steps = reaches_next; end = laws.over entry passing.next o };
     }
@@ -130,14 +125,14 @@ module _ (laws : Laws) (c : Course) (pass : ElementsPass c.library c.entry c.nod
         passing.next) → At passing.goes.target m.later passing.next
     on_there m =
         let came = came_on (turning nodes table n) at.moves zeroth
-        (shown nodes table number at.here.node.stand.iterations turns s.world)
-        (shown nodes table passing.goes.target m.there.stand.iterations m.later passing.next.world) at.total
+        (shown number at.here.node.stand.iterations turns s.world)
+        (shown passing.goes.target m.there.stand.iterations m.later passing.next.world) at.total
         (suc passing.before) at.came m.move own_there in
         let within =
         (laws.covered (turning nodes table n) zeroth
-        (shown nodes table passing.goes.target m.there.stand.iterations m.later passing.next.world)
+        (shown passing.goes.target m.there.stand.iterations m.later passing.next.world)
         (suc at.moves) closed begins (came_leads (turning nodes table n) (suc at.moves) zeroth
-        (shown nodes table passing.goes.target m.there.stand.iterations m.later passing.next.world)
+        (shown passing.goes.target m.there.stand.iterations m.later passing.next.world)
         (at.total + suc passing.before) came)).held in
         let next = m.held within in
         record {
@@ -147,7 +142,7 @@ module _ (laws : Laws) (c : Course) (pass : ElementsPass c.library c.entry c.nod
           here = next;
           came = subst (λ (node : Node). Came (turning nodes table n) (suc at.moves) zeroth
               (at.total + suc passing.before)
-              (shown nodes table passing.goes.target node.stand.iterations m.later passing.next.world))
+              (shown passing.goes.target node.stand.iterations m.later passing.next.world))
               (same_node nodes passing.goes.target m.there next.node m.at next.at) came;
           files = passing.files;
           none = none_next;
@@ -159,9 +154,9 @@ module _ (laws : Laws) (c : Course) (pass : ElementsPass c.library c.entry c.nod
     more_there m = omega arith
 
   walk : (fuel : ℕ) (number : ℕ) (turns : List OpenTurn) (s : State) (at : At number turns s)
-      → steps_in (turning nodes table n) + pages_in nodes table n < at.total + fuel → EndsInTime
+      → steps_in (turning nodes table n) < at.total + fuel → EndsInTime
   walk zero number turns s at l =
-      let few = few_steps at.moves at.total 0 (shown nodes table number at.here.node.stand.iterations turns s.world)
+      let few = few_steps at.moves at.total 0 (shown number at.here.node.stand.iterations turns s.world)
       at.came (omega arith) in
       absurd (omega (arith, few, l))
   walk (suc fuel) number turns s at l =
@@ -187,23 +182,9 @@ module _ (laws : Laws) (c : Course) (pass : ElementsPass c.library c.entry c.nod
 
 -- ---- the start
 -- N holds all there, whatever is known of the argument
-held_given : (rules : Rules) (library : Library) (argument : Option ArgumentRange) (n : ℕ)
-    → value (facts_given (entry_of rules library argument)).held n ≡ n
-held_given rules library None n = (values_of_constants n 0).1
-held_given rules library (Some range) n = (values_of_constants n 0).1
-
--- the texts of the library have their lengths there
-length_at : (library : Library) (r m : ℕ) → get_or (map (option_map length) library) r None ≡ Some m
-    → (text : List ℕ) × (get_or library r None ≡ Some text) × (length text ≡ m)
-length_at (Some text ∷ library) zero m h = (text, refl, cc)
-length_at (o ∷ library) (suc r) m h = length_at library r m h
-length_at library r m h = absurd (grind arith)
-
-have_lengths : (library : Library) (kept : Kept) → IsLoaded library kept
-    → HaveLengths (map (option_map length) library) kept
-have_lengths library kept loaded r m h =
-    let text = length_at library r m h in
-    ap length (loaded.holds r text.0 text.1) ∙ text.2
+held_given : (argument : Option ArgumentRange) (n : ℕ) → value (facts_given argument).held n ≡ n
+held_given None n = (values_of_constants n 0).1
+held_given (Some range) n = (values_of_constants n 0).1
 
 pub reached_first : (s : State) → Reaches 0 s s
 unfolding run
@@ -213,7 +194,6 @@ reached_first s = refl
 pub record Call : Type 0 where
   pub library : Library
   pub entry : ℕ
-  pub rules : Rules
   pub argument : Option ArgumentRange
   pub given : Option ℕ
   pub nodes : List Node
@@ -221,7 +201,7 @@ pub record Call : Type 0 where
   pub n : ℕ
   pub world : World
   pub are : AreLinked library entry nodes
-  pub passes : check (entry_of rules library argument) nodes table ≡ Ok tt
+  pub passes : check argument nodes table ≡ Ok tt
   pub asked : IsAsked argument given
   pub loaded : IsLoaded library world.kept
   pub whole : IsWhole world.kept
@@ -231,7 +211,6 @@ module _ (call : Call) where
   open call use {
     library,
     entry,
-    rules,
     argument,
     given,
     nodes,
@@ -256,18 +235,17 @@ module _ (call : Call) where
     at : numbered nodes 1 ≡ Some node
     stand : node.stand ≡ beginning entry
     known : facts_at table 1 ≡ Some facts
-    same : IsTrue (say_same facts (facts_given (entry_of rules library argument)))
+    same : IsTrue (say_same facts (facts_given argument))
 
   first_known : (node : Node) → numbered nodes 1 ≡ Some node → node.stand ≡ beginning entry → (o : Option Facts)
-      → facts_at table 1 ≡ o → is_entry (entry_of rules library argument) o ≡ true → First
+      → facts_at table 1 ≡ o → is_entry argument o ≡ true → First
   first_known node at stand None known e = absurd (cc)
   first_known node at stand (Some facts) known e =
       record { node = node; facts = facts; at = at; stand = stand; known = known; same = e }
 
   first_at : Target nodes entry 1 (beginning entry) → First
   unfolding blank_len
-  first_at (AtNode node at stand) =
-      first_known node at stand _ refl (entry_checked nodes table (entry_of rules library argument) passes)
+  first_at (AtNode node at stand) = first_known node at stand _ refl (entry_checked nodes table argument passes)
   first_at (AtEnd e) = let z : 2 ≡ 0 = ap (λ (stand : Stand). stand.position.running.place) e in
       absurd (omega (arith, z))
 
@@ -279,8 +257,7 @@ module _ (call : Call) where
 
   held_one : held_at nodes table n 1 ≡ n
   held_one = held_known nodes table n 1 one.facts one.known
-      ∙ (held_same one.facts (facts_given (entry_of rules library argument)) n one.same
-      ∙ held_given rules library argument n)
+      ∙ (held_same one.facts (facts_given argument) n one.same ∙ held_given argument n)
 
   described : IsDescribed library nodes table n world.kept.registers.stack 1 [] first
   described = record {
@@ -292,15 +269,14 @@ module _ (call : Call) where
     begins = refl;
     loaded = loaded;
     whole = whole;
-    opened = subst (λ begins. AreOpened nodes table n begins [] []) (sym none_open) tt;
-    described = covers_are_sound (run_at library n world.kept.registers.stack []) one.facts
-        (facts_given (entry_of rules library argument)) (unread_of world) world.kept (arguments_given given) whole
-        (and_both _ _ one.same).0 (entry_is_sound n (unread_of world) world.kept (entry_of rules library argument)
-        (is_macro library) given whole entering (have_lengths library world.kept loaded) asked);
+    opened = subst (λ begins. AreOpened table n begins [] []) (sym none_open) tt;
+    described = covers_are_sound (run_at n world.kept.registers.stack []) one.facts (facts_given argument)
+        (unread_of world) world.kept (arguments_given given) whole (and_both _ _ one.same).0
+        (entry_is_sound n (unread_of world) world.kept argument given whole entering asked);
   }
 
   abbrev zeroth : Shown
-  zeroth = shown nodes table 0 [] [] world
+  zeroth = shown 0 [] [] world
 
   pub begins : IsStart (turning nodes table n) zeroth
   begins = record {
@@ -313,14 +289,7 @@ module _ (call : Call) where
     ahead = entering.held;
   }
 
-  pub paged : zeroth.apart ≤ pages_in nodes table n
-  paged = by (is_paged_from table 1 nodes)
-    where
-      by : (b : Bool) → (if b then unread_of world else 0) ≤ (if b then n else 0)
-      by true = omega (arith, entering.held)
-      by false = omega arith
-
-  into_first : Move (turning nodes table n) zeroth (shown nodes table 1 one.node.stand.iterations [] world)
+  into_first : Move (turning nodes table n) zeroth (shown 1 one.node.stand.iterations [] world)
   into_first = Forward (record {
     later = omega arith;
     inside = omega (arith, number_within nodes 1 one.node one.at);
@@ -334,9 +303,11 @@ module _ (call : Call) where
         (sym (iterations_are nodes 1 one.node one.at ∙ none_open)) tt;
   })
 
-  came_first : Came (turning nodes table n) 1 zeroth 0 (shown nodes table 1 one.node.stand.iterations [] world)
-  came_first = came_on (turning nodes table n) 0 zeroth zeroth (shown nodes table 1 one.node.stand.iterations [] world)
-      0 0 (refl, refl) into_first (omega arith)
+  came_first : Came (turning nodes table n) 1 zeroth 0 (shown 1 one.node.stand.iterations [] world)
+  came_first = came_on (turning nodes table n) 0 zeroth zeroth (shown 1 one.node.stand.iterations [] world) 0 0 (
+    refl,
+    refl,
+  ) into_first (omega arith)
 
   abbrev pub course : Course
   course = record {
@@ -349,12 +320,11 @@ module _ (call : Call) where
       below = world.kept.registers.stack;
       are = are;
       passes =
-          nodes_checked nodes table (entry_of rules library argument) passes;
+          nodes_checked nodes table argument passes;
     };
     first = first;
     zeroth = zeroth;
     begins = begins;
-    paged = paged;
   }
 
   pub at_first : (laws : Laws) (pass : ElementsPass library entry nodes table n world.kept.registers.stack first)
@@ -372,12 +342,11 @@ module _ (call : Call) where
 
 pub runs_end_in_time : Laws → RunsEndInTime
 unfolding at_first
-runs_end_in_time laws library entry rules argument given nodes table n world are passes asked loaded whole entering
+runs_end_in_time laws library entry argument given nodes table n world are passes asked loaded whole entering
     files pass =
     let call : Call = record {
       library = library;
       entry = entry;
-      rules = rules;
       argument = argument;
       given = given;
       nodes = nodes;
@@ -391,5 +360,5 @@ runs_end_in_time laws library entry rules argument given nodes table n world are
       whole = whole;
       entering = entering;
     } in
-    walk laws (course call) pass (suc (steps_in (turning nodes table n) + pages_in nodes table n)) 1 []
+    walk laws (course call) pass (suc (steps_in (turning nodes table n))) 1 []
     (start_given entry given world) (at_first call laws pass files) (omega arith)

@@ -1,10 +1,9 @@
 -- A step of < into its body begins its first turn.
 use Rattle.std.proofs.Common.{◌≡◌, ◌⊎◌, inl, inr, ℕ, zero, suc, ◌≤◌, ◌<◌, refl, sym, ap, ◌∙◌, subst, arith, List, []}
-use Rattle.std.proofs.Common.{◌∷◌, ◌++◌, map, Bool, true, false, pos, ℤ, Option, Some, None, Result, Ok, is_some}
+use Rattle.std.proofs.Common.{◌∷◌, ◌++◌, map, Bool, true, false, pos, ℤ, Option, Some, None, Result, Ok, is_some, ◌+◌}
 use Rattle.std.specs.Prelude.{IsTrue, ⊤}
 use Rattle.std.specs.List.{AllByRecursion}
 use Rattle.std.proofs.lemmas.Int.{ints}
-use Rattle.teco_verifier.specs.declared.falls.Rank.{Rank}
 use Rattle.teco_base.specs.declared.code.Code.{Code}
 use Rattle.teco_law_turns.specs.Moves as moves
 use Rattle.teco_law_turns.specs.Moves.{Into}
@@ -26,28 +25,28 @@ use Rattle.teco_law_expansion.specs.Steps.{is_long}
 use Rattle.teco_law_expansion.specs.Turns as went
 use Rattle.teco_law_expansion.specs.Was.{StepWas, ElementWas, Turns}
 use Rattle.teco_poly.specs.Polynomial.{Polynomial, value}
-use Rattle.teco_law_facts.proofs.Bodies.{body_starts_are_sound, fell_before, rests_of}
+use Rattle.teco_law_facts.proofs.Bodies.{body_starts_are_sound}
 use Rattle.teco_law_facts.proofs.Covering.{and_both, covers_are_sound}
 use Rattle.teco_law_facts.proofs.Flowing.{taking_is, turns_are_sound}
 use Rattle.teco_law_facts.proofs.Steps.{Covers}
 use Rattle.teco_verifier.specs.facts.Arguments.{KnownTaken, arguments_of}
 use Rattle.teco_verifier.specs.facts.Bodies.{Changes, Choice, body_start, begins, stands as choice_stands}
 use Rattle.teco_verifier.specs.facts.Covers.{covers, each_covers, is_same_truth, is_same_iteration}
-use Rattle.teco_law_facts.specs.Describes.{Begun, begun_at, IsOptional, IsTaken, Describes, around_of}
+use Rattle.teco_law_facts.specs.Describes.{IsOptional, IsTaken, Describes, HasFallen, fore_of, back_of}
 use Rattle.teco_verifier.specs.facts.Facts.{Iteration, Facts}
 use Rattle.teco_verifier.specs.facts.Flows.{turns as turns_of}
-use Rattle.teco_law_facts.specs.Laws.{entered, amount_of}
+use Rattle.teco_law_facts.specs.Laws.{entered}
 use Rattle.teco_law_facts.specs.SoundElements.{Leads}
 use Rattle.teco_law_facts.specs.SoundFlow.{AreTurns}
 use Rattle.teco_model.specs.Paging.{unread_of}
-use Rattle.teco_verifier.specs.facts.Values.{IsValue, Surroundings}
+use Rattle.teco_verifier.specs.facts.Values.{IsValue}
 use Rattle.teco_verifier.specs.declared.refusal.Refusal.{Refusal}
 use Rattle.teco_verifier.specs.declared.values.Value.{Value}
 use Rattle.teco_verifier.specs.table.Behind.{left_by, turns_by_flow, turns_by_kind, begins_turn}
 use Rattle.teco_verifier.specs.table.Closed.{say_same, is_counted, body_stands, is_entered, enters_by, enters_at}
 use Rattle.teco_verifier.specs.table.Closed.{closed_behind}
-use Rattle.teco_law_tables.specs.Following.{OpenTurn, begun_of, run_at, falling_in, loops_in, open_loops, AreMore}
-use Rattle.teco_law_tables.specs.Following.{IsOpened, AreOpened, held_of, loops_of, shown}
+use Rattle.teco_law_tables.specs.Following.{OpenTurn, begun_of, run_at, loops_in, open_loops, AreMore, IsOpened}
+use Rattle.teco_law_tables.specs.Following.{AreOpened, held_of, loops_of, shown}
 use Rattle.teco_law_tables.specs.Moving.{run_by_kind, run_along, IsLong, IsLast, Alone, Again, MovesOn}
 use Rattle.teco_verifier.specs.table.Table.{Table, facts_at, choice_at}
 use Rattle.teco_verifier.specs.table.Printed.{turns_at}
@@ -57,6 +56,8 @@ use Rattle.teco_law_tables.proofs.Ground.{Ground, Passage}
 use Rattle.teco_law_tables.proofs.Closing.{turns_known}
 use Rattle.teco_law_tables.proofs.Entering.{Entering, enters}
 use Rattle.teco_law_tables.proofs.Going.{Laws, behind_checked, stands_there, leads_there}
+use Rattle.std.proofs.lemmas.List.{length-map}
+use Rattle.teco_law_facts.proofs.Each.{each_length}
 
 -- ---- which ways begin a turn
 pub data Begins (read : Option Element) (way : ℕ) : Type 0 where
@@ -123,13 +124,13 @@ record Started (nodes : List Node) (table : Table) (begin : ℕ) (facts entering
   most : Polynomial
   started : facts_at table (suc begin) ≡ Some start
   chosen : choice_at table begin ≡ Some choice
-  turns_are : turns_of (falling_in nodes table begin) facts ≡ Ok most
+  turns_are : turns_of facts ≡ Ok most
   same : IsTrue (say_same start (body_start choice (changes_in nodes begin) entering))
   starts : IsTrue (begins choice entering)
 
 started_by : (nodes : List Node) (table : Table) (begin : ℕ) (facts entering : Facts) (o : Option Facts)
     (c : Option Choice) (r : Result Polynomial Refusal) → facts_at table (suc begin) ≡ o → choice_at table begin ≡ c
-    → turns_of (falling_in nodes table begin) facts ≡ r →
+    → turns_of facts ≡ r →
     IsTrue (body_stands (changes_in nodes begin) (facts_at table (end_of nodes begin)) entering o c r)
     → Started nodes table begin facts entering
 started_by nodes table begin facts entering (Some start) (Some choice) (Ok most) s k t h =
@@ -148,32 +149,30 @@ started_by nodes table begin facts entering (Some start) (Some choice) (Ok most)
 started_by nodes table begin facts entering o c r s k t h = absurd (grind arith)
 
 -- ---- how many turns come after the first
-record First_turn (falling : Option Rank) (counted : Bool) (most : ℕ) (begun : Begun) (left : Option ℕ) : Type 0 where
+record First_turn (table : Table) (counted : Bool) (most ahead : ℕ) (left : Option ℕ) : Type 0 where
   more : ℕ
-  is : AreMore falling left counted (record { begun = begun; more = more })
+  is : AreMore left counted (record { begun = ahead; more = more })
   few : more < most
 
 later_is : (v : ℤ) (more : ℕ) → later_turns v ≡ Some more → v ≡ pos (suc more)
 later_is (pos (suc m)) more h = let e : m ≡ more = cc in ap (λ k. pos (suc k)) e
 later_is v more h = absurd (grind arith)
 
-first_turn : (falling : Option Rank) (counted : Bool) (most : ℕ) (begun : Begun) (value : Option ℤ) (left : Option ℕ)
-    → went.Counts value left → AreTurns most (amount_of falling begun) value → (counted ≡ is_some value)
-    → First_turn falling counted most begun left
-first_turn falling counted most begun None left counts are f =
+first_turn : (table : Table) (counted : Bool) (most ahead : ℕ) (value : Option ℤ) (left : Option ℕ)
+    → went.Counts value left → AreTurns most ahead value → (counted ≡ is_some value)
+    → First_turn table counted most ahead left
+first_turn table counted most ahead None left counts are f =
     record {
-      more = amount_of falling begun;
-      is = subst (λ left. AreMore falling left counted (record { begun = begun; more = amount_of falling begun }))
+      more = ahead;
+      is = subst (λ left. AreMore left counted (record { begun = ahead; more = ahead }))
           (sym counts) (f, omega arith);
       few = omega (arith, are);
     }
-first_turn falling counted most begun (Some v) left counts are f =
+first_turn table counted most ahead (Some v) left counts are f =
     record {
       more = counts.0;
-      is = subst (λ left. AreMore falling left counted (record { begun = begun; more = counts.0 })) (sym counts.1) (
-        f,
-        refl,
-      );
+      is = subst (λ left. AreMore left counted (record { begun = ahead; more = counts.0 }))
+          (sym counts.1) (f, refl);
       few = omega (arith, ints, are, later_is v counts.0 counts.2);
     }
 
@@ -184,18 +183,18 @@ taken_turns n a r c p taken e f h =
     (subst (λ c. Leads (λ edges. ⊤) (λ p (taken : Taken). AreTurns (value p n) a taken.value) (Ok p) c) f
     (subst (λ r. Leads (λ edges. ⊤) (λ p (taken : Taken). AreTurns (value p n) a taken.value) r c) e h)) tt
 
-both_optional : (around : Surroundings) (known : Option Value) (v : Option ℤ) → IsOptional (IsValue around) known v
+both_optional : (fore back : ℕ) (known : Option Value) (v : Option ℤ) → IsOptional (IsValue fore back) known v
     → is_some known ≡ is_some v
-both_optional around None None h = refl
-both_optional around (Some k) (Some v) h = refl
-both_optional around known v h = absurd (grind arith)
+both_optional fore back None None h = refl
+both_optional fore back (Some k) (Some v) h = refl
+both_optional fore back known v h = absurd (grind arith)
 
-both_taken : (around : Surroundings) (r : Result KnownTaken Refusal) (c : Result Taken Code) (known : KnownTaken)
-    (taken : Taken) → r ≡ Ok known → c ≡ Ok taken → Covers (IsTaken around) r c
+both_taken : (fore back : ℕ) (r : Result KnownTaken Refusal) (c : Result Taken Code) (known : KnownTaken)
+    (taken : Taken) → r ≡ Ok known → c ≡ Ok taken → Covers (IsTaken fore back) r c
     → is_some known.value ≡ is_some taken.value
-both_taken around r c known taken e f h =
-    both_optional around known.value taken.value
-    (subst (λ c. Covers (IsTaken around) (Ok known) c) f (subst (λ r. Covers (IsTaken around) r c) e h)).value
+both_taken fore back r c known taken e f h =
+    both_optional fore back known.value taken.value
+    (subst (λ c. Covers (IsTaken fore back) (Ok known) c) f (subst (λ r. Covers (IsTaken fore back) r c) e h)).value
 
 -- ---- the step
 short : (f : Flow) (k : Kind) → k ≡ kind.Flow f → is_long k ≡ true → ⊥
@@ -238,11 +237,8 @@ module _ (laws : Laws) (ground : Ground) (closed : AreClosed ground.nodes) (pass
       same_world : t.world ≡ s.world
       same_world = world_same flow.Iterate zero e s t was
 
-      abbrev begun : Begun
-      begun = begun_at (unread_of s.world) s.world.kept
-
-      abbrev falling : Option Rank
-      falling = falling_in nodes table number
+      abbrev begun : ℕ
+      begun = fore_of s.world.kept + unread_of s.world
 
       entering : Entering here.facts comes.next
       entering = enters nodes here.node e here.facts comes.next comes.edges reads is comes.leads on
@@ -265,17 +261,17 @@ module _ (laws : Laws) (ground : Ground) (closed : AreClosed ground.nodes) (pass
       counted = counted_covered body.start (body_start body.choice (changes_in nodes number) comes.next)
           (and_both _ _ body.same).0 ∙ ap (λ (facts : Facts). is_counted facts.iterations) entering.is
 
-      first_one : First_turn falling (is_counted body.start.iterations) (value body.most n) begun was.went.turns
-      first_one = first_turn falling (is_counted body.start.iterations) (value body.most n) begun was.went.value
+      first_one : First_turn table (is_counted body.start.iterations) (value body.most n) begun was.went.turns
+      first_one = first_turn table (is_counted body.start.iterations) (value body.most n) begun was.went.value
           was.went.turns was.went.counts
-          (subst (λ v. AreTurns (value body.most n) (amount_of falling begun) v) was.went.took.value_is
-          (taken_turns n (amount_of falling begun) (turns_of falling here.facts) (model.arguments_of s.arguments.level)
+          (subst (λ v. AreTurns (value body.most n) begun v) was.went.took.value_is
+          (taken_turns n begun (turns_of here.facts) (model.arguments_of s.arguments.level)
           body.most was.went.took.taken body.turns_are was.went.took.took
-          (turns_are_sound (run_at library n below turns) here.facts (unread_of s.world) s.world.kept s.arguments
-          falling here.whole here.described)))
-          (counted ∙ (both_taken (around_of s.world.kept) (arguments_of here.facts.arguments.level)
+          (turns_are_sound (run_at n below turns) here.facts (unread_of s.world) s.world.kept s.arguments
+          here.whole here.described)))
+          (counted ∙ (both_taken (fore_of s.world.kept) (back_of s.world.kept) (arguments_of here.facts.arguments.level)
           (model.arguments_of s.arguments.level) entering.taken was.went.took.taken entering.took was.went.took.took
-          (taking_is (run_at library n below turns) here.facts (unread_of s.world) s.world.kept s.arguments here.whole
+          (taking_is (run_at n below turns) here.facts (unread_of s.world) s.world.kept s.arguments here.whole
           here.described) ∙ ap (λ v. is_some v) was.went.took.value_is))
 
       abbrev turn : OpenTurn
@@ -286,45 +282,45 @@ module _ (laws : Laws) (ground : Ground) (closed : AreClosed ground.nodes) (pass
 
       -- what is known on the way in describes the state there
       run_is : run_along here.node.element goes.way (left_by nodes here.node) s.world
-          (run_at library n below turns) ≡ run_at library n below later
+          (run_at n below turns) ≡ run_at n below later
       run_is =
-          ap (λ read. run_along read goes.way (left_by nodes here.node) s.world (run_at library n below turns)) reads
-          ∙ (ap (λ way. run_along (Some e) way (left_by nodes here.node) s.world (run_at library n below turns)) first
-          ∙ ap (λ k. run_by_kind k zero (left_by nodes here.node) s.world (run_at library n below turns)) is)
+          ap (λ read. run_along read goes.way (left_by nodes here.node) s.world (run_at n below turns)) reads
+          ∙ (ap (λ way. run_along (Some e) way (left_by nodes here.node) s.world (run_at n below turns)) first
+          ∙ ap (λ k. run_by_kind k zero (left_by nodes here.node) s.world (run_at n below turns)) is)
 
-      described_in : Describes (run_at library n below later) (entered (is_some entering.taken.value) here.facts)
+      described_in : Describes (run_at n below later) (entered (is_some entering.taken.value) here.facts)
           (unread_of s.world) s.world.kept t.arguments
       described_in =
-          subst (λ facts. Describes (run_at library n below later) facts (unread_of s.world) s.world.kept t.arguments)
+          subst (λ facts. Describes (run_at n below later) facts (unread_of s.world) s.world.kept t.arguments)
           entering.is
-          (subst (λ (world : World). Describes (run_at library n below later) comes.next
+          (subst (λ (world : World). Describes (run_at n below later) comes.next
           (unread_of world) world.kept t.arguments) same_world
           (subst (λ run. Describes run comes.next (unread_of t.world) t.world.kept t.arguments) run_is comes.described))
 
-      described_start : Describes (run_at library n below later)
+      described_start : Describes (run_at n below later)
           (body_start body.choice (changes_in nodes number) (entered (is_some entering.taken.value) here.facts))
           (unread_of s.world) s.world.kept t.arguments
-      described_start = body_starts_are_sound (run_at library n below turns) here.facts
+      described_start = body_starts_are_sound (run_at n below turns) here.facts
           (unread_of s.world) s.world.kept t.arguments body.choice (changes_in nodes number)
           (is_some entering.taken.value) here.whole
           (subst (λ facts. IsTrue (begins body.choice facts)) entering.is body.starts) described_in
 
-      described_there : Describes (run_at library n below later) body.start (unread_of t.world) t.world.kept t.arguments
-      described_there = subst (λ (world : World). Describes (run_at library n below later) body.start
+      described_there : Describes (run_at n below later) body.start (unread_of t.world) t.world.kept t.arguments
+      described_there = subst (λ (world : World). Describes (run_at n below later) body.start
           (unread_of world) world.kept t.arguments) (sym same_world)
-          (covers_are_sound (run_at library n below later) body.start
+          (covers_are_sound (run_at n below later) body.start
           (body_start body.choice (changes_in nodes number) comes.next) (unread_of s.world) s.world.kept t.arguments
           here.whole (and_both _ _ body.same).0
-          (subst (λ facts. Describes (run_at library n below later)
+          (subst (λ facts. Describes (run_at n below later)
           (body_start body.choice (changes_in nodes number) facts) (unread_of s.world) s.world.kept t.arguments)
           (sym entering.is) described_start))
 
-      opened_there : AreOpened nodes table n there.stand.iterations (open_loops t) later
+      opened_there : AreOpened table n there.stand.iterations (open_loops t) later
       opened_there =
           let to : open_loops t ≡ record { start = e.next; turns = was.went.turns } ∷ open_loops s =
           ap open_loops was.gone ∙ ap (λ (turn : Turn). turn.frame.loops ++ loops_in s.frames.callers) was.went.gone
           in
-          let own : IsOpened nodes table n number (record { start = e.next; turns = was.went.turns }) turn turns =
+          let own : IsOpened table n number (record { start = e.next; turns = was.went.turns }) turn turns =
           record {
             facts = here.facts;
             start = body.start;
@@ -333,16 +329,13 @@ module _ (laws : Laws) (ground : Ground) (closed : AreClosed ground.nodes) (pass
             started = body.started;
             chosen = body.chosen;
             more = first_one.is;
-            carried = record {
-              ahead = λ k. here.described.state.position.ahead;
-              falls = λ k. fell_before (around_of s.world.kept) (unread_of s.world) here.facts.position.falls
-                  (map begun_of turns) here.described.state.position.fallen;
-              rests = rests_of (around_of s.world.kept) (unread_of s.world) here.facts.position.falls
-                  (map begun_of turns) here.described.state.position.fallen;
-            };
+            falls = each_length (HasFallen begun) here.facts.position.falls
+                (map begun_of turns) here.described.state.position.fallen ∙ length-map turns begun_of;
+            ahead = λ k. here.described.state.position.ahead;
+            fallen = λ k. here.described.state.position.fallen;
           } in
-          subst (λ ls. AreOpened nodes table n ls (open_loops t) later) (sym into.1)
-          (subst (λ ls. AreOpened nodes table n (number ∷ here.node.stand.iterations) ls later) (sym to) (
+          subst (λ ls. AreOpened table n ls (open_loops t) later) (sym into.1)
+          (subst (λ ls. AreOpened table n (number ∷ here.node.stand.iterations) ls later) (sym to) (
             own,
             here.opened,
           ))
@@ -354,7 +347,7 @@ module _ (laws : Laws) (ground : Ground) (closed : AreClosed ground.nodes) (pass
       ends_ahead = let all = subst (AllByRecursion (λ b. goes.target ≤ end_of nodes b)) into.1
           (closed.ahead goes.target there at) in omega (arith, all.0, into.0)
 
-      few : first_one.more < value_of n (turns_at nodes table number)
+      few : first_one.more < value_of n (turns_at table number)
       few = omega (
         arith,
         first_one.few,
@@ -362,8 +355,8 @@ module _ (laws : Laws) (ground : Ground) (closed : AreClosed ground.nodes) (pass
       )
 
       entering_it : moves.Enters (turning nodes table n)
-          (shown nodes table number here.node.stand.iterations turns s.world)
-          (shown nodes table goes.target there.stand.iterations later t.world)
+          (shown number here.node.stand.iterations turns s.world)
+          (shown goes.target there.stand.iterations later t.world)
       entering_it = record {
         is_loop = ends_ahead;
         node = into.0;

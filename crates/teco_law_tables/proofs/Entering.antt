@@ -45,7 +45,7 @@ iterates : (facts next : Facts) (edges : Edges) → iterate (without_answer fact
 iterates facts next edges h on =
     let taken = bound (arguments_of facts.arguments.level) _ edges h in
     let alone = bound (none_pending (levels_after_taking facts.arguments)) _ edges taken.gives in
-    let most = bound (turns_of None taken.before.value (without_answer facts)) _ edges alone.gives in
+    let most = bound (turns_of taken.before.value (without_answer facts)) _ edges alone.gives in
     let same : iteration taken.before.value (without_arguments facts) ≡ edges = cc in
     record {
       taken = taken.before;

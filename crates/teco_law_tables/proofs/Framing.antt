@@ -1,7 +1,6 @@
 -- A run keeps what no element of its macro names, since each element that it reads is one of a node.
 use Rattle.std.proofs.Common.{◌≡◌, ◌≢◌, ℕ, zero, suc, ◌+◌, ◌<◌, List, [], false, Option, Some, None, Ok, refl, sym}
-use Rattle.std.proofs.Common.{ap, ◌∙◌}
-use Rattle.std.proofs.Common.{subst, arith, ◌^◌}
+use Rattle.std.proofs.Common.{ap, ◌∙◌, subst, arith, ◌^◌}
 use Rattle.teco_base.specs.declared.TheConstants.{REGISTERS}
 use Rattle.teco_law_expansion.proofs.Runs.{over_reads}
 use Rattle.teco_law_expansion.specs.Ends.{IterationsEnd}
@@ -160,9 +159,9 @@ call_framed calls nodes entry (Some range) (Some n) world named asked framed =
 call_framed calls nodes entry argument given world named asked framed = absurd (grind arith)
 
 pub runs_are_framed : ending.Laws → verifying.Laws → CallLaws → IterationsEnd → StepsKeep → RunsAreFramed
-runs_are_framed laws sound calls ends keep library entry rules argument given nodes table commands most n world are
+runs_are_framed laws sound calls ends keep library entry argument given nodes table commands most n world are
     printed asked ready files =
     call_framed calls nodes entry argument given world ready.named asked
-    (given_framed laws keep (ready_call library entry rules argument given nodes table commands most n world are printed
-    asked ready) (verifying.elements_go sound ends library entry rules argument given nodes table commands most n world
+    (given_framed laws keep (ready_call library entry argument given nodes table commands most n world are printed
+    asked ready) (verifying.elements_go sound ends library entry argument given nodes table commands most n world
     are printed asked ready) files)

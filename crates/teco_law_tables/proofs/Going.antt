@@ -18,14 +18,13 @@ use Rattle.teco_verifier.specs.expansion.Ends.{end_of}
 use Rattle.teco_law_expansion.specs.Ends.{AreClosed, LeftHaveEnded}
 use Rattle.teco_law_expansion.specs.Iterations.{AreOpen, IterationsAreOpen}
 use Rattle.teco_law_expansion.specs.Leading.{LeadsBy, place_at, WaysLead}
-use Rattle.teco_model.specs.Macros.{Library, is_macro}
 use Rattle.teco_verifier.specs.expansion.Node.{Stand, Node, over, stand_of_node, stands, numbered, stand_at}
 use Rattle.teco_verifier.specs.expansion.Position.{Position, position_of}
 use Rattle.teco_poly.proofs.Lawful.{values_compare}
 use Rattle.teco_poly.specs.Polynomial.{value}
 use Rattle.teco_law_facts.proofs.Covering.{and_both, covers_are_sound}
 use Rattle.teco_verifier.specs.facts.Covers.{covers}
-use Rattle.teco_law_facts.specs.Describes.{Run, run_behind, Describes, Begun}
+use Rattle.teco_law_facts.specs.Describes.{Run, run_behind, Describes}
 use Rattle.teco_verifier.specs.facts.Facts.{Facts}
 use Rattle.teco_verifier.specs.facts.Flows.{Edges}
 use Rattle.teco_model.specs.Paging.{unread_of}
@@ -33,7 +32,8 @@ use Rattle.teco_verifier.specs.table.Behind.{open_of, open_at, left_by, edges_at
 use Rattle.teco_verifier.specs.table.Behind.{begins_turn}
 use Rattle.teco_verifier.specs.table.Closed.{is_return, is_covered, arrives, arrive, is_known_in, closed_behind}
 use Rattle.teco_verifier.specs.table.Closed.{closed_where, check_nodes}
-use Rattle.teco_law_tables.specs.Following.{OpenTurn, run_at, loops_in, open_loops, AreOpened, held_of, loops_of, shown}
+use Rattle.teco_law_tables.specs.Following.{OpenTurn, run_at, loops_in, open_loops, AreOpened, held_of, loops_of}
+use Rattle.teco_law_tables.specs.Following.{shown}
 use Rattle.teco_law_tables.specs.Moving.{left_by_flow, left_by_kind, left_along, run_by_flow, run_by_kind, run_along}
 use Rattle.teco_law_tables.specs.Moving.{IsLast, Alone, Again, MovesOn}
 use Rattle.teco_verifier.specs.table.Table.{Table, facts_at}
@@ -195,10 +195,9 @@ run_behind_way : (read : Option Element) (way between : ℕ) (world : World) (ru
 run_behind_way None way between world run h = refl
 run_behind_way (Some e) way between world run h = run_kind e.kind way between world run h
 
-run_dropped : (library : Library) (left n : ℕ) (below : List Pair) (turns : List OpenTurn)
-    → run_behind left (run_at library n below turns) ≡ run_at library n below (drop left turns)
-run_dropped library left n below turns =
-    ap (λ (begun : List Begun). record { n = n; library = is_macro library; turns = begun; below = below })
+run_dropped : (left n : ℕ) (below : List Pair) (turns : List OpenTurn)
+    → run_behind left (run_at n below turns) ≡ run_at n below (drop left turns)
+run_dropped left n below turns = ap (λ (begun : List ℕ). record { n = n; turns = begun; below = below })
     (begun_dropped left turns)
 
 -- the iterations that are open stay while an element goes on
@@ -233,7 +232,7 @@ module _ (laws : Laws) (ground : Ground) (closed : AreClosed ground.nodes) (pass
 
     many_here : (length here.node.stand.iterations ≡ length (open_loops s))
         × (length here.node.stand.iterations ≡ length turns)
-    many_here = opened_length nodes table n here.node.stand.iterations (open_loops s) turns here.opened
+    many_here = opened_length table n here.node.stand.iterations (open_loops s) turns here.opened
 
     between_is : goes.way ≡ 0 → left_by nodes here.node ≡ length here.node.stand.iterations - length
         there.stand.iterations
@@ -263,10 +262,10 @@ module _ (laws : Laws) (ground : Ground) (closed : AreClosed ground.nodes) (pass
       abbrev later : List OpenTurn
       later = drop left turns
 
-      described_there : Describes (run_at library n below later) comes.next (unread_of t.world) t.world.kept t.arguments
+      described_there : Describes (run_at n below later) comes.next (unread_of t.world) t.world.kept t.arguments
       described_there = subst (λ run. Describes run comes.next (unread_of t.world) t.world.kept t.arguments)
           (run_behind_way here.node.element goes.way (left_by nodes here.node) s.world
-          (run_at library n below turns) plain ∙ run_dropped library left n below turns)
+          (run_at n below turns) plain ∙ run_dropped left n below turns)
           comes.described
 
       covered : Covered nodes table goes.target comes.next
@@ -274,9 +273,9 @@ module _ (laws : Laws) (ground : Ground) (closed : AreClosed ground.nodes) (pass
           here.at here.known comes.leads goes.taken plain comes.on_way
           (not_behind nodes table goes.target (number_within nodes goes.target there at).1)
 
-      described_again : Describes (run_at library n below later) covered.facts
+      described_again : Describes (run_at n below later) covered.facts
           (unread_of t.world) t.world.kept t.arguments
-      described_again = covers_are_sound (run_at library n below later) covered.facts comes.next
+      described_again = covers_are_sound (run_at n below later) covered.facts comes.next
           (unread_of t.world) t.world.kept t.arguments whole covered.covered described_there
 
       held_there : held_at nodes table n goes.target ≡ value covered.facts.held n
@@ -307,8 +306,8 @@ module _ (laws : Laws) (ground : Ground) (closed : AreClosed ground.nodes) (pass
           (held_of t.world) number (drop left here.node.stand.iterations) is_ahead.0
           (descend_dropped left number here.node.stand.iterations (closed.descend number here.node here.at)))
 
-      going : Goes (turning nodes table n) (shown nodes table number here.node.stand.iterations turns s.world)
-          (shown nodes table goes.target there.stand.iterations later t.world)
+      going : Goes (turning nodes table n) (shown number here.node.stand.iterations turns s.world)
+          (shown goes.target there.stand.iterations later t.world)
       going = record {
         later = is_ahead.0;
         inside = omega (arith, number_within nodes goes.target there at);
@@ -327,10 +326,10 @@ module _ (laws : Laws) (ground : Ground) (closed : AreClosed ground.nodes) (pass
             (sym (iterations_are nodes goes.target there at)) falls;
       }
 
-      opened_there : AreOpened nodes table n there.stand.iterations (open_loops t) later
-      opened_there = subst (λ ls. AreOpened nodes table n ls (open_loops t) later) (sym is_ahead.1)
-          (subst (λ ls. AreOpened nodes table n (drop left here.node.stand.iterations) ls later) (sym loops_there)
-          (opened_dropped nodes table n left here.node.stand.iterations (open_loops s) turns here.opened))
+      opened_there : AreOpened table n there.stand.iterations (open_loops t) later
+      opened_there = subst (λ ls. AreOpened table n ls (open_loops t) later) (sym is_ahead.1)
+          (subst (λ ls. AreOpened table n (drop left here.node.stand.iterations) ls later) (sym loops_there)
+          (opened_dropped table n left here.node.stand.iterations (open_loops s) turns here.opened))
 
       pub goes_on : MovesOn library nodes table n below number here.node turns s goes.target t
       goes_on = record {

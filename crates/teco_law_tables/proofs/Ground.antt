@@ -38,6 +38,6 @@ pub record Passage (ground : Ground) : Type 0 where
   pub t : State
   pub again : IsLast here.node.element s last
   pub goes : GoesTo (stands ground.nodes ground.entry) number here.node last t
-  pub comes : Comes ground.nodes here.node here.facts goes.way (run_at ground.library ground.n ground.below turns) s t
+  pub comes : Comes ground.nodes here.node here.facts goes.way (run_at ground.n ground.below turns) s t
   pub loaded : IsLoaded ground.library t.world.kept
   pub whole : IsWhole t.world.kept

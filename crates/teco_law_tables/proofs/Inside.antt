@@ -4,8 +4,7 @@ use Rattle.std.proofs.Common.{true, false, Option, Some, None, Ok}
 use Rattle.std.specs.Prelude.{IsTrue}
 use Rattle.std.specs.List.{AllByRecursion}
 use Rattle.std.specs.Option.{option_map_or}
-use Rattle.teco_law_tables.specs.Following.{falling_in, OpenTurn, loops_in, AreMore, IsOpened, AreOpened}
-use Rattle.teco_verifier.specs.declared.falls.Rank.{Rank}
+use Rattle.teco_law_tables.specs.Following.{OpenTurn, loops_in, AreMore, IsOpened, AreOpened}
 use Rattle.teco_model.specs.declared.flow.Loop.{Loop}
 use Rattle.teco_model.specs.declared.kind.Flow.{Flow}
 use Rattle.teco_model.specs.declared.kind.Flow.TheVariants as flow
@@ -19,7 +18,6 @@ use Rattle.teco_model.specs.Skip.{skip_of}
 use Rattle.teco_model.specs.State.{Frame}
 use Rattle.teco_law_expansion.specs.Ends.{Descend, IsBegin, AreClosed}
 use Rattle.teco_verifier.specs.expansion.Ends.{end_of}
-use Rattle.teco_verifier.specs.expansion.Node.{Node}
 use Rattle.teco_verifier.specs.expansion.Position.{Position, start_of}
 use Rattle.teco_verifier.specs.expansion.Ways.{search_ways, element_ways, ways_at}
 use Rattle.teco_law_facts.proofs.Covering.{and_both}
@@ -47,19 +45,19 @@ has_loop : (frame : Frame) (loops : List Loop) → frame.loops ≡ loops → Has
 has_loop frame [] e h = absurd h
 has_loop frame (loop ∷ outer) e h = record { loop = loop; outer = outer; is = e }
 
-record Head (nodes : List Node) (table : Table) (n : ℕ) (begins : List ℕ) (loop : Loop) : Type 0 where
+record Head (table : Table) (n : ℕ) (begins : List ℕ) (loop : Loop) : Type 0 where
   begin : ℕ
   outer : List ℕ
   turn : OpenTurn
   turns : List OpenTurn
   is : begins ≡ begin ∷ outer
-  own : IsOpened nodes table n begin loop turn turns
+  own : IsOpened table n begin loop turn turns
 
-head : (nodes : List Node) (table : Table) (n : ℕ) (begins : List ℕ) (loop : Loop) (loops : List Loop)
-    (turns : List OpenTurn) → AreOpened nodes table n begins (loop ∷ loops) turns → Head nodes table n begins loop
-head nodes table n (b ∷ begins) loop loops (t ∷ turns) h =
+head : (table : Table) (n : ℕ) (begins : List ℕ) (loop : Loop) (loops : List Loop) (turns : List OpenTurn)
+    → AreOpened table n begins (loop ∷ loops) turns → Head table n begins loop
+head table n (b ∷ begins) loop loops (t ∷ turns) h =
     record { begin = b; outer = begins; turn = t; turns = turns; is = refl; own = h.0 }
-head nodes table n begins loop loops turns h = absurd (grind arith)
+head table n begins loop loops turns h = absurd (grind arith)
 
 record NotEmpty (is : List Iteration) : Type 0 where
   one : Iteration
@@ -87,10 +85,10 @@ iterations_covered facts edge c =
     let s = and_both _ _ r.0 in
     (and_both _ _ s.0).1
 
-counted_where : (falling : Option Rank) (left : Option ℕ) (counted : Bool) (turn : OpenTurn) (turns : ℕ)
-    → left ≡ Some turns → AreMore falling left counted turn → counted ≡ true
-counted_where falling None counted turn turns e h = absurd (cc)
-counted_where falling (Some left) counted turn turns e h = h.0
+counted_where : (left : Option ℕ) (counted : Bool) (turn : OpenTurn) (turns : ℕ) → left ≡ Some turns
+    → AreMore left counted turn → counted ≡ true
+counted_where None counted turn turns e h = absurd (cc)
+counted_where (Some left) counted turn turns e h = h.0
 
 module _ (ground : Ground) (closed : AreClosed ground.nodes) (arrival : Arrival ground) where
   open ground use {library, entry, nodes, table, n, below, are, passes}
@@ -101,9 +99,9 @@ module _ (ground : Ground) (closed : AreClosed ground.nodes) (arrival : Arrival 
       (subst HasStart (ap (λ (p : Position). p.running.starts) here.position) h)
 
   module _ (has : HasLoop s.frames.running) where
-    top : Head nodes table n here.node.stand.iterations has.loop
-    top = head nodes table n here.node.stand.iterations has.loop (has.outer ++ loops_in s.frames.callers) turns
-        (subst (λ (ls : List Loop). AreOpened nodes table n here.node.stand.iterations
+    top : Head table n here.node.stand.iterations has.loop
+    top = head table n here.node.stand.iterations has.loop (has.outer ++ loops_in s.frames.callers) turns
+        (subst (λ (ls : List Loop). AreOpened table n here.node.stand.iterations
         (ls ++ loops_in s.frames.callers) turns) has.is here.opened)
 
     before : top.begin < number
@@ -152,8 +150,7 @@ module _ (ground : Ground) (closed : AreClosed ground.nodes) (arrival : Arrival 
       iterations = here_some.are;
       counted = λ left e. sym (ap is_counted here_some.are)
           ∙ (sym (counted_by top.own.start.iterations here.facts.iterations same_there)
-          ∙ counted_where (falling_in nodes table top.begin) has.loop.turns (is_counted top.own.start.iterations)
-          top.turn left e top.own.more);
+          ∙ counted_where has.loop.turns (is_counted top.own.start.iterations) top.turn left e top.own.more);
     }
 
   module _ (e : Element) (reads : here.node.element ≡ Some e) (edges : Edges)

@@ -17,7 +17,6 @@ mod Walking
 mod Underway
 mod Ending
 mod Worked
-mod SecondWorked
 mod Coming
 mod Fitting
 mod Leading

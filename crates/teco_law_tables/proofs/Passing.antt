@@ -110,22 +110,20 @@ loops_length nodes entry below s numbers are =
     sym (frames_starts (s.frames.running ∷ s.frames.callers))
     ∙ open_length nodes entry below (spot_of s.frames.running ∷ map spot_of s.frames.callers) numbers are
 
-pub opened_length : (nodes : List Node) (table : Table) (n : ℕ) (begins : List ℕ) (loops : List Loop)
-    (turns : List OpenTurn) → AreOpened nodes table n begins loops turns
-    → (length begins ≡ length loops) × (length begins ≡ length turns)
-opened_length nodes table n [] [] [] h = (refl, refl)
-opened_length nodes table n (b ∷ begins) (l ∷ loops) (t ∷ turns) h = let i =
-    opened_length nodes table n begins loops turns h.1 in (ap suc i.0, ap suc i.1)
-opened_length nodes table n begins loops turns h = absurd (grind arith)
+pub opened_length : (table : Table) (n : ℕ) (begins : List ℕ) (loops : List Loop) (turns : List OpenTurn)
+    → AreOpened table n begins loops turns → (length begins ≡ length loops) × (length begins ≡ length turns)
+opened_length table n [] [] [] h = (refl, refl)
+opened_length table n (b ∷ begins) (l ∷ loops) (t ∷ turns) h = let i =
+    opened_length table n begins loops turns h.1 in (ap suc i.0, ap suc i.1)
+opened_length table n begins loops turns h = absurd (grind arith)
 
-pub opened_dropped : (nodes : List Node) (table : Table) (n left : ℕ) (begins : List ℕ) (loops : List Loop)
-    (turns : List OpenTurn) → AreOpened nodes table n begins loops turns
-    → AreOpened nodes table n (drop left begins) (drop left loops) (drop left turns)
-opened_dropped nodes table n zero begins loops turns h = h
-opened_dropped nodes table n (suc left) [] [] [] h = tt
-opened_dropped nodes table n (suc left) (b ∷ begins) (l ∷ loops) (t ∷ turns) h =
-    opened_dropped nodes table n left begins loops turns h.1
-opened_dropped nodes table n left begins loops turns h = absurd (grind arith)
+pub opened_dropped : (table : Table) (n left : ℕ) (begins : List ℕ) (loops : List Loop) (turns : List OpenTurn)
+    → AreOpened table n begins loops turns → AreOpened table n (drop left begins) (drop left loops) (drop left turns)
+opened_dropped table n zero begins loops turns h = h
+opened_dropped table n (suc left) [] [] [] h = tt
+opened_dropped table n (suc left) (b ∷ begins) (l ∷ loops) (t ∷ turns) h =
+    opened_dropped table n left begins loops turns h.1
+opened_dropped table n left begins loops turns h = absurd (grind arith)
 
 pub begun_dropped : (left : ℕ) (turns : List OpenTurn) → drop left (map begun_of turns) ≡ map begun_of (drop left turns)
 begun_dropped zero turns = refl

@@ -3,8 +3,7 @@ use Rattle.std.proofs.Common.{◌≡◌, ℕ, zero, suc, ◌+◌, refl, sym, ap,
 use Rattle.std.proofs.Common.{false, is_none, not, ◌||◌, if◌then◌else◌, Option, Some, None, Result, Ok, Err}
 use Rattle.std.proofs.Common.{slice_get}
 use Rattle.std.specs.Prelude.{IsTrue}
-use Rattle.teco_law_tables.specs.Following.{falling_in}
-use Rattle.teco_verifier.specs.facts.Facts.{Entry, Facts}
+use Rattle.teco_verifier.specs.facts.Facts.{Facts}
 use Rattle.teco_model.specs.declared.kind.Flow.TheVariants as flow
 use Rattle.teco_model.specs.declared.kind.Kind.TheVariants as kind
 use Rattle.teco_model.specs.Element.{Element}
@@ -21,6 +20,7 @@ use Rattle.teco_verifier.specs.table.Closed.{enters_at, closed_behind, begins_by
 use Rattle.teco_verifier.specs.table.Closed.{closed_at, check_from, check_nodes, check}
 use Rattle.teco_verifier.specs.table.Table.{Table, facts_at, choice_at}
 use Rattle.teco_verifier.specs.table.Written.{changes_in}
+use Rattle.teco_model.specs.Macros.{ArgumentRange}
 
 module _ (nodes : List Node) (table : Table) where
   checked_node : (k j : ℕ) (rest : List Node) (node : Node) → check_from nodes table k rest ≡ Ok tt
@@ -51,13 +51,15 @@ module _ (nodes : List Node) (table : Table) where
   passes_entry true r h = (refl, h)
   passes_entry false r h = absurd (cc)
 
-  pub entry_checked : (entry : Entry) → check entry nodes table ≡ Ok tt → is_entry entry (facts_at table 1) ≡ true
+  pub entry_checked : (argument : Option ArgumentRange) → check argument nodes table ≡ Ok tt
+      → is_entry argument (facts_at table 1) ≡ true
   unfolding check
-  entry_checked entry h = (passes_entry (is_entry entry (facts_at table 1)) (check_nodes nodes table) h).0
+  entry_checked argument h = (passes_entry (is_entry argument (facts_at table 1)) (check_nodes nodes table) h).0
 
-  pub nodes_checked : (entry : Entry) → check entry nodes table ≡ Ok tt → check_nodes nodes table ≡ Ok tt
+  pub nodes_checked : (argument : Option ArgumentRange) → check argument nodes table ≡ Ok tt
+      → check_nodes nodes table ≡ Ok tt
   unfolding check
-  nodes_checked entry h = (passes_entry (is_entry entry (facts_at table 1)) (check_nodes nodes table) h).1
+  nodes_checked argument h = (passes_entry (is_entry argument (facts_at table 1)) (check_nodes nodes table) h).1
 
   pub node_checked : (k : ℕ) (node : Node) → check_nodes nodes table ≡ Ok tt → numbered nodes k ≡ Some node
       → closed_at nodes table k node ≡ true
@@ -78,7 +80,7 @@ module _ (nodes : List Node) (table : Table) where
     pub leads : edges_at nodes node facts ≡ Ok edges
     pub on : edges.on ≡ Some entering
     pub chosen : choice_at table begin ≡ Some choice
-    pub turns_are : turns (falling_in nodes table begin) facts ≡ Ok most
+    pub turns_are : turns facts ≡ Ok most
     pub same : IsTrue (say_same start (body_start choice (changes_in nodes begin) entering))
     pub stands_there : IsTrue (stands choice (changes_in nodes begin) (is_counted entering.iterations) most entering
         (facts_at table (end_of nodes begin)))
@@ -86,8 +88,7 @@ module _ (nodes : List Node) (table : Table) where
   module _ (begin : ℕ) (node : Node) (start : Facts) (there : facts_at table (suc begin) ≡ Some start) where
     stand_of_body : (facts : Facts) (edges : Edges) (entering : Facts) → facts_at table begin ≡ Some facts
         → edges_at nodes node facts ≡ Ok edges → edges.on ≡ Some entering →
-        (c : Option Choice) → choice_at table begin ≡ c → (r : Result Polynomial Refusal)
-        → turns (falling_in nodes table begin) facts ≡ r
+        (c : Option Choice) → choice_at table begin ≡ c → (r : Result Polynomial Refusal) → turns facts ≡ r
         → body_stands (changes_in nodes begin) (facts_at table (end_of nodes begin)) entering
         (Some start) c r ≡ true → Body begin node start
     stand_of_body facts edges entering known leads on (Some choice) chosen (Ok most) t h =
@@ -115,7 +116,7 @@ module _ (nodes : List Node) (table : Table) where
     on_body facts edges known leads (Some entering) on h =
         stand_of_body facts edges entering known leads on _ refl _ refl
         (ap (λ (o : Option Facts). body_stands (changes_in nodes begin) (facts_at table (end_of nodes begin)) entering o
-        (choice_at table begin) (turns (falling_in nodes table begin) facts)) (sym there) ∙ h)
+        (choice_at table begin) (turns facts)) (sym there) ∙ h)
 
     module _ (e : Element) (reads : node.element ≡ Some e) (is : e.kind ≡ kind.Flow flow.Iterate) where
       behind_body : (facts : Facts) → facts_at table begin ≡ Some facts → (r : Result Edges Refusal)

@@ -1,5 +1,6 @@
 -- An element that passes, and what a run is at in the midst of it.
-use Rattle.std.proofs.Common.{◌≡◌, ◌⊎◌, inl, inr, ℕ, suc, ◌≤◌, ◌<◌, sym, ap, ◌∙◌, subst, arith, List, Option, Some, Ok}
+use Rattle.std.proofs.Common.{◌≡◌, ◌⊎◌, inl, inr, ℕ, suc, ◌≤◌, ◌<◌, sym, ap, ◌∙◌, subst, arith, List, Option, Some}
+use Rattle.std.proofs.Common.{Ok}
 use Rattle.std.proofs.lemmas.Bool.{cases_order}
 use Rattle.teco_model.proofs.Ahead.{element_at-again}
 use Rattle.teco_model.specs.Element.{Element, element_at}

@@ -5,8 +5,6 @@ use Rattle.std.proofs.Common.{slice_get, rules}
 use Rattle.std.specs.Prelude.{IsTrue}
 use Rattle.std.specs.Option.{option_map_or}
 use Rattle.std.proofs.lemmas.Int.{ints}
-use Rattle.teco_verifier.specs.expansion.Names.{names_macro}
-use Rattle.teco_verifier.specs.declared.rules.Rules.{Rules}
 use Rattle.teco_model.specs.declared.flow.Loop.{Loop}
 use Rattle.teco_model.specs.Element.{Element, element_at}
 use Rattle.teco_model.specs.Files.{Files}
@@ -15,7 +13,7 @@ use Rattle.teco_model.specs.Searching.{has_colon}
 use Rattle.teco_model.specs.State.{World, Kept, Frame, State, Outcome, Next, End, start, frame_of}
 use Rattle.teco_model.specs.Step.{end_outcome, end_of_text, outcome_at, step}
 use Rattle.teco_law_expansion.specs.Ends.{AreClosed, IterationsEnd}
-use Rattle.teco_model.specs.Macros.{Library, is_macro, call_of, ArgumentRange, IsAsked, Needs}
+use Rattle.teco_model.specs.Macros.{Library, call_of, ArgumentRange, IsAsked, Needs}
 use Rattle.teco_law_expansion.specs.Linked.{AreLinked, NodesAreSound}
 use Rattle.teco_verifier.specs.expansion.Node.{Node, stands, numbered}
 use Rattle.teco_verifier.specs.expansion.Position.{Spot, Position, start_of}
@@ -35,7 +33,7 @@ use Rattle.teco_law_expansion.specs.Given.{call_given}
 use Rattle.teco_verifier.specs.facts.Argument.{arguments_given}
 use Rattle.teco_law_facts.specs.Describes.{Run, Describes}
 use Rattle.teco_verifier.specs.facts.Transfer.{without_answer, transfer_return}
-use Rattle.teco_verifier.specs.facts.Facts.{Facts, entry_of, without_digit}
+use Rattle.teco_verifier.specs.facts.Facts.{Facts}
 use Rattle.teco_verifier.specs.facts.Flows.{Edges}
 use Rattle.teco_verifier.specs.facts.Printed.{no_needs, needs}
 use Rattle.teco_law_facts.specs.SoundSteps.{AreOpen, BeginsAt, ElementsAreNamed}
@@ -44,7 +42,7 @@ use Rattle.teco_law_facts.specs.Wholeness.{WholeIsKept}
 use Rattle.teco_verifier.specs.table.Behind.{left_by, placed, edges_behind, edges_at, along}
 use Rattle.teco_verifier.specs.table.Closed.{closed_behind}
 use Rattle.teco_law_tables.specs.Ending.{EndsWithin, start_given, RunsEndInTime}
-use Rattle.teco_law_tables.specs.Following.{run_at, pages_in}
+use Rattle.teco_law_tables.specs.Following.{run_at}
 use Rattle.teco_verifier.specs.table.Printed.{steps_before, steps_of, needs_of, known_needs, needs_from, needs_in}
 use Rattle.teco_verifier.specs.table.Printed.{IsPrinted}
 use Rattle.teco_law_tables.specs.Staying.{changes_files, ReadsNoFileCommand}
@@ -133,13 +131,12 @@ pub record Laws : Type 0 where
   pub whole : WholeIsKept
 
 returned : (run : Run) (facts : Facts) (unread : ℕ) (kept : Kept) (arguments : Arguments)
-    → Describes run facts unread kept arguments
-    → Describes run (without_digit (without_answer facts)) unread kept arguments
+    → Describes run facts unread kept arguments → Describes run (without_answer facts) unread kept arguments
 returned run facts unread kept arguments d = search rules
 
-module _ (laws : Laws) (ground : Ground) (closed : AreClosed ground.nodes) (rules : Rules)
+module _ (laws : Laws) (ground : Ground) (closed : AreClosed ground.nodes)
     (argument : Option ArgumentRange) (commands_are size_is : Polynomial)
-    (printed : IsPrinted (entry_of rules ground.library argument) ground.nodes ground.table commands_are size_is)
+    (printed : IsPrinted argument ground.nodes ground.table commands_are size_is)
     (small : value size_is ground.n ≤ LIMIT) (names : ElementsAreNamed) (first : State)
     (whole_first : IsWholeState first) where
   open ground use {library, entry, nodes, table, n, below, are, passes}
@@ -161,17 +158,15 @@ module _ (laws : Laws) (ground : Ground) (closed : AreClosed ground.nodes) (rule
     element_passes : (e : Element) → here.node.element ≡ Some e
         → Goes library entry nodes table n below number turns s here
     element_passes e reads =
-        let most = steps_known table (entry_of rules library argument) nodes number here.node here.facts commands_are
+        let most = steps_known table argument nodes number here.node here.facts commands_are
         printed.commands_are here.at here.known in
-        let begins : BeginsAt (run_at library n below turns) here.facts (placed nodes here.node e) s = record {
+        let begins : BeginsAt (run_at n below turns) here.facts (placed nodes here.node e) s = record {
           whole = whole_here;
           described = here.described;
           left = here.begins;
           read = read_here ∙ ap Ok reads;
           colon = ap (λ (p : Position). has_colon e (frame_of p.running.text)) here.position;
           named = names s.frames.running.text s.frames.running.place e (read_here ∙ ap Ok reads);
-          library = λ r e'. sym (ap (λ o. option_map_or (is_macro library) o false) e')
-              ∙ sym ((are.each number here.node here.at).names ∙ ap (names_macro library) reads);
           stands = stands_there ground closed arrival e reads edges_here.0 edges_here.1;
           files = open_for (needs e.kind here.facts) (needs_in nodes table) s.world.files
               (subst (λ read. Among (needs_of read here.facts) (needs_in nodes table)) reads
@@ -179,9 +174,9 @@ module _ (laws : Laws) (ground : Ground) (closed : AreClosed ground.nodes) (rule
         } in
         completing.passing laws.steps ground arrival e reads edges_here.0 edges_here.1 most.0
         (sym (ap (λ read. steps_of read here.facts) reads) ∙ most.1)
-        (edges_fit library entry nodes table (run_at library n below turns) are passes
-        (λ k node facts at known. facts_fit table rules library argument nodes k node facts size_is
-        (run_at library n below turns) refl printed.size_is small at known) number here.node e here.facts
+        (edges_fit library entry nodes table n are passes
+        (λ k node facts at known. facts_fit table nodes k node facts size_is n printed.size_is small at known) number
+        here.node e here.facts
         edges_here.0 reads here.at here.known edges_here.1)
         begins
         (λ k u r. (whole_there laws.whole k s u whole_here r).world.kept)
@@ -252,16 +247,15 @@ module _ (laws : Laws) (ground : Ground) (closed : AreClosed ground.nodes) (rule
             goes = went;
             comes = record {
               edges = transfer_return here.facts;
-              next = without_digit (without_answer here.facts);
+              next = without_answer here.facts;
               leads = ap (λ read. edges_behind nodes here.node read here.facts) reads;
               on_way = ap (λ read. along read went.way (transfer_return here.facts)) reads;
-              described = subst (λ run. Describes run (without_digit (without_answer here.facts))
+              described = subst (λ run. Describes run (without_answer here.facts)
                   (unread_of s.world) s.world.kept s.arguments)
                   (sym (ap (λ read. run_along read went.way (left_by nodes here.node) s.world
-                  (run_at library n below turns)) reads))
-                  (returned (run_at library n below turns) here.facts (unread_of s.world) s.world.kept s.arguments
+                  (run_at n below turns)) reads))
+                  (returned (run_at n below turns) here.facts (unread_of s.world) s.world.kept s.arguments
                   here.described);
-              less = omega arith;
               grown = omega arith;
             };
             loaded = here.loaded;
@@ -308,12 +302,12 @@ in_all laws calls entry (Some range) (Some n) world steps most named asked all e
 in_all laws calls entry argument given world steps most named asked all ends = absurd (grind arith)
 
 pub elements_go : (laws : Laws) → IterationsEnd
-    → (library : Library) (entry : ℕ) (rules : Rules) (argument : Option ArgumentRange) (given : Option ℕ)
-    (nodes : List Node) (table : Table) (commands_are size_is : Polynomial) (n : ℕ) (world : World)
-    → AreLinked library entry nodes → IsPrinted (entry_of rules library argument) nodes table commands_are size_is
-    → IsAsked argument given → IsReady library entry size_is n world →
+    → (library : Library) (entry : ℕ) (argument : Option ArgumentRange) (given : Option ℕ) (nodes : List Node)
+    (table : Table) (commands_are size_is : Polynomial) (n : ℕ) (world : World) → AreLinked library entry nodes
+    → IsPrinted argument nodes table commands_are size_is → IsAsked argument given
+    → IsReady library entry size_is n world →
     ElementsGo library entry nodes table n world.kept.registers.stack (start_given entry given world)
-elements_go laws ends library entry rules argument given nodes table commands_are size_is n world are printed asked
+elements_go laws ends library entry argument given nodes table commands_are size_is n world are printed asked
     ready number turns steps s reached here files =
     let ground : Ground = record {
       library = library;
@@ -324,22 +318,20 @@ elements_go laws ends library entry rules argument given nodes table commands_ar
       below = world.kept.registers.stack;
       are = are;
       passes =
-          nodes_checked nodes table (entry_of rules library argument) printed.closed;
+          nodes_checked nodes table argument printed.closed;
     } in
-    passes_here laws ground (ends library entry nodes are) rules argument commands_are size_is printed ready.small
+    passes_here laws ground (ends library entry nodes are) argument commands_are size_is printed ready.small
     laws.named (start_given entry given world)
     (start_whole laws entry argument given world asked ready.call ready.whole)
     (record { number = number; turns = turns; s = s; here = here }) steps reached files
 
 pub runs_are_verified : Laws → CallLaws → IterationsEnd → RunsEndInTime → RunsAreVerified
-runs_are_verified laws calls ends in_time library entry rules argument given nodes table commands_are size_is n world
-    are printed asked ready files =
-    in_all laws calls entry argument given world (steps_in (turning nodes table n) + pages_in nodes table n)
-    (value commands_are n) ready.named asked
-    (let all = commands_are_steps (entry_of rules library argument) nodes table commands_are n printed.commands_are
-    in omega (arith, all))
-    (in_time library entry rules argument given nodes table n world are printed.closed asked ready.loaded
-    ready.whole.kept ready.begins files
+runs_are_verified laws calls ends in_time library entry argument given nodes table commands_are size_is n world are
+    printed asked ready files =
+    in_all laws calls entry argument given world (steps_in (turning nodes table n)) (value commands_are n) ready.named
+    asked (commands_are_steps argument nodes table commands_are n printed.commands_are)
+    (in_time library entry argument given nodes table n world are printed.closed asked ready.loaded ready.whole.kept
+    ready.begins files
     (elements_pass library entry nodes table n world.kept.registers.stack (start_given entry given world)
-    (elements_go laws ends library entry rules argument given nodes table commands_are size_is n world are printed asked
+    (elements_go laws ends library entry argument given nodes table commands_are size_is n world are printed asked
     ready)))

@@ -8,7 +8,6 @@ use Rattle.teco_model.specs.Letters.{letters}
 use Rattle.teco_model.specs.Pattern.{part_at, parts_within, parts}
 use Rattle.teco_verifier.specs.expansion.Ways.{read_at, flow_ways, ways_at}
 use Rattle.teco_verifier.specs.expansion.Expansion.{next_visit, walk, way_numbers, node_at, nodes_at, expansion}
-use Rattle.teco_verifier.specs.facts.Facts.{texts_at_entry}
 use Rattle.teco_verifier.specs.facts.Transfer.{transfer}
 use Rattle.teco_verifier.specs.table.Closed.{check_nodes, check}
 use Rattle.teco_verifier.specs.table.Deriving.{derive}
@@ -19,5 +18,5 @@ use Rattle.teco_verifier.specs.table.Written.{written_in, written, ends_in}
 pub worked_tables : WorkedTables
 unfolding digits int_wrap blank_len element_from element_at letters reading_at first_readings readings part_at
     parts_within parts read_at flow_ways ways_at next_visit walk way_numbers node_at nodes_at expansion transfer
-    check_nodes check derive commands size needs_in written_in written ends_in texts_at_entry
+    check_nodes check derive commands size needs_in written_in written ends_in
 worked_tables = search rules

@@ -23,8 +23,6 @@ use Rattle.teco_law_tables.specs.Following.{OpenTurn, open_loops, IsDescribed}
 use Rattle.teco_verifier.specs.table.Printed.{turns_at, needs_in, IsPrinted}
 use Rattle.teco_verifier.specs.table.Table.{Table}
 use Rattle.teco_law_tables.specs.Verified.{IsReady}
-use Rattle.teco_verifier.specs.declared.rules.Rules.{Rules}
-use Rattle.teco_verifier.specs.facts.Facts.{entry_of}
 
 -- ---- each element that begins
 -- A run stands at a node, and what the table knows there describes it; or it stands behind the call of the macro.
@@ -40,10 +38,10 @@ pub data IsKnown
 -- A run is known wherever an element begins, from the call on; an argument that is given is pending there already.
 abbrev pub RunsAreDescribed : Type 0
 RunsAreDescribed =
-    (library : Library) (entry : ℕ) (rules : Rules) (argument : Option ArgumentRange) (given : Option ℕ)
-    (nodes : List Node) (table : Table) (commands most : Polynomial) (n : ℕ) (world : World)
-    → AreLinked library entry nodes → IsPrinted (entry_of rules library argument) nodes table commands most
-    → IsAsked argument given → IsReady library entry most n world → AreOpen (needs_in nodes table) world.files
+    (library : Library) (entry : ℕ) (argument : Option ArgumentRange) (given : Option ℕ) (nodes : List Node)
+    (table : Table) (commands most : Polynomial) (n : ℕ) (world : World)
+    → AreLinked library entry nodes → IsPrinted argument nodes table commands most → IsAsked argument given
+    → IsReady library entry most n world → AreOpen (needs_in nodes table) world.files
     → (steps : ℕ) (s : State) → Reaches steps (start_given entry given world) s → s.left ≡ None
     → IsKnown library entry nodes table n world.kept.registers.stack s
 
@@ -96,15 +94,15 @@ pub record TakesFewTurns
   pub begin : IsBegin nodes number
   pub here : IsDescribed library nodes table n below number turns s
   pub most : Polynomial
-  pub known : turns_at nodes table number ≡ Ok most
+  pub known : turns_at table number ≡ Ok most
   pub few : (steps later : ℕ) → BeginTurns (depth_of t) steps t later → suc later ≤ value most n
 
 -- Each iteration that a run enters takes no more turns than the table tells.
 abbrev pub IterationsAreBounded : Type 0
 IterationsAreBounded =
-    (library : Library) (entry : ℕ) (rules : Rules) (argument : Option ArgumentRange) (given : Option ℕ)
-    (nodes : List Node) (table : Table) (commands most : Polynomial) (n : ℕ) (world : World)
-    → AreLinked library entry nodes → IsPrinted (entry_of rules library argument) nodes table commands most
-    → IsAsked argument given → IsReady library entry most n world → AreOpen (needs_in nodes table) world.files
+    (library : Library) (entry : ℕ) (argument : Option ArgumentRange) (given : Option ℕ) (nodes : List Node)
+    (table : Table) (commands most : Polynomial) (n : ℕ) (world : World)
+    → AreLinked library entry nodes → IsPrinted argument nodes table commands most → IsAsked argument given
+    → IsReady library entry most n world → AreOpen (needs_in nodes table) world.files
     → (steps : ℕ) (s t : State) → Reaches steps (start_given entry given world) s → Enters s t
     → TakesFewTurns library nodes table n world.kept.registers.stack s t

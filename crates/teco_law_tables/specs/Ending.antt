@@ -1,5 +1,5 @@
 -- A run of a macro, with a closed table, ends without a code within the number of steps that the table tells.
-use Rattle.std.specs.Prelude.{◌≡◌, ◌⊎◌, ℕ, suc, ◌+◌, ◌≤◌, List, Option, Ok}
+use Rattle.std.specs.Prelude.{◌≡◌, ◌⊎◌, ℕ, suc, ◌≤◌, List, Option, Ok}
 use Rattle.teco_law_turns.specs.Table.{commands as steps_in}
 use Rattle.teco_model.specs.Registers.{Pair}
 use Rattle.teco_model.specs.Run.{Reaches, Ends}
@@ -15,18 +15,16 @@ use Rattle.teco_law_facts.specs.Laws.{IsEntry}
 use Rattle.teco_model.specs.Paging.{unread_of}
 use Rattle.teco_law_facts.specs.SoundSteps.{AreOpen}
 use Rattle.teco_verifier.specs.table.Closed.{check}
-use Rattle.teco_law_tables.specs.Following.{OpenTurn, run_at, IsDescribed, apart_of, pages_in}
+use Rattle.teco_law_tables.specs.Following.{OpenTurn, run_at, IsDescribed}
 use Rattle.teco_law_tables.specs.Moving.{IsLast, Comes}
 use Rattle.teco_verifier.specs.table.Printed.{steps_of, needs_in}
 use Rattle.teco_law_tables.specs.Staying.{NoFileCommands}
 use Rattle.teco_verifier.specs.table.Table.{Table}
 use Rattle.teco_law_tables.specs.Turning.{value_of, turning}
-use Rattle.teco_verifier.specs.declared.rules.Rules.{Rules}
-use Rattle.teco_verifier.specs.facts.Facts.{entry_of}
 
--- An element that begins where a run is described takes no more steps than are known, and than there are pages that
--- it turns, without a code, and none of them a command of files; the last goes along a way, to a state that the facts
--- on it describe, and leaves open the files that the nodes need.
+-- An element that begins where a run is described takes no more steps than are known, without a code, and none of them
+-- a command of files; the last goes along a way, to a state that the facts on it describe, and leaves open the files
+-- that the nodes need.
 pub record Passes
     (library : Library) (entry : ℕ) (nodes : List Node) (table : Table) (n : ℕ) (below : List Pair)
     (number : ℕ)
@@ -37,13 +35,11 @@ pub record Passes
   pub next : State
   pub reaches : Reaches before s last
   pub steps : step last ≡ Next next
-  pub few :
-      suc before + apart_of nodes table next.world
-      ≤ value_of n (steps_of here.node.element here.facts) + apart_of nodes table s.world
+  pub few : suc before ≤ value_of n (steps_of here.node.element here.facts)
   pub none : NoFileCommands s (suc before)
   pub again : IsLast here.node.element s last
   pub goes : GoesTo (stands nodes entry) number here.node last next
-  pub comes : Comes nodes here.node here.facts goes.way (run_at library n below turns) s next
+  pub comes : Comes nodes here.node here.facts goes.way (run_at n below turns) s next
   pub loaded : IsLoaded library next.world.kept
   pub whole : IsWhole next.world.kept
   pub files : AreOpen (needs_in nodes table) next.world.files
@@ -71,11 +67,10 @@ start_given entry given world =
 
 abbrev pub RunsEndInTime : Type 0
 RunsEndInTime =
-    (library : Library) (entry : ℕ) (rules : Rules) (argument : Option ArgumentRange) (given : Option ℕ)
-    (nodes : List Node) (table : Table) (n : ℕ) (world : World)
-    → AreLinked library entry nodes → check (entry_of rules library argument) nodes table ≡ Ok tt
-    → IsAsked argument given → IsLoaded library world.kept → IsWhole world.kept
-    → IsEntry n (unread_of world) world.kept
+    (library : Library) (entry : ℕ) (argument : Option ArgumentRange) (given : Option ℕ) (nodes : List Node)
+    (table : Table) (n : ℕ) (world : World)
+    → AreLinked library entry nodes → check argument nodes table ≡ Ok tt → IsAsked argument given
+    → IsLoaded library world.kept → IsWhole world.kept → IsEntry n (unread_of world) world.kept
     → AreOpen (needs_in nodes table) world.files
     → ElementsPass library entry nodes table n world.kept.registers.stack (start_given entry given world)
-    → EndsWithin (start_given entry given world) (steps_in (turning nodes table n) + pages_in nodes table n)
+    → EndsWithin (start_given entry given world) (steps_in (turning nodes table n))

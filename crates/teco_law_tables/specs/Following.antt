@@ -1,38 +1,33 @@
 -- What is true of a run where an element begins: it stands at a node that the table has as reached, and is
 -- described there.
 use Rattle.std.specs.Prelude.{◌≡◌, ℕ, suc, ◌+◌, ◌≤◌, ⊤, List, [], ◌∷◌, ◌++◌, map, length, Bool, true, false, Option}
-use Rattle.std.specs.Prelude.{Some, None, ◌||◌, if◌then◌else◌}
+use Rattle.std.specs.Prelude.{Some, None}
 use Rattle.teco_law_turns.specs.Moves.{OpenLoop, State as Shown}
 use Rattle.teco_model.specs.declared.flow.Loop.{Loop}
 use Rattle.teco_model.specs.Registers.{Pair}
 use Rattle.teco_model.specs.State.{World, Frame, State}
-use Rattle.teco_model.specs.Macros.{Library, IsLoaded, is_macro}
+use Rattle.teco_model.specs.Macros.{Library, IsLoaded}
 use Rattle.teco_verifier.specs.expansion.Node.{Node, numbered}
 use Rattle.teco_verifier.specs.expansion.Position.{position_of}
 use Rattle.teco_verifier.specs.facts.Bodies.{Choice}
-use Rattle.teco_law_facts.specs.Describes.{Run, IsWhole, Describes, Begun}
+use Rattle.teco_law_facts.specs.Describes.{Run, IsWhole, Describes, AreEach, HasFallen}
 use Rattle.teco_verifier.specs.facts.Facts.{Facts}
 use Rattle.teco_model.specs.Paging.{unread_of}
 use Rattle.teco_verifier.specs.table.Closed.{is_counted}
 use Rattle.teco_verifier.specs.table.Table.{Table, facts_at, choice_at}
-use Rattle.teco_law_facts.specs.Laws.{IsCarried, amount_of}
-use Rattle.teco_verifier.specs.declared.falls.Rank.{Rank}
-use Rattle.teco_verifier.specs.facts.Ranks.{rank_at}
-use Rattle.teco_verifier.specs.expansion.Ends.{end_of}
-use Rattle.teco_verifier.specs.table.Printed.{turns_pages}
+use Rattle.teco_poly.specs.Polynomial.{value}
 
--- A turn that runs: what it began with, and how many turns come after it at most.
+-- A turn that runs: how much was ahead when it began, and how many turns come after it at most.
 pub record OpenTurn : Type 0 where
-  pub begun : Begun
+  pub begun : ℕ
   pub more : ℕ
 
-abbrev pub begun_of : OpenTurn → Begun
+abbrev pub begun_of : OpenTurn → ℕ
 begun_of turn = turn.begun
 
--- what the facts of a run speak of: N, the library, the open turns, and the push-down list of the entry
-abbrev pub run_at : Library → ℕ → List Pair → List OpenTurn → Run
-run_at library n below turns =
-    record { n = n; library = is_macro library; turns = map begun_of turns; below = below }
+-- what the facts of a run speak of: N, the open turns, and the push-down list of the entry
+abbrev pub run_at : ℕ → List Pair → List OpenTurn → Run
+run_at n below turns = record { n = n; turns = map begun_of turns; below = below }
 
 -- the open iterations of all texts, the innermost first
 abbrev pub loops_in : List Frame → List Loop
@@ -42,36 +37,31 @@ loops_in (frame ∷ frames) = frame.loops ++ loops_in frames
 abbrev pub open_loops : State → List Loop
 open_loops s = loops_in (s.frames.running ∷ s.frames.callers)
 
--- With a count as many turns come after as are left, and without one no more than there was of what falls when the turn
--- began.
-abbrev pub AreMore : Option Rank → Option ℕ → Bool → OpenTurn → Type 0
-AreMore falling None counted turn = (counted ≡ false) × (amount_of falling turn.begun ≤ turn.more)
-AreMore falling (Some left) counted turn = (counted ≡ true) × (left ≡ turn.more)
+-- With a count as many turns come after as are left, and without one no more than was ahead when the turn began.
+abbrev pub AreMore : Option ℕ → Bool → OpenTurn → Type 0
+AreMore None counted turn = (counted ≡ false) × (turn.begun ≤ turn.more)
+AreMore (Some left) counted turn = (counted ≡ true) × (left ≡ turn.more)
 
--- what falls from turn to turn of an iteration
-abbrev pub falling_in : List Node → Table → ℕ → Option Rank
-falling_in nodes table begin = rank_at (facts_at table (end_of nodes begin))
-
--- An open iteration was entered, and what is known at its < is carried to the turn.
-pub record IsOpened
-    (nodes : List Node) (table : Table) (n begin : ℕ) (loop : Loop) (turn : OpenTurn)
-    (outer : List OpenTurn) :
-    Type 0 where
+-- An open iteration was entered. If it is kept, its turn began with no more ahead than at its <, and with the falls
+-- outside that are known there.
+pub record IsOpened (table : Table) (n begin : ℕ) (loop : Loop) (turn : OpenTurn) (outer : List OpenTurn) : Type 0 where
   pub facts : Facts
   pub start : Facts
   pub choice : Choice
   pub known : facts_at table begin ≡ Some facts
   pub started : facts_at table (suc begin) ≡ Some start
   pub chosen : choice_at table begin ≡ Some choice
-  pub more : AreMore (falling_in nodes table begin) loop.turns (is_counted start.iterations) turn
-  pub carried : IsCarried n facts choice.kept turn.begun (map begun_of outer)
+  pub more : AreMore loop.turns (is_counted start.iterations) turn
+  pub falls : length facts.position.falls ≡ length outer
+  pub ahead : choice.kept ≡ true → turn.begun ≤ value facts.position.ahead n
+  pub fallen : choice.kept ≡ true → AreEach (HasFallen turn.begun) facts.position.falls (map begun_of outer)
 
 -- each open iteration is opened, by its number
-abbrev pub AreOpened : List Node → Table → ℕ → List ℕ → List Loop → List OpenTurn → Type 0
-AreOpened nodes table n [] [] [] = ⊤
-AreOpened nodes table n (begin ∷ begins) (loop ∷ loops) (turn ∷ turns) =
-    IsOpened nodes table n begin loop turn turns × AreOpened nodes table n begins loops turns
-AreOpened nodes table n begins loops turns = ⊥
+abbrev pub AreOpened : Table → ℕ → List ℕ → List Loop → List OpenTurn → Type 0
+AreOpened table n [] [] [] = ⊤
+AreOpened table n (begin ∷ begins) (loop ∷ loops) (turn ∷ turns) =
+    IsOpened table n begin loop turn turns × AreOpened table n begins loops turns
+AreOpened table n begins loops turns = ⊥
 
 -- At a number: the node stands where the state does, and what the table knows there describes it.
 pub record IsDescribed
@@ -85,23 +75,8 @@ pub record IsDescribed
   pub begins : s.left ≡ None
   pub loaded : IsLoaded library s.world.kept
   pub whole : IsWhole s.world.kept
-  pub opened : AreOpened nodes table n node.stand.iterations (open_loops s) turns
-  pub described : Describes (run_at library n below turns) facts (unread_of s.world) s.world.kept s.arguments
-
--- how many characters are unread that N and FN count once in a whole run, in the second edition
-abbrev pub is_paged_at : Table → ℕ → Node → Bool
-is_paged_at table k node = turns_pages node (facts_at table k)
-
-abbrev pub is_paged_from : Table → ℕ → List Node → Bool
-is_paged_from table k [] = false
-is_paged_from table k (node ∷ rest) = is_paged_at table k node || is_paged_from table (suc k) rest
-
-abbrev pub apart_of : List Node → Table → World → ℕ
-apart_of nodes table world = if is_paged_from table 1 nodes then unread_of world else 0
-
--- the most that they are
-abbrev pub pages_in : List Node → Table → ℕ → ℕ
-pages_in nodes table n = if is_paged_from table 1 nodes then n else 0
+  pub opened : AreOpened table n node.stand.iterations (open_loops s) turns
+  pub described : Describes (run_at n below turns) facts (unread_of s.world) s.world.kept s.arguments
 
 -- what is held, and how the law of turns sees such a run
 abbrev pub held_of : World → ℕ
@@ -113,11 +88,10 @@ loops_of (begin ∷ begins) (turn ∷ turns) =
 loops_of [] turns = []
 loops_of (begin ∷ begins) [] = []
 
-abbrev pub shown : List Node → Table → ℕ → List ℕ → List OpenTurn → World → Shown
-shown nodes table number begins turns world = record {
+abbrev pub shown : ℕ → List ℕ → List OpenTurn → World → Shown
+shown number begins turns world = record {
   node = number;
   held = held_of world;
   ahead = held_of world;
-  apart = apart_of nodes table world;
   opened = loops_of begins turns;
 }

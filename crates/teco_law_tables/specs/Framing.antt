@@ -12,10 +12,8 @@ use Rattle.teco_model.specs.Registers.{Pair, pair_of}
 use Rattle.teco_model.specs.Run.{Ends, Reaches}
 use Rattle.teco_model.specs.State.{Kept, State, World, start}
 use Rattle.teco_poly.specs.Polynomial.{Polynomial}
-use Rattle.teco_verifier.specs.declared.rules.Rules.{Rules}
 use Rattle.teco_verifier.specs.expansion.Names.{named_by}
 use Rattle.teco_verifier.specs.expansion.Node.{Node, numbered}
-use Rattle.teco_verifier.specs.facts.Facts.{entry_of}
 use Rattle.teco_verifier.specs.table.Printed.{needs_in, IsPrinted}
 use Rattle.teco_verifier.specs.table.Table.{Table}
 
@@ -45,9 +43,9 @@ pub record IsFramed (nodes : List Node) (old new : Kept) : Type 0 where
 -- Wherever a run comes to, what its macro does not name is as it was.
 abbrev pub RunsAreFramed : Type 0
 RunsAreFramed =
-    (library : Library) (entry : ℕ) (rules : Rules) (argument : Option ArgumentRange) (given : Option ℕ)
+    (library : Library) (entry : ℕ) (argument : Option ArgumentRange) (given : Option ℕ)
     (nodes : List Node) (table : Table) (commands most : Polynomial) (n : ℕ) (world : World)
-    → AreLinked library entry nodes → IsPrinted (entry_of rules library argument) nodes table commands most
+    → AreLinked library entry nodes → IsPrinted argument nodes table commands most
     → IsAsked argument given → IsReady library entry most n world → AreOpen (needs_in nodes table) world.files
     → (steps : ℕ) (s : State) → Reaches steps (start (call_given entry given) world) s
     → IsFramed nodes world.kept s.world.kept
@@ -60,9 +58,9 @@ pub record LiesBelow (below stack : List Pair) : Type 0 where
 -- At its end a run has the push-down list of its entry, and above it what it pushed and did not pop.
 abbrev pub RunsLeaveBelow : Type 0
 RunsLeaveBelow =
-    (library : Library) (entry : ℕ) (rules : Rules) (argument : Option ArgumentRange) (given : Option ℕ)
+    (library : Library) (entry : ℕ) (argument : Option ArgumentRange) (given : Option ℕ)
     (nodes : List Node) (table : Table) (commands most : Polynomial) (n : ℕ) (world : World)
-    → AreLinked library entry nodes → IsPrinted (entry_of rules library argument) nodes table commands most
+    → AreLinked library entry nodes → IsPrinted argument nodes table commands most
     → IsAsked argument given → IsReady library entry most n world → AreOpen (needs_in nodes table) world.files
     → (steps : ℕ) (new : World) → Ends (start (call_given entry given) world) steps new
     → LiesBelow world.kept.registers.stack new.kept.registers.stack

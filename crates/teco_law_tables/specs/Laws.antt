@@ -1,7 +1,7 @@
 -- The laws of tables.
-use Rattle.std.specs.Prelude.{◌≡◌, ℕ, ◌+◌, List, Ok}
+use Rattle.std.specs.Prelude.{◌≡◌, ℕ, ◌+◌, List, Ok, Option}
 use Rattle.teco_law_turns.specs.Table.{IsClosed, commands as steps_in}
-use Rattle.teco_model.specs.Macros.{Library}
+use Rattle.teco_model.specs.Macros.{Library, ArgumentRange}
 use Rattle.teco_law_expansion.specs.Linked.{AreLinked}
 use Rattle.teco_verifier.specs.expansion.Node.{Node}
 use Rattle.teco_poly.specs.Polynomial.{Polynomial, value}
@@ -9,17 +9,13 @@ use Rattle.teco_verifier.specs.table.Closed.{check_nodes}
 use Rattle.teco_verifier.specs.table.Printed.{steps_before, commands}
 use Rattle.teco_verifier.specs.table.Table.{Table}
 use Rattle.teco_law_tables.specs.Turning.{turning}
-use Rattle.teco_verifier.specs.facts.Facts.{Entry}
-use Rattle.teco_law_tables.specs.Following.{pages_in}
 
--- The printed number of commands is that of the table of numbers, of the digits before the call, and of the pages
--- that are counted once.
+-- The printed number of commands is that of the table of numbers, and of the digits before the call.
 abbrev pub CommandsAreSteps : Type 0
 CommandsAreSteps =
-    (entry : Entry) (nodes : List Node) (table : Table) (printed : Polynomial) (n : ℕ)
-    → commands entry nodes table ≡ Ok printed
-    → steps_before entry.argument + steps_in (turning nodes table n) + pages_in nodes table n
-    ≡ value printed n
+    (argument : Option ArgumentRange) (nodes : List Node) (table : Table) (printed : Polynomial) (n : ℕ)
+    → commands argument nodes table ≡ Ok printed
+    → steps_before argument + steps_in (turning nodes table n) ≡ value printed n
 
 -- A closed table is closed as a table of numbers.
 abbrev pub TablesAreClosed : Type 0

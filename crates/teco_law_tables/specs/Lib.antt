@@ -6,7 +6,6 @@ pub mod Moving
 pub mod Staying
 pub mod Ending
 pub mod Rows
-pub mod SecondRows
 pub mod Verified
 pub mod Sure
 pub mod Keeping

@@ -56,7 +56,7 @@ run_along None way between world run = run
 run_along (Some e) way between world run = run_by_kind e.kind way between world run
 
 -- What the laws of facts say of an element whose last step goes along a way: the way is reached, what is known on it
--- describes what the element comes to, no more is unread, and what is held grew by no more than that says.
+-- describes what the element comes to, and what is held grew by no more than that says.
 pub record Comes
     (nodes : List Node) (node : Node) (facts : Facts) (way : ℕ) (run : Run) (s t : State) : Type 0 where
   pub edges : Edges
@@ -67,7 +67,6 @@ pub record Comes
       Describes (run_along node.element way (left_by nodes node) s.world run) next
       (unread_of t.world) t.world.kept
       t.arguments
-  pub less : unread_of t.world ≤ unread_of s.world
   pub grown : held_of t.world + value facts.held run.n ≤ held_of s.world + value next.held run.n
 
 -- The last step of an element goes along a way. P, PW, N and FN may have taken others before, and stood where they
@@ -89,10 +88,9 @@ pub record MovesOn
   pub at : numbered nodes target ≡ Some there
   pub later : List OpenTurn
   pub move :
-      Move (turning nodes table n) (shown nodes table number node.stand.iterations turns s.world)
-      (shown nodes table target there.stand.iterations later t.world)
-  pub held : held_of t.world ≤ held_at nodes table n target
-      → IsDescribed library nodes table n below target later t
+      Move (turning nodes table n) (shown number node.stand.iterations turns s.world)
+      (shown target there.stand.iterations later t.world)
+  pub held : held_of t.world ≤ held_at nodes table n target → IsDescribed library nodes table n below target later t
 
 -- A run may have come to the end instead.
 pub data ComesOn
@@ -114,6 +112,6 @@ StepsMove =
     → AreLinked library entry nodes → check_nodes nodes table ≡ Ok tt
     → (here : IsDescribed library nodes table n below number turns s)
     → IsLast here.node.element s last → (goes : GoesTo (stands nodes entry) number here.node last t)
-    → Comes nodes here.node here.facts goes.way (run_at library n below turns) s t
+    → Comes nodes here.node here.facts goes.way (run_at n below turns) s t
     → IsLoaded library t.world.kept → IsWhole t.world.kept
     → ComesOn library entry nodes table n below number here.node turns s goes.target t

@@ -1,8 +1,8 @@
 -- Tables worked by hand: what is printed of them, and where they are not closed.
-use Rattle.std.specs.Prelude.{◌≡◌, ℕ, List, [], ◌∷◌, codes, Bool, true, false, Some, None, Result, Ok, Err}
+use Rattle.std.specs.Prelude.{◌≡◌, ℕ, List, [], ◌∷◌, codes, Bool, true, false, Some, None, Result, Ok, Err, Option}
 use Rattle.teco_poly.specs.declared.coefficients.TheConstants.{COEFFICIENTS}
 use Rattle.teco_verifier.specs.expansion.Expansion.{expansion}
-use Rattle.teco_model.specs.Macros.{Library, Needs}
+use Rattle.teco_model.specs.Macros.{Library, Needs, ArgumentRange}
 use Rattle.teco_verifier.specs.expansion.Node.{Node}
 use Rattle.teco_verifier.specs.expansion.Refusal.{Refusal as NotExpanded}
 use Rattle.teco_law_expansion.specs.Rows.{only, then, mark_foo}
@@ -10,8 +10,6 @@ use Rattle.teco_poly.specs.Polynomial.{Polynomial, first}
 use Rattle.teco_poly.specs.Text.{text}
 use Rattle.teco_verifier.specs.declared.refusal.Refusal.{Refusal}
 use Rattle.teco_verifier.specs.declared.refusal.Refusal.TheVariants as refusal
-use Rattle.teco_verifier.specs.declared.rules.Rules.TheVariants.{First}
-use Rattle.teco_verifier.specs.facts.Facts.{Entry, entry_of, nowhere}
 use Rattle.teco_verifier.specs.table.Closed.{check}
 use Rattle.teco_verifier.specs.table.Choices.{Chosen}
 use Rattle.teco_verifier.specs.table.Deriving.{derive}
@@ -37,41 +35,38 @@ printed (Ok steps) (Ok most) need = Printed (text steps) (text most) (letters_of
 printed (Err node) most need = Overflows node
 printed steps (Err node) need = Overflows node
 
-abbrev pub verdict_checked : Entry → List Node → Table → Result (Unit {0}) ℕ → Verdict
-verdict_checked entry nodes table (Ok closed) =
-    printed (commands entry nodes table) (size entry nodes table) (needs_in nodes table)
-verdict_checked entry nodes table (Err node) = NotClosed node
+abbrev pub verdict_checked : Option ArgumentRange → List Node → Table → Result (Unit {0}) ℕ → Verdict
+verdict_checked argument nodes table (Ok closed) =
+    printed (commands argument nodes table) (size nodes table) (needs_in nodes table)
+verdict_checked argument nodes table (Err node) = NotClosed node
 
-abbrev pub verdict_derived : Entry → List Node → Result Table Refusal → Verdict
-verdict_derived entry nodes (Ok table) = verdict_checked entry nodes table (check entry nodes table)
-verdict_derived entry nodes (Err why) = NotDerived why
+abbrev pub verdict_derived : Option ArgumentRange → List Node → Result Table Refusal → Verdict
+verdict_derived argument nodes (Ok table) = verdict_checked argument nodes table (check argument nodes table)
+verdict_derived argument nodes (Err why) = NotDerived why
 
-abbrev pub verdict_expanded : Entry → List Chosen → Result (List Node) NotExpanded → Verdict
-verdict_expanded entry chosen (Ok nodes) = verdict_derived entry nodes (derive entry nodes chosen)
-verdict_expanded entry chosen (Err refused) = Unexpanded refused
+abbrev pub verdict_expanded : Option ArgumentRange → List Chosen → Result (List Node) NotExpanded → Verdict
+verdict_expanded argument chosen (Ok nodes) = verdict_derived argument nodes (derive argument nodes chosen)
+verdict_expanded argument chosen (Err refused) = Unexpanded refused
 
--- of the macro A of a library, by the first edition of the rules
+-- of the macro A of a library
 abbrev pub verdict : Library → List Chosen → Verdict
-verdict library chosen = verdict_expanded (entry_of First library None) chosen (expansion library 0)
+verdict library chosen = verdict_expanded None chosen (expansion library 0)
 
 -- of one that takes an argument
 abbrev pub verdict_between : ℕ → ℕ → Library → List Chosen → Verdict
 verdict_between low high library chosen =
-    verdict_expanded (entry_of First library (Some (record { low = low; high = high }))) chosen
-    (expansion library 0)
+    verdict_expanded (Some (record { low = low; high = high })) chosen (expansion library 0)
 
 abbrev pub poly : List ℕ → Polynomial
 poly coefficients = first COEFFICIENTS coefficients
 
 -- an iteration that is kept, with so much held
 abbrev pub kept_with : ℕ → List ℕ → Chosen
-kept_with begin held =
-    record { begin = begin; held = poly held; kept = true; distances = nowhere; longer = [] }
+kept_with begin held = record { begin = begin; held = poly held; kept = true; longer = [] }
 
 -- one of which nothing is known but that it holds so much
 abbrev pub lost_with : ℕ → List ℕ → Chosen
-lost_with begin held =
-    record { begin = begin; held = poly held; kept = false; distances = nowhere; longer = [] }
+lost_with begin held = record { begin = begin; held = poly held; kept = false; longer = [] }
 
 -- each a becomes bb, and then there is a turn for each character
 abbrev pub replace_and_count : Library

@@ -55,8 +55,8 @@ held_at nodes table n zero = n
 held_at nodes table n (suc k) =
     option_map_or (held_in n) (facts_at table (suc k)) (held_if (begins_at nodes k) (held_at nodes table n k))
 
--- Each iteration counts its turns, those without a count by what is ahead or held; so of what is ahead no more is
--- told than that it is held, and of a fall that it is 0 where a turn begins.
+-- Each iteration counts its turns, those without a count by what is ahead; so of what is ahead no more is told than
+-- that it is held, and of a fall that it is 0 where a turn begins.
 abbrev pub turning : List Node → Table → ℕ → Numbers
 turning nodes table n = record {
   size = suc (length nodes);
@@ -64,7 +64,7 @@ turning nodes table n = record {
   own = λ k. own_of n (numbered nodes k) (facts_at table k);
   loops = λ k. iterations_at nodes k;
   end = λ begin. end_of nodes begin;
-  turns = λ begin. value_of n (turns_at nodes table begin);
+  turns = λ begin. value_of n (turns_at table begin);
   growth = λ begin. held_at nodes table n (end_of nodes begin) - held_at nodes table n (suc begin);
   held_most = λ k. held_at nodes table n k;
   ahead_most = λ k. held_at nodes table n k;

@@ -17,8 +17,6 @@ use Rattle.teco_law_facts.specs.Wholeness.{IsWholeWorld}
 use Rattle.teco_law_tables.specs.Ending.{EndsWithin}
 use Rattle.teco_verifier.specs.table.Printed.{needs_in, IsPrinted}
 use Rattle.teco_verifier.specs.table.Table.{Table}
-use Rattle.teco_verifier.specs.declared.rules.Rules.{Rules}
-use Rattle.teco_verifier.specs.facts.Facts.{entry_of}
 
 -- N: what is held, and what is unread
 abbrev pub n_of : World → ℕ
@@ -35,8 +33,8 @@ pub record IsReady (library : Library) (entry : ℕ) (most : Polynomial) (n : �
 
 abbrev pub RunsAreVerified : Type 0
 RunsAreVerified =
-    (library : Library) (entry : ℕ) (rules : Rules) (argument : Option ArgumentRange) (given : Option ℕ)
-    (nodes : List Node) (table : Table) (steps most : Polynomial) (n : ℕ) (world : World)
-    → AreLinked library entry nodes → IsPrinted (entry_of rules library argument) nodes table steps most
-    → IsAsked argument given → IsReady library entry most n world → AreOpen (needs_in nodes table) world.files
+    (library : Library) (entry : ℕ) (argument : Option ArgumentRange) (given : Option ℕ) (nodes : List Node)
+    (table : Table) (steps most : Polynomial) (n : ℕ) (world : World)
+    → AreLinked library entry nodes → IsPrinted argument nodes table steps most → IsAsked argument given
+    → IsReady library entry most n world → AreOpen (needs_in nodes table) world.files
     → EndsWithin (start (call_given entry given) world) (value steps n)

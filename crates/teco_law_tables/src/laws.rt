@@ -6,7 +6,6 @@ ghost use Rattle.teco_law_tables.specs.Keeping.{RunsLeaveOpen};
 ghost use Rattle.teco_law_tables.specs.Laws.{CommandsAreSteps, TablesAreClosed};
 ghost use Rattle.teco_law_tables.specs.Moving.{StepsMove};
 ghost use Rattle.teco_law_tables.specs.Rows.{WorkedTables};
-ghost use Rattle.teco_law_tables.specs.SecondRows.{WorkedSecondTables};
 ghost use Rattle.teco_law_tables.specs.Staying.{FilesStayOpen};
 ghost use Rattle.teco_law_tables.specs.Sure.{RunsAreSure, RunsEndOnce};
 ghost use Rattle.teco_law_tables.specs.Verified.{RunsAreVerified};
@@ -16,13 +15,8 @@ pub fn worked_tables()
     ensures { WorkedTables }
 {}
 
-/// The definition gives what is worked by hand by the second edition of the rules, too.
-pub fn worked_second_tables()
-    ensures { WorkedSecondTables }
-{}
-
-/// The printed number of commands is that of the table of numbers, of the digits before the call,
-/// and of the pages that are counted once.
+/// The printed number of commands is that of the table of numbers, and of the digits before the
+/// call.
 pub fn commands_are_steps()
     ensures { CommandsAreSteps }
 {}

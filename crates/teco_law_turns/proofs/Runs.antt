@@ -194,7 +194,7 @@ module _ (t : Table) where
 
   -- what a run takes is no more than what is left
   runs : IsClosed t → (m : ℕ) (s : State) (us : List Turn) (n : ℕ) → Good s us → RunTakes t m s n
-      → n ≤ left t s.node us + s.apart
+      → n ≤ left t s.node us
   runs closed zero s us n good takes = omega (arith, past_own t s.node us (deep s us good) good.within)
   runs closed (suc m) s us n good takes =
       let onward = moves closed s takes.0 us takes.3 good in
@@ -249,8 +249,8 @@ after_from step k n x o le e =
 
 module _ {M : Type 0} (step : M → Option M) (shown : M → Option State) (t : Table) (closed : IsClosed t)
     (follows : Follows step shown t) where
-  ends : (b : ℕ) (x : M) (s : State) (us : List Turn) → shown x ≡ Some s → Good t s us → left t s.node us + s.apart ≤ b
-      → (n : ℕ) → left t s.node us + s.apart ≤ n → after_steps step n x ≡ None
+  ends : (b : ℕ) (x : M) (s : State) (us : List Turn) → shown x ≡ Some s → Good t s us → left t s.node us ≤ b
+      → (n : ℕ) → left t s.node us ≤ n → after_steps step n x ≡ None
   ends zero x s us shows good low n enough =
       let element = follows x s shows (covers t s us good) in
       absurd (omega (arith, element.1, element.2, past_own t s.node us (deep t s us good) good.within))
@@ -260,16 +260,15 @@ module _ {M : Type 0} (step : M → Option M) (shown : M → Option State) (t : 
       ⊎_elim
       (λ (over : after_steps step element.0 x ≡ None). after_from step element.0 n x None
       (omega (arith, element.2, within)) over)
-      (λ (on : (y : M) × (new : State) × (after_steps step element.0 x ≡ Some y) × (shown y ≡ Some new) × Move t s new
-      × (element.0 + new.apart ≤ t.own s.node + s.apart)).
+      (λ (on : (y : M) × (new : State) × (after_steps step element.0 x ≡ Some y) × (shown y ≡ Some new) × Move t s new).
       let onward = moves t closed s on.1 us on.4 good in
       after_from step element.0 n x (Some on.0) (omega (arith, element.2, within)) on.2
-      ∙ ends b on.0 on.1 onward.0 on.3 onward.1 (omega (arith, element.1, element.2, onward.2, on.5)) (n - element.0)
-      (omega (arith, element.1, element.2, onward.2, on.5)))
+      ∙ ends b on.0 on.1 onward.0 on.3 onward.1 (omega (arith, element.1, element.2, onward.2)) (n - element.0)
+      (omega (arith, element.1, element.2, onward.2)))
       element.3
 
 pub machines_end : (M : Type 0) → MachinesEnd M
 machines_end M step shown t x s closed follows shows start =
     let all = at_start t s start in
-    ends step shown t closed follows (commands t + s.apart) x s [] shows (good_start t s start) (omega (arith, all))
-    (commands t + s.apart) (omega (arith, all))
+    ends step shown t closed follows (commands t) x s [] shows (good_start t s start) (omega (arith, all))
+    (commands t) (omega (arith, all))

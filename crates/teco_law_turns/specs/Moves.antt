@@ -9,13 +9,11 @@ pub record OpenLoop : Type 0 where
   pub begin : ℕ
   pub more : Option ℕ
 
--- where a run stands: the node, what is held and ahead before it, how many steps may come that are not counted with the
--- nodes, and the open loops, the innermost first
+-- where a run stands: the node, what is held and ahead before it, and the open loops, the innermost first
 pub record State : Type 0 where
   pub node : ℕ
   pub held : ℕ
   pub ahead : ℕ
-  pub apart : ℕ
   pub opened : List OpenLoop
 
 -- what is still open at a node of loops that were open before: those that end before it are left, from the innermost on
@@ -84,13 +82,12 @@ pub data Move (t : Table) (s new : State) : Type 0 where
   Into : Enters t s new → Move t s new
   Back : Returns t s new → Move t s new
 
--- A run of some moves from a state takes n steps; it may stop within its last element. An element takes its own
--- steps, and those that are not counted may come on top, once in the run.
+-- a run of some moves from a state takes n steps; it may stop within its last element
 abbrev pub RunTakes : Table → ℕ → State → ℕ → Type 0
-RunTakes t zero s n = n ≤ t.own s.node + s.apart
+RunTakes t zero s n = n ≤ t.own s.node
 RunTakes t (suc moves) s n =
     (new : State) × (own : ℕ) × (rest : ℕ)
-    × Move t s new × (own + new.apart ≤ t.own s.node + s.apart) × RunTakes t moves new rest × (n ≡ own + rest)
+    × Move t s new × (own ≤ t.own s.node) × RunTakes t moves new rest × (n ≡ own + rest)
 
 -- a state at the first node, outside of all loops, within the most that the table has there
 pub record IsStart (t : Table) (s : State) : Type 0 where
@@ -102,8 +99,7 @@ pub record IsStart (t : Table) (s : State) : Type 0 where
   pub held : s.held ≤ t.held_most 0
   pub ahead : s.ahead ≤ t.ahead_most 0
 
--- in a closed table every run takes at most the printed number of steps, and those that are not counted
+-- in a closed table every run takes at most the printed number of steps
 abbrev pub RunsAreBounded : Type 0
 RunsAreBounded =
-    (t : Table) (s : State) (moves n : ℕ) → IsClosed t → IsStart t s → RunTakes t moves s n
-    → n ≤ commands t + s.apart
+    (t : Table) (s : State) (moves n : ℕ) → IsClosed t → IsStart t s → RunTakes t moves s n → n ≤ commands t

@@ -54,7 +54,7 @@ rising = record {
 }
 
 abbrev pub rising_start : State
-rising_start = record { node = 0; held = 2; ahead = 2; apart = 0; opened = [] }
+rising_start = record { node = 0; held = 2; ahead = 2; opened = [] }
 
 -- what a closed table says of a kept loop, but for the own fall
 pub record IsClosedButForFall (t : Table) (l : ℕ) : Type 0 where
@@ -122,7 +122,7 @@ grown = record {
 }
 
 abbrev pub grown_start : State
-grown_start = record { node = 0; held = 0; ahead = 0; apart = 0; opened = [] }
+grown_start = record { node = 0; held = 0; ahead = 0; opened = [] }
 
 -- what a closed table says of a loop, but for what it grows in a turn
 pub record IsClosedButForGrowth (t : Table) (l : ℕ) : Type 0 where

@@ -30,18 +30,11 @@ worked = record {
 }
 
 abbrev pub worked_start : State
-worked_start = record { node = 0; held = 2; ahead = 1; apart = 0; opened = [] }
+worked_start = record { node = 0; held = 2; ahead = 1; opened = [] }
 
 -- at the start of the first turn two more come
 abbrev pub worked_inside : State
-worked_inside =
-    record {
-      node = 1;
-      held = 2;
-      ahead = 1;
-      apart = 0;
-      opened = record { begin = 0; more = Some 2 } ∷ [];
-    }
+worked_inside = record { node = 1; held = 2; ahead = 1; opened = record { begin = 0; more = Some 2 } ∷ [] }
 
 -- eight steps are printed and taken, in seven moves and the last element; behind the first turn two more begin
 pub record WorkedIsTight : Type 0 where

@@ -73,7 +73,7 @@ const HIGH_FROM_HERE: Clause = Clause::Wants(-14, [(1, Of::Was(CODE_HERE)), NO, 
 
 const HIGH_TO_HERE: Clause = Clause::Wants(256, [(-1, Of::Was(CODE_HERE)), NO, NO, NO]);
 
-// So is that of the character before it.
+// The code of the character before the pointer, likewise.
 const GIVES_THERE: Clause = Clause::Sets(VALUE, -1, [(1, Of::Was(CODE_BEFORE)), NO, NO, NO]);
 
 const ENDS_FROM_THERE: Clause = Clause::Wants(-11, [(1, Of::Was(CODE_BEFORE)), NO, NO, NO]);

@@ -41,7 +41,7 @@ const READS: [Clause; 5] = [
     Clause::Wants(0, [(1, Of::Was(LINE_END)), (-1, PLACE), NO, NO]),
 ];
 
-// It has a character at least where a digit is at the pointer.
+// A number has a character at least where a digit is at the pointer.
 const READS_DIGIT: [Clause; 7] = [
     ANY_HERE,
     ANY_BEFORE,

@@ -1,9 +1,10 @@
 -- Lists by place.
 use Rattle.std.proofs.Common.{◌≡◌, ◌⊎◌, inl, inr, ℕ, zero, suc, ◌+◌, ◌<◌, ◌≤◌, refl, sym, ap, ◌∙◌, subst, arith}
-use Rattle.std.proofs.Common.{List, [], ◌∷◌, ◌++◌, map, length, Some, None, slice_get}
+use Rattle.std.proofs.Common.{Bool, true, false, List, [], ◌∷◌, ◌++◌, map, length, Some, None, slice_get}
 use Rattle.std.specs.Prelude.{slice_index_or}
 use Rattle.std.proofs.lemmas.Bool.{cases_order}
-use Rattle.std.specs.List.{All, Any}
+use Rattle.std.proofs.lemmas.List.Elements.{All-nil, All-cons}
+use Rattle.std.specs.List.{All, Any, items_where_true}
 use Rattle.teco_verifier.specs.expansion.Node.{Stand, Node, over, stand_of_node, stands, numbered}
 
 pub got : {X : Type 0} (xs : List X) (k : ℕ) → k < length xs → (x : X) × (slice_get xs k ≡ Some x)
@@ -161,3 +162,14 @@ all_joined P [] ys h g k d l = g k d l
 all_joined P (x ∷ xs) ys h g zero d l = h 0 d (omega arith)
 all_joined P (x ∷ xs) ys h g (suc k) d l =
     all_joined P xs ys (λ j e m. h (suc j) e (omega (arith, m))) g k d (omega (arith, l))
+
+-- what tests leave of a list has no other elements
+pub all_where_true : {X : Type 0} (P : X → Type 0) (tests : List Bool) (xs : List X) → All P xs
+    → All P (items_where_true tests xs)
+all_where_true P [] xs all = All-nil P
+all_where_true P (b ∷ tests) [] all = All-nil P
+all_where_true P (true ∷ tests) (x ∷ xs) all =
+    All-cons P x (items_where_true tests xs) (all 0 x (omega arith))
+    (all_where_true P tests xs (λ k d l. all (suc k) d (omega (arith, l))))
+all_where_true P (false ∷ tests) (x ∷ xs) all =
+    all_where_true P tests xs (λ k d l. all (suc k) d (omega (arith, l)))

@@ -21,6 +21,23 @@ struct Graph {
     edges: Vec<Edge>,
 }
 
+/// Whether a form bounds a difference, or is a number.
+pub fn is_difference(form: &Form) -> bool {
+    let mut above = 0usize;
+    let mut below = 0usize;
+    for term in form.terms() {
+        if Kind::of(term) == CONSTANT {
+            continue;
+        }
+        match term.coefficient {
+            1 => above = above.saturating_add(1),
+            -1 => below = below.saturating_add(1),
+            _ => return false,
+        }
+    }
+    above <= 1 && below <= 1
+}
+
 // What a form says, if it bounds a difference.
 fn edge_of(
     kinds: &mut Vec<Kind>,

@@ -8,6 +8,7 @@ use crate::course::Course;
 use crate::cut::{Cut, case_of, comes_to};
 use crate::fault::PathFault;
 use crate::halves::halves;
+use crate::light::lighter;
 use crate::sharp::sharpened;
 use crate::spot::Spot;
 use crate::steps::{behind, is_in_time, is_small};
@@ -38,8 +39,11 @@ fn is_arrived(course: &Course<'_>, spot: &Spot, cut: &Cut, alloc: Global) -> Res
         return Ok(false);
     }
     let is_claimed = comes_to(&spot.case, cut, alloc)?;
+    if !is_claimed {
+        return Ok(false);
+    }
     let is_timely = is_in_time(course, &spot.case, alloc)?;
-    Ok(is_claimed && is_timely)
+    Ok(is_timely)
 }
 
 // Whether it has come to one of the cut points.
@@ -81,14 +85,19 @@ fn spots_ahead(course: &Course<'_>, spot: &Spot, alloc: Global) -> Result<Vec<Sp
     behind(course, spot.number, &spot.case, alloc)
 }
 
-// The spots behind one, of whose case all is taken that is known.
+// The spots behind one, of whose case all is taken that is known, and no more than is of use.
 fn onward(course: &Course<'_>, spot: Spot, alloc: Global) -> Result<Vec<Spot>, PathFault>
     ensures { IfOk result (λ spots.
         All (LeadsOn course.now) spots.items → LeadsOn course.now spot) }
 {
     let Spot { number, case } = spot;
-    let case = sharpened(case, alloc)?;
-    spots_ahead(course, &Spot { number, case }, alloc)
+    let sharp = sharpened(case, alloc)?;
+    let light = lighter(sharp, alloc)?;
+    let spot = Spot {
+        number,
+        case: light,
+    };
+    spots_ahead(course, &spot, alloc)
 }
 
 // Follows all paths from some spots, to cut points and to the end.

@@ -15,6 +15,7 @@ mod halves;
 pub mod implied;
 mod kinds;
 pub mod laws;
+mod light;
 pub mod multipliers;
 pub mod outcomes;
 mod possible;

@@ -1,6 +1,6 @@
 //! Which multipliers show that constraints imply a form. Nothing is promised of what is found.
 
-use crate::chains::chain;
+use crate::chains::{chain, is_difference};
 use crate::fault::PathFault;
 use crate::kinds::{Kind, highest, highest_in, kinds_of};
 use crate::relevant::{near, relevant};
@@ -231,11 +231,42 @@ fn is_limit(constraint: &Form) -> bool {
         && term.coefficient.unsigned_abs() >= LIMITS)
 }
 
-// Which constraints programs are made of.
+// The constraints that say something, each once.
+fn distinct(
+    constraints: &[Form],
+    places: &[usize],
+    alloc: Global,
+) -> Result<Vec<usize>, PathFault> {
+    let mut left: Vec<usize> = Vec::new(alloc);
+    for place in places {
+        let Some(form) = constraints.get(*place) else {
+            continue;
+        };
+        let is_known = left.iter().any(|other| constraints
+            .get(*other)
+            .is_some_and(|known| known.terms() == form.terms()));
+        if !is_known && !form.is_harmless() {
+            left.push(*place)?;
+        }
+    }
+    Ok(left)
+}
+
+// Whether these constraints and the target bound differences alone: then there are no multipliers
+// where there is no chain.
+fn are_differences(constraints: &[Form], places: &[usize], target: &Form) -> bool {
+    is_difference(target)
+        && places.iter().all(|place| constraints
+            .get(*place)
+            .is_some_and(|form| is_difference(form)))
+}
+
+// Which constraints programs are made of, and whether a chain of differences would have been found.
 #[derive(Clone, Copy)]
 struct Reach {
     depth: Depth,
     has_limits: bool,
+    is_chained: bool,
 }
 
 impl Reach {
@@ -253,6 +284,25 @@ impl Reach {
     }
 }
 
+// The constraints that so many steps from the seeds lead to, or all that are connected with them.
+fn reached(
+    constraints: &[Form],
+    seeds: &[Form],
+    steps: usize,
+    reach: Reach,
+    alloc: Global,
+) -> Result<Vec<usize>, PathFault> {
+    let mut places = if steps < NEAR {
+        near(constraints, seeds, steps, alloc)?
+    } else {
+        relevant(constraints, seeds, alloc)?
+    };
+    places.retain(|place| constraints
+        .get(*place)
+        .is_some_and(|form| reach.takes(form)));
+    distinct(constraints, &places, alloc)
+}
+
 // By linear programs of more and more constraints: first of those that speak of the seeds' symbols
 // alone, and last, if that is wanted, of all that are connected with the seeds.
 fn by_steps(
@@ -264,20 +314,17 @@ fn by_steps(
 ) -> Result<Option<Found>, PathFault> {
     let mut tried = 0;
     for steps in 0..=reach.most() {
-        let mut places = if steps < NEAR {
-            near(constraints, seeds, steps, alloc)?
-        } else {
-            relevant(constraints, seeds, alloc)?
-        };
-        places.retain(|place| constraints
-            .get(*place)
-            .is_some_and(|form| reach.takes(form)));
-        if places.len() > tried {
-            tried = places.len();
-            let found = by_program(constraints, &places, target, alloc)?;
-            if found.is_some() {
-                return Ok(found);
-            }
+        let places = reached(constraints, seeds, steps, reach, alloc)?;
+        if places.len() <= tried {
+            continue;
+        }
+        tried = places.len();
+        if reach.is_chained && are_differences(constraints, &places, target) {
+            continue;
+        }
+        let found = by_program(constraints, &places, target, alloc)?;
+        if found.is_some() {
+            return Ok(found);
         }
     }
     Ok(None)
@@ -288,11 +335,14 @@ fn by_programs(
     constraints: &[Form],
     seeds: &[Form],
     target: &Form,
-    depth: Depth,
+    reach: Reach,
     alloc: Global,
 ) -> Result<Option<Found>, PathFault> {
     for has_limits in [false, true] {
-        let reach = Reach { depth, has_limits };
+        let reach = Reach {
+            has_limits,
+            ..reach
+        };
         let found = by_steps(constraints, seeds, target, reach, alloc)?;
         if found.is_some() {
             return Ok(found);
@@ -317,5 +367,11 @@ pub fn find(
     if let Some(found) = chain(constraints, &places, target, alloc)? {
         return Ok(Some(once(&found, alloc)?));
     }
-    by_programs(constraints, seeds, target, depth, alloc)
+    let below = Form::constant(-1, alloc)?;
+    let reach = Reach {
+        depth,
+        has_limits: false,
+        is_chained: chain(constraints, &places, &below, alloc)?.is_none(),
+    };
+    by_programs(constraints, seeds, target, reach, alloc)
 }

@@ -122,7 +122,12 @@ pub fn shapes(course: &Course<'_>, first: Case, alloc: Global) -> Result<Vec<Cut
             continue;
         }
         found.push(stand)?;
-        let outcomes = outcomes_behind(course, spot.number, &spot.case, alloc)?;
+        let outcomes = match outcomes_behind(course, spot.number, &spot.case, alloc) {
+            Ok(outcomes) => outcomes,
+            Err(PathFault::Memory) => return Err(PathFault::Memory),
+            // no shapes are known behind it
+            Err(_) => continue,
+        };
         let Outcomes {
             conditions: _conditions,
             guarded: _guarded,

@@ -1,5 +1,5 @@
 -- The codes of the characters at a place and before it.
-use Rattle.std.proofs.Common.{◌≡◌, ℕ, zero, suc, ◌+◌, ◌≤◌, ◌<◌, ◌==◌, ◌⊎◌, inl, inr, ◌∙◌, arith, refl, sym, ap, List}
+use Rattle.std.proofs.Common.{◌≡◌, ℕ, zero, suc, ◌+◌, ◌≤◌, ◌<◌, ◌==◌, ◌⊎◌, inl, inr, ◌∙◌, arith, refl, ap, List}
 use Rattle.std.proofs.Common.{ℤ, pos, [], ◌∷◌, length, get_or, Bool, true, false, if◌then◌else◌}
 use Rattle.std.proofs.lemmas.Bool.Decides.{nat_tests}
 use Rattle.teco_base.specs.Bytes.{is_line_end}

@@ -1,11 +1,11 @@
 -- What giving a value does to the measures.
 use Rattle.std.proofs.Common.{◌≡◌, ℕ, ℤ, pos, ◌+ℤ◌, ◌*ℤ◌, List, [], ◌∷◌, length, Some, None, Result, Ok, Err, unwrap_or}
-use Rattle.std.proofs.Common.{Option, false, ◌≤ℤ◌, ◌<◌}
+use Rattle.std.proofs.Common.{Option, false, ◌≤ℤ◌, ◌<◌, ◌≤◌, ◌+◌, ◌*◌, ◌/◌, neg_ℤ}
 use Rattle.std.proofs.Common.{slice_index_or, zero, suc, negsuc, ◌-ℤ◌, subst, refl, sym, ap, ◌∙◌, arith, FitsSigned}
-use Rattle.std.proofs.lemmas.Int.{ints, SFits-int_wrap, int_wrap_fits}
+use Rattle.std.proofs.lemmas.Int.{ints, SFits-int_wrap, int_wrap_fits, quot_fits}
 use Rattle.std.proofs.lemmas.Nat.{and_le_r}
 use Rattle.std.specs.Prelude.{int_div, IfOk}
-use Rattle.teco_base.specs.Arithmetic.{and, or}
+use Rattle.teco_base.specs.Arithmetic.{and, or, in_32_bits}
 use Rattle.teco_base.specs.declared.code.Code.{Code}
 use Rattle.teco_model.specs.declared.arguments.Operator.TheVariants.{Plus, Minus, Times, Over, And, Or}
 use Rattle.teco_linear.specs.Implied as linear
@@ -20,7 +20,8 @@ use Rattle.teco_rows.specs.declared.case.Case.{Case}
 use Rattle.teco_rows.specs.declared.levels.TheConstants.{GIVES, MASKS, WRAPS, STEP, VALUE, NO}
 use Rattle.teco_rows.specs.declared.row.Of.{Of}
 use Rattle.teco_rows.specs.declared.row.Of.TheVariants.{Given, Unknown}
-use Rattle.teco_rows.specs.declared.row.Clause.TheVariants.{Sets}
+use Rattle.teco_rows.specs.declared.row.Clause.{Clause}
+use Rattle.teco_rows.specs.declared.row.Clause.TheVariants.{Sets, Wants}
 use Rattle.teco_rows.specs.declared.measure.Single.TheVariants.{Steps, Pointer, Size, Held, LineEnd, LineStart}
 use Rattle.teco_rows.specs.declared.measure.Single.TheVariants.{LastLength, CodeHere, CodeBefore}
 use Rattle.teco_rows.specs.declared.measure.Family.TheVariants.{Number, Length, Turns, PushedNumber, PushedLength}
@@ -37,9 +38,73 @@ use Rattle.teco_rows.specs.Foretold.{Describe, Gives, IsAllowed, IsMaskOf, IsMas
 use Rattle.teco_rows.specs.Foretold.{Succeeds}
 use Rattle.teco_rows.specs.Foretold.{Values, Wraps, with_level, level_of, valued_at}
 use Rattle.teco_rows.specs.Foretold.{GivesAny, is_over}
+use Rattle.teco_rows.specs.Foretold.{AreTwo, Divides, IsBelowZero, IsDivided, IsDivisor, IsFromZero, Quotients}
 use Rattle.teco_rows.proofs.Pending.{level_at, level_same}
 use Rattle.teco_rows.proofs.Describing.{led_to, among}
 use Rattle.teco_model.specs.Checked.{◌>>=◌}
+
+-- The clauses where a number from 0 on is divided by another, and where one below 0 is. They have the divisor, what it
+-- is below 0, and one less than it.
+abbrev pub from_zero : ℤ → ℤ → ℤ → List Clause
+from_zero by minus less =
+    STEP ∷ Sets VALUE (pos 0) ((pos 1, Unknown 0) ∷ NO ∷ NO ∷ NO ∷ [])
+    ∷ Wants (pos 0) ((pos 1, Given 0) ∷ NO ∷ NO ∷ NO ∷ [])
+    ∷ Wants (pos 0) ((pos 1, Unknown 0) ∷ NO ∷ NO ∷ NO ∷ [])
+    ∷ Wants (pos 0) ((pos 1, Given 0) ∷ (minus, Unknown 0) ∷ NO ∷ NO ∷ [])
+    ∷ Wants less ((negsuc 0, Given 0) ∷ (by, Unknown 0) ∷ NO ∷ NO ∷ [])
+    ∷ []
+
+abbrev pub below_zero : ℤ → ℤ → ℤ → List Clause
+below_zero by minus less =
+    STEP ∷ Sets VALUE (pos 0) ((pos 1, Unknown 0) ∷ NO ∷ NO ∷ NO ∷ [])
+    ∷ Wants (negsuc 0) ((negsuc 0, Given 0) ∷ NO ∷ NO ∷ NO ∷ [])
+    ∷ Wants (pos 0) ((negsuc 0, Unknown 0) ∷ NO ∷ NO ∷ NO ∷ [])
+    ∷ Wants (pos 0) ((negsuc 0, Given 0) ∷ (by, Unknown 0) ∷ NO ∷ NO ∷ [])
+    ∷ Wants less ((pos 1, Given 0) ∷ (minus, Unknown 0) ∷ NO ∷ NO ∷ [])
+    ∷ []
+
+-- a quotient times the divisor is the dividend, but for less than the divisor
+parts : (a d : ℕ) → (suc d * (a / suc d) ≤ a) × (a ≤ suc d * (a / suc d) + d)
+parts a d = (omega arith, omega arith)
+
+times_back : (d m : ℕ) → pos (suc d) *ℤ neg_ℤ (pos m) ≡ neg_ℤ (pos (suc d * m))
+times_back d zero = omega (arith, ints)
+times_back d (suc m) = refl
+
+back_back : (d m : ℕ) → negsuc d *ℤ neg_ℤ (pos m) ≡ pos (suc d * m)
+back_back d zero = omega (arith, ints)
+back_back d (suc m) = refl
+
+down_by_parts : (a d m : ℕ) → suc d * m ≤ a → a ≤ suc d * m + d
+    → (pos 0 ≤ℤ pos m) × (pos 0 ≤ℤ (pos a +ℤ negsuc d *ℤ pos m))
+    × (pos 0 ≤ℤ (pos (suc d) -ℤ pos 1 +ℤ (pos (suc d) *ℤ pos m -ℤ pos a)))
+down_by_parts a d m low high =
+    (omega (arith, ints), omega (arith, ints, low, high), omega (arith, ints, low, high))
+
+up_by_parts : (a d m : ℕ) → suc d * m ≤ suc a → suc a ≤ suc d * m + d
+    → (neg_ℤ (pos m) ≤ℤ pos 0) × (pos 0 ≤ℤ (pos (suc d) *ℤ neg_ℤ (pos m) -ℤ negsuc a))
+    × (pos 0 ≤ℤ (pos (suc d) -ℤ pos 1 +ℤ (negsuc d *ℤ neg_ℤ (pos m) +ℤ negsuc a)))
+up_by_parts a d m low high = (
+  omega (arith, ints),
+  omega (arith, ints, low, high, times_back d m),
+  omega (arith, ints, low, high, back_back d m),
+)
+
+rounded_down : (x by q : ℤ) → pos 1 ≤ℤ by → pos 0 ≤ℤ x → q ≡ int_div x by
+    → (pos 0 ≤ℤ q) × (pos 0 ≤ℤ (x +ℤ neg_ℤ by *ℤ q)) × (pos 0 ≤ℤ (by -ℤ pos 1 +ℤ (by *ℤ q -ℤ x)))
+rounded_down (pos a) (pos (suc d)) q h sign e =
+    let p = parts a d in rw e (down_by_parts a d (a / suc d) p.0 p.1)
+rounded_down (pos a) (pos zero) q h sign e = absurd (omega (arith, ints))
+rounded_down (pos a) (negsuc d) q h sign e = absurd (omega (arith, ints))
+rounded_down (negsuc a) by q h sign e = absurd (omega (arith, ints))
+
+rounded_up : (x by q : ℤ) → pos 1 ≤ℤ by → x ≤ℤ negsuc 0 → q ≡ int_div x by
+    → (q ≤ℤ pos 0) × (pos 0 ≤ℤ (by *ℤ q -ℤ x)) × (pos 0 ≤ℤ (by -ℤ pos 1 +ℤ (neg_ℤ by *ℤ q +ℤ x)))
+rounded_up (negsuc a) (pos (suc d)) q h sign e =
+    let p = parts (suc a) d in rw e (up_by_parts a d (suc a / suc d) p.0 p.1)
+rounded_up (negsuc a) (pos zero) q h sign e = absurd (omega (arith, ints))
+rounded_up (negsuc a) (negsuc d) q h sign e = absurd (omega (arith, ints))
+rounded_up (pos a) by q h sign e = absurd (omega (arith, ints))
 
 -- with another value at the innermost level, the measures are as before but for that and the steps
 module _ (s : Point) (level : Level) (here : Places) (given unknown : ℕ
@@ -95,6 +160,33 @@ module _ (s : Point) (level : Level) (here : Places) (given unknown : ℕ
     becomes = becomes x (Unknown 0) worth (sym e);
   }
 
+  -- a number is divided by another, rounded toward zero
+  pub from_zero_holds : (by : ℤ) → level.value ≡ Some (unknown 0) → pos 1 ≤ℤ by → pos 0 ≤ℤ given 0
+      → unknown 0 ≡ int_div (given 0) by
+      → Holds (from_zero by (neg_ℤ by) (by -ℤ pos 1))
+      (record { here = here; measures = measures_of s; given = given; unknown = unknown })
+      (measures_of (behind s (with_level s level)))
+  unfolding before
+  from_zero_holds by worth least sign e =
+      let r = rounded_down (given 0) by (unknown 0) least sign e in
+      record {
+        met = (omega (arith, ints), (omega (arith, ints), (omega (arith, ints), (omega (arith, ints), tt))));
+        becomes = becomes (unknown 0) (Unknown 0) worth refl;
+      }
+
+  pub below_zero_holds : (by : ℤ) → level.value ≡ Some (unknown 0) → pos 1 ≤ℤ by → given 0 ≤ℤ negsuc 0
+      → unknown 0 ≡ int_div (given 0) by
+      → Holds (below_zero by (neg_ℤ by) (by -ℤ pos 1))
+      (record { here = here; measures = measures_of s; given = given; unknown = unknown })
+      (measures_of (behind s (with_level s level)))
+  unfolding before
+  below_zero_holds by worth least sign e =
+      let r = rounded_up (given 0) by (unknown 0) least sign e in
+      record {
+        met = (omega (arith, ints), (omega (arith, ints), (omega (arith, ints), (omega (arith, ints), tt))));
+        becomes = becomes (unknown 0) (Unknown 0) worth refl;
+      }
+
 pub is_valued : (case after : Case) (step : Step) → step.clauses.now ≡ GIVES
     → ((s : Point) → IsShape case.shape s → step.here.level ≡ length s.arguments.outer) → IsLed case step None after
     → IsValued case (slice_index_or step.given.now 0 []) after
@@ -123,6 +215,36 @@ is_masked case after step row at led n v s x true_of least most =
     let holds = masks_holds s (level_of s x) step.here b.given b.unknown shape refl x refl refl least most in
     led_to n v case after step s (level_of s x) b.unknown led true_of
     (subst (λ r. Holds r b (measures_of (valued_at s x))) (sym row) holds)
+
+pub is_from_zero : (case after : Case) (step : Step) (by times minus less : ℤ) → IsLed case step None after
+    → step.clauses.now ≡ from_zero times minus less → times ≡ by → minus ≡ neg_ℤ by → less ≡ by -ℤ pos 1 → IsDivisor by
+    → ((s : Point) → IsShape case.shape s → step.here.level ≡ length s.arguments.outer)
+    → IsDivided IsFromZero by case (slice_index_or step.given.now 0 []) after
+is_from_zero case after step by times minus less led row same negated below divisor at n v s true_of sign =
+    let x = int_div (value (slice_index_or step.given.now 0 []) n v) by in
+    let b = read_with step n v (measures_of s) (λ i. x) in
+    let shape = at s true_of.shape in
+    let least = divisor.least in
+    let holds = from_zero_holds s (level_of s x) step.here b.given b.unknown shape refl by refl least sign refl in
+    let numbers = row ∙ ap (λ k. from_zero k minus less) same ∙ ap (λ k. from_zero by k less) negated
+    ∙ ap (λ k. from_zero by (neg_ℤ by) k) below in
+    led_to n v case after step s (level_of s x) b.unknown led true_of
+    (subst (λ r. Holds r b (measures_of (valued_at s x))) (sym numbers) holds)
+
+pub is_below_zero : (case after : Case) (step : Step) (by times minus less : ℤ) → IsLed case step None after
+    → step.clauses.now ≡ below_zero times minus less → times ≡ by → minus ≡ neg_ℤ by → less ≡ by -ℤ pos 1 → IsDivisor by
+    → ((s : Point) → IsShape case.shape s → step.here.level ≡ length s.arguments.outer)
+    → IsDivided IsBelowZero by case (slice_index_or step.given.now 0 []) after
+is_below_zero case after step by times minus less led row same negated below divisor at n v s true_of sign =
+    let x = int_div (value (slice_index_or step.given.now 0 []) n v) by in
+    let b = read_with step n v (measures_of s) (λ i. x) in
+    let shape = at s true_of.shape in
+    let least = divisor.least in
+    let holds = below_zero_holds s (level_of s x) step.here b.given b.unknown shape refl by refl least sign refl in
+    let numbers = row ∙ ap (λ k. below_zero k minus less) same ∙ ap (λ k. below_zero by k less) negated
+    ∙ ap (λ k. below_zero by (neg_ℤ by) k) below in
+    led_to n v case after step s (level_of s x) b.unknown led true_of
+    (subst (λ r. Holds r b (measures_of (valued_at s x))) (sym numbers) holds)
 
 -- ---- what an operator makes
 pub result_fits : (operator : Operator) (x y z : ℤ) → result_of operator x y ≡ Ok z → FitsSigned w32 z
@@ -204,6 +326,48 @@ gives_made case left number form operator all waits left_is makes values n v s b
       operator =
           None;
     }))) made))
+    r.1
+
+-- a quotient by a known number
+pub quotients_two : (case first second : Case) (form : List Term) (by : ℤ) (conditions : List (List Term))
+    (all : Outcomes)
+    → ((n : ℕ) (v : Valuation) → All (linear.Holds n v) conditions → FitsSigned w32 (value form n v))
+    → IsDivided IsFromZero by case form first → IsDivided IsBelowZero by case form second
+    → AreTwo conditions first second all → Quotients form by case all
+quotients_two case first second form by conditions all fits up down two n v s begins = (
+  fits n v (subst (All (linear.Holds n v)) two.conditions begins.conditions),
+  signed (value form n v) refl,
+) where
+  signed : (x : ℤ) → x ≡ value form n v → Describe n all (valued_at s (int_div (value form n v) by))
+  signed (pos a) e =
+      among n all first [] (second ∷ []) _ two.cases
+      (up n v s begins.true_of (subst IsFromZero e (omega (arith, ints))))
+  signed (negsuc a) e =
+      among n all second (first ∷ []) [] _ two.cases
+      (down n v s begins.true_of (subst IsBelowZero e (omega (arith, ints))))
+
+over : (x y : ℤ) → pos 1 ≤ℤ y → result_of Over x y ≡ Ok (in_32_bits (int_div x y))
+over x (pos zero) h = absurd (omega (arith, ints))
+over x (pos (suc n)) h = refl
+over x (negsuc n) h = absurd (omega (arith, ints))
+
+pub gives_quotient : (case : Case) (left number : List Term) (by : ℤ) (operator : Operator) (all : Outcomes)
+    → WaitsFor (Some operator) case
+    → ((n : ℕ) (v : Valuation) (s : Point) → IsTrueOf n v case s
+    → value left n v ≡ unwrap_or s.arguments.level.value (pos 0))
+    → Divides operator number by → Quotients left by case all → Gives number case all
+gives_quotient case left number by operator all waits left_is divides quotients n v s begins =
+    let r = quotients n v s begins in
+    let least = divides.divisor.least in
+    let fits = quot_fits w32 (value left n v) by r.0 (omega (arith, ints)) in
+    let made = ap (λ o. result_of o (unwrap_or s.arguments.level.value (pos 0)) (value number n v)) divides.takes
+    ∙ ap (λ x. result_of Over x (value number n v)) (sym (left_is n v s begins.true_of))
+    ∙ ap (λ y. result_of Over (value left n v) y) (divides.is n v)
+    ∙ over (value left n v) by least
+    ∙ ap Ok (int_wrap_fits w32 (int_div (value left n v) by) fits) in
+    subst (Succeeds (λ l. Describe n all (behind s (with_level s l))))
+    (sym (given_to s.arguments.level operator (value number n v) (waits s begins.true_of.shape)
+    ∙ ap (λ z. z >>= (λ given. Ok (level_of s given))) made))
     r.1
 
 pub gives_wrapped : (case : Case) (number : List Term) (operator : Operator) (all : Outcomes)

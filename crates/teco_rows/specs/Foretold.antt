@@ -1,6 +1,6 @@
 -- What outcomes foretell.
 use Rattle.std.specs.Prelude.{◌≡◌, ℕ, ℤ, pos, ◌≤ℤ◌, ⊤, Bool, true, false, List, [], ◌∷◌, Option, Some, None, Result}
-use Rattle.std.specs.Prelude.{Ok, Err, FitsSigned}
+use Rattle.std.specs.Prelude.{Ok, Err, FitsSigned, int_div, negsuc}
 use Rattle.std.specs.Int.{w32}
 use Rattle.std.specs.List.{All, Any}
 use Rattle.teco_base.specs.declared.code.Code.{Code}
@@ -119,10 +119,48 @@ pub record IsMaskOf (operator : Operator) (form : List Term) : Type 0 where
   pub least : (n : ℕ) (v : Valuation) → pos 0 ≤ℤ value form n v
   pub most : (n : ℕ) (v : Valuation) → value form n v ≤ℤ pos 2147483647
 
+-- a number that may be divided by, and is not great
+pub record IsDivisor (by : ℤ) : Type 0 where
+  pub least : pos 1 ≤ℤ by
+  pub most : by ≤ℤ pos 16777216
+
+-- a form is such a number, by which an operator divides
+pub record Divides (operator : Operator) (form : List Term) (by : ℤ) : Type 0 where
+  pub takes : operator ≡ Over
+  pub divisor : IsDivisor by
+  pub is : (n : ℕ) (v : Valuation) → value form n v ≡ by
+
+-- the two signs of what is divided
+abbrev pub IsFromZero : ℤ → Type 0
+IsFromZero x = pos 0 ≤ℤ x
+
+abbrev pub IsBelowZero : ℤ → Type 0
+IsBelowZero x = x ≤ℤ negsuc 0
+
+-- a case describes the state behind where the value is the quotient of a form that has a sign
+abbrev pub IsDivided : (ℤ → Type 0) → ℤ → Case → List Term → Case → Type 0
+IsDivided HasSign by case form after =
+    (n : ℕ) (v : Valuation) (s : Point)
+    → IsTrueOf n v case s → HasSign (value form n v)
+    → Describes n after (valued_at s (int_div (value form n v) by))
+
+-- Where a form fits, one of the cases describes the state behind where its quotient is the value; it fits by the
+-- conditions.
+abbrev pub Quotients : List Term → ℤ → Case → Outcomes → Type 0
+Quotients form by case outcomes =
+    (n : ℕ) (v : Valuation) (s : Point)
+    → Begins n v case outcomes s
+    → FitsSigned w32 (value form n v) × Describe n outcomes (valued_at s (int_div (value form n v) by))
+
 -- there is one case
 pub record IsOne (wanted : List (List Term)) (case : Case) (all : Outcomes) : Type 0 where
   pub conditions : all.conditions.items ≡ wanted
   pub cases : all.cases.items ≡ case ∷ []
+
+-- there are two cases
+pub record AreTwo (wanted : List (List Term)) (first second : Case) (all : Outcomes) : Type 0 where
+  pub conditions : all.conditions.items ≡ wanted
+  pub cases : all.cases.items ≡ first ∷ second ∷ []
 
 -- Where a form fits, one of the cases describes the state behind where it is the value; it fits by the conditions.
 abbrev pub Values : List Term → Case → Outcomes → Type 0

@@ -8,6 +8,7 @@ ghost use Rattle.teco_linear.specs.Implied.{Holds};
 ghost use Rattle.teco_rows.specs.Cases.{value_if};
 ghost use Rattle.teco_rows.specs.Foretold.{Gives, IsAllowed, IsOne, IsValued, IsWrapped, Makes, Values, Wraps};
 ghost use Rattle.teco_rows.specs.Foretold.{GivesAny, IsMaskOf, IsMasked, is_over};
+ghost use Rattle.teco_rows.specs.Foretold.{AreTwo, Divides, IsBelowZero, IsDivided, IsDivisor, IsFromZero, Quotients};
 ghost use Rattle.teco_rows.specs.States.{Point, IsShape, IsTrueOf, IsLast, IsLed, WaitsFor, each, single};
 ghost use Rattle.teco_rows.specs.States.{measures_of};
 
@@ -124,6 +125,21 @@ pub fn one(case: Case, conditions: Vec<Form>, alloc: Global) -> Result<Outcomes,
 {
     let mut cases = Vec::new(alloc);
     cases.push(case)?;
+    Ok(Outcomes {
+        conditions,
+        guarded: Vec::new(alloc),
+        cases,
+        away: Vec::new(alloc),
+    })
+}
+
+// What comes of an element where one of two cases does.
+fn two(first: Case, second: Case, conditions: Vec<Form>, alloc: Global) -> Result<Outcomes, Fault>
+    ensures { IfOk result (λ all. AreTwo conditions.items first second all) }
+{
+    let mut cases = Vec::new(alloc);
+    cases.push(first)?;
+    cases.push(second)?;
     Ok(Outcomes {
         conditions,
         guarded: Vec::new(alloc),
@@ -281,6 +297,78 @@ fn give_wrapped(
     one(after, conditions, alloc)
 }
 
+// The case where that value is the quotient of a form from 0 on by a number.
+fn divided_from_zero(case: &Case, dividend: &[Form], by: i64, alloc: Global) -> Result<Case, Fault>
+    requires { IsDivisor by }
+    ensures { IfOk result (λ after.
+        IsDivided IsFromZero by case.now (slice_index_or dividend.now 0 []) after) }
+{
+    let clauses = [
+        STEP,
+        Clause::Sets(VALUE, 0, [(1, Of::Unknown(0)), NO, NO, NO]),
+        Clause::Wants(0, [(1, Of::Given(0)), NO, NO, NO]),
+        Clause::Wants(0, [(1, Of::Unknown(0)), NO, NO, NO]),
+        Clause::Wants(0, [(1, Of::Given(0)), (-by, Of::Unknown(0)), NO, NO]),
+        Clause::Wants(by - 1, [(-1, Of::Given(0)), (by, Of::Unknown(0)), NO, NO]),
+    ];
+    let step = Step {
+        clauses: &clauses,
+        here: at_level(case)?,
+        given: dividend,
+        unknowns: 1,
+    };
+    led(case, &step, None, alloc)
+}
+
+// And where it is that of a form below 0, which is rounded up.
+fn divided_below_zero(case: &Case, dividend: &[Form], by: i64, alloc: Global) -> Result<Case, Fault>
+    requires { IsDivisor by }
+    ensures { IfOk result (λ after.
+        IsDivided IsBelowZero by case.now (slice_index_or dividend.now 0 []) after) }
+{
+    let clauses = [
+        STEP,
+        Clause::Sets(VALUE, 0, [(1, Of::Unknown(0)), NO, NO, NO]),
+        Clause::Wants(-1, [(-1, Of::Given(0)), NO, NO, NO]),
+        Clause::Wants(0, [(-1, Of::Unknown(0)), NO, NO, NO]),
+        Clause::Wants(0, [(-1, Of::Given(0)), (by, Of::Unknown(0)), NO, NO]),
+        Clause::Wants(by - 1, [(1, Of::Given(0)), (-by, Of::Unknown(0)), NO, NO]),
+    ];
+    let step = Step {
+        clauses: &clauses,
+        here: at_level(case)?,
+        given: dividend,
+        unknowns: 1,
+    };
+    led(case, &step, None, alloc)
+}
+
+// The number that is divided by, if that is known, from 1 on, and not great.
+fn known_divisor(operator: Operator, number: &Form) -> Option<i64>
+    ensures { IfSome result (λ by. Divides operator number.now by) }
+{
+    let Operator::Over = operator else {
+        return None;
+    };
+    let by = known(number)?;
+    if by >= 1 && by <= 1 << 24 {
+        return Some(by as i64);
+    }
+    None
+}
+
+// A form that fits 32 bits is divided by a number: the quotient is rounded toward zero.
+fn give_quotient(case: &Case, left: Form, by: i64, alloc: Global) -> Result<Outcomes, Fault>
+    requires { IsDivisor by }
+    ensures { IfOk result (λ all. Quotients left by case.now all) }
+{
+    let conditions = within_32_bits(&left, alloc)?;
+    let dividend = [left];
+    let from_zero = divided_from_zero(case, &dividend, by, alloc)?;
+    let below_zero = divided_below_zero(case, &dividend, by, alloc)?;
+    two(from_zero, below_zero, conditions, alloc)
+}
+
 // A number is given where nothing waits.
 fn give_alone(case: &Case, number: Form, alloc: Global) -> Result<Outcomes, Fault>
     requires { WaitsFor None case.now }
@@ -305,6 +393,9 @@ fn give_to(
         return give_wrapped(case, operator, number, alloc);
     }
     let left = left_value(case, alloc)?;
+    if let Some(by) = known_divisor(operator, number) {
+        return give_quotient(case, left, by, alloc);
+    }
     match made(&left, operator, number, alloc)? {
         Some(form) => give_made(case, form, alloc),
         None => give_wrapped(case, operator, number, alloc),
@@ -312,7 +403,8 @@ fn give_to(
 }
 
 /// A number is given. What a waiting operator makes of it is a form if that is one, and is taken
-/// to fit 32 bits, unless it `may_wrap`; else it is some number of 32 bits.
+/// to fit 32 bits, unless it `may_wrap`. Of a division by a known number the quotient is bounded,
+/// where what is divided fits 32 bits. Else it is some number of 32 bits.
 pub fn give(case: &Case, number: Form, may_wrap: bool, alloc: Global) -> Result<Outcomes, Fault>
     ensures { IfOk result (λ all. Gives number case.now all) }
 {

@@ -1,6 +1,7 @@
 -- Lemmas of searches and pages.
 pub mod Parting
 pub mod Matching
+pub mod Ending
 pub mod Searching
 pub mod Seeking
 pub mod Paging

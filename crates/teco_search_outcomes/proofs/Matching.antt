@@ -56,7 +56,7 @@ match_lies (i ∷ items) text span m =
     let turn = turn_lies (i ∷ items) text span.start span.end (omega arith) m in
     record { some = omega arith; long = turn.0; within = turn.1 }
 
-in_turn : (items : List Item) (text : List ℕ) (span : Span) → IsMatch items text span
+pub in_turn : (items : List Item) (text : List ℕ) (span : Span) → IsMatch items text span
     → InTurn items text span.start span.end
 in_turn [] text span m = absurd m
 in_turn (i ∷ items) text span m = m
@@ -211,7 +211,7 @@ class_closes exact (class.EitherCase b) h = absurd h
 class_closes exact class.Any h = absurd h
 class_closes exact class.Separator h = absurd h
 
-turn_split : (a b : List Item) (text : List ℕ) (at end : ℕ) → InTurn (a ++ b) text at end
+pub turn_split : (a b : List Item) (text : List ℕ) (at end : ℕ) → InTurn (a ++ b) text at end
     → (middle : ℕ) × InTurn a text at middle × InTurn b text middle end
 turn_split [] b text at end m = (at, refl, m)
 turn_split (i ∷ a) b text at end m =

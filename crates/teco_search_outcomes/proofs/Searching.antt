@@ -3,7 +3,7 @@ use Rattle.std.proofs.Common.{◌≡◌, ℕ, zero, suc, ◌+◌, ◌-◌, ◌<�
 use Rattle.std.proofs.Common.{Bool, true, false, Option, Some, if◌then◌else◌, slice_get, slice_index_or, take, drop}
 use Rattle.std.proofs.Common.{refl, sym, ap, subst, ◌∙◌, arith, ◌-ℤ◌}
 use Rattle.std.proofs.lemmas.Int.{ints}
-use Rattle.std.proofs.lemmas.List.{append_assoc}
+use Rattle.std.proofs.lemmas.List.{append-nil, append_assoc}
 use Rattle.std.specs.List.{All}
 use Rattle.teco_base.specs.Lines.{line_place}
 use Rattle.teco_base.specs.Text.{text_after_replacement}
@@ -28,16 +28,19 @@ use Rattle.teco_rows.specs.declared.row.Clause.{Clause}
 use Rattle.teco_rows.specs.declared.row.Clause.TheVariants.{Sets, Drops, Wants}
 use Rattle.teco_rows.specs.declared.row.Places.{Places}
 use Rattle.teco_rows.specs.Rows.{AreMet, Before, changed}
-use Rattle.teco_rows.specs.States.{Point, IsTrueOf, from_end, length_of, measures_of, code_here, code_before}
+use Rattle.teco_rows.specs.States.{Point, IsTrueOf, from_end, length_of, measures_of, code_here, code_before, single}
 use Rattle.teco_rows.specs.States.{number_of}
 use Rattle.teco_search_outcomes.specs.declared.searches.Direction.{Direction}
 use Rattle.teco_search_outcomes.specs.declared.searches.Direction.TheVariants.{Ahead, Back, Here}
 use Rattle.teco_search_outcomes.specs.declared.searches.Known.{Known}
 use Rattle.teco_search_outcomes.specs.declared.searches.TheConstants.{EXACT, FOUND, LIES, NEW_LINE}
+use Rattle.teco_search_outcomes.specs.declared.searches.TheConstants.{ENDS_IN, ENDS_WITH, LATER}
+use Rattle.teco_search_outcomes.specs.declared.patterns.Codes.{Codes}
 use Rattle.teco_search_outcomes.specs.declared.searches.TheConstants.{OTHER_LINE, REPLACED, SAME_LINE, STARTED}
-use Rattle.teco_search_outcomes.specs.Patterns.{IsLong, IsSingle}
+use Rattle.teco_search_outcomes.specs.Patterns.{IsLong, IsSingle, EndsIn}
 use Rattle.teco_command_outcomes.specs.Changes.{Changes, IsChangedFrom, read_given, with_kept}
 use Rattle.teco_search_outcomes.specs.Searches.{HasFound, HasReplaced, IsFoundBy, IsKnown}
+use Rattle.teco_search_outcomes.specs.Searches.{BeginsLater}
 use Rattle.teco_search_outcomes.specs.Searches.{IsMissed, IsMissedPlace, IsReplacedBy, LiesTo, HasRoom}
 use Rattle.teco_search_outcomes.specs.Searches.{direction_clauses, extra_clauses}
 use Rattle.teco_rows.proofs.Characters.{with_codes}
@@ -304,11 +307,51 @@ module _ (text new : List ℕ) (a b : ℕ) (ordered : a ≤ b) (inside : b ≤ l
 abbrev given_by : List (List Term) → ℕ → Valuation → ℕ → ℤ
 given_by forms n v i = value (slice_index_or forms i []) n v
 
-pub finds : (case made : Case) (parts : List Part) (direction : Direction) (known : Known) (least : List Term)
-    (row more : List Clause) → IsKnown parts direction known → more ≡ extra_clauses known → row ≡ FOUND ++ more
-    → IsLong parts case least → IsChangedFrom case row (least ∷ []) made → IsFoundBy parts direction case made
-finds case made parts direction known least row more is extra row_is long changes n v s span kept true_of whole of
-    found =
+-- a row that sets the code before the pointer to what it is
+ends_with : (row : List Clause) (b : Before) (s t : Point) → b.given 1 ≡ pos (single t CodeBefore) → Changes row b s t
+    → Changes (row ++ ENDS_WITH) b s t
+ends_with row b s t is c = record {
+  met = met_both row ENDS_WITH b c.met tt;
+  becomes = λ m.
+      set m (changed row b m (measures_of s m)) (c.becomes m)
+      ∙ sym (changed-append row ENDS_WITH b m (measures_of s m));
+  pushes = c.pushes;
+} where
+  set : (m : Measure) (x : Option ℤ) → measures_of t m ≡ x → measures_of t m ≡ changed ENDS_WITH b m x
+  set (One Steps) x e = e
+  set (One Pointer) x e = e
+  set (One Size) x e = e
+  set (One Held) x e = e
+  set (One LineEnd) x e = e
+  set (One LineStart) x e = e
+  set (One LastLength) x e = e
+  set (One CodeHere) x e = e
+  set (One CodeBefore) x e = ap Some (omega (arith, ints, is))
+  set (Each family i) x e = e
+
+ends_if : (so : Bool) (row : List Clause) (b : Before) (s t : Point)
+    → (so ≡ true → b.given 1 ≡ pos (single t CodeBefore)) → Changes row b s t
+    → Changes (row ++ (if so then ENDS_WITH else [])) b s t
+ends_if true row b s t is c = ends_with row b s t (is refl) c
+ends_if false row b s t is c = subst (λ r. Changes r b s t) (sym (append-nil row)) c
+
+-- what is known of the characters that a match begins and ends with
+pub record HasCodes (parts : List Part) (direction : Direction) (case : Case) (codes : Codes) (exactly later : Bool)
+    (from to : List Term) : Type 0 where
+  pub ends : EndsIn parts codes
+  pub alone : exactly ≡ true → codes.least ≡ codes.most
+  pub begins : later ≡ true → BeginsLater parts direction case
+  pub from_is : (n : ℕ) (v : Valuation) → value from n v ≡ pos codes.least
+  pub to_is : (n : ℕ) (v : Valuation) → value to n v ≡ pos codes.most
+
+pub finds : (case made : Case) (parts : List Part) (direction : Direction) (known : Known) (codes : Codes)
+    (exactly later : Bool) (least from to : List Term) (row more : List Clause) → IsKnown parts direction known
+    → HasCodes parts direction case codes exactly later from to → more ≡ extra_clauses known
+    → row ≡ (((FOUND ++ more) ++ (if exactly then ENDS_WITH else [])) ++ ENDS_IN) ++ (if later then LATER else [])
+    → IsLong parts case least → IsChangedFrom case row (least ∷ from ∷ to ∷ []) made
+    → IsFoundBy parts direction case made
+finds case made parts direction known codes exactly later least from to row more is has extra row_is long changes n v s
+    span kept true_of whole of found =
     let items = items_in s.kept.registers of.exact parts in
     let lies = match_lies items s.kept.text span of.matches in
     let end = line_end s.kept.text span.end lies.within in
@@ -330,17 +373,31 @@ finds case made parts direction known least row more is extra row_is long change
           goes_on s.kept.text span.start span.end t begin
           (λ k a b. match_stays s.kept.registers of.exact parts s.kept.text span k (is.stays so) of.matches a b);
     } in
-    changes_plainly case made row (least ∷ []) changes n v s kept s.unread
-    (with_codes kept.text kept.pointer (numbers span e t)) true_of (λ here.
-    subst (λ r. Changes r (read_given (least ∷ []) n v s (with_codes kept.text kept.pointer (numbers span e t)) here) s
-    (with_kept s kept))
-    (sym (row_is ∙ ap (λ r. FOUND ++ r) extra))
-    (changes_more FOUND (extra_clauses known) _ s kept (wants_extras known)
-    (met_extras s span known (length items) e t (given_by (least ∷ []) n v) here facts
+    let given = least ∷ from ∷ to ∷ [] in
+    let unknown = with_codes kept.text kept.pointer (numbers span e t) in
+    let code = has.ends s.kept.registers of.exact s.kept.text span whole.bytes of.matches in
+    let same : code_before kept.text kept.pointer ≡ code_before s.kept.text span.end =
+    ap (λ x. code_before x kept.pointer) found.text ∙ ap (code_before s.kept.text) found.pointer in
+    changes_plainly case made row given changes n v s kept s.unread unknown true_of (λ here.
+    let b = read_given given n v s unknown here in
+    subst (λ r. Changes r b s (with_kept s kept))
+    (sym (row_is ∙ ap (λ r. (((FOUND ++ r) ++ (if exactly then ENDS_WITH else [])) ++ ENDS_IN)
+    ++ (if later then LATER else [])) extra))
+    (changes_more (((FOUND ++ extra_clauses known) ++ (if exactly then ENDS_WITH else [])) ++ ENDS_IN)
+    (if later then LATER else []) b s kept (wants_if later LATER refl)
+    (met_if later LATER b (λ so. (omega (arith, ints, has.begins so n v s span true_of whole of), tt))) refl
+    (changes_more ((FOUND ++ extra_clauses known) ++ (if exactly then ENDS_WITH else [])) ENDS_IN b s kept refl (
+      omega (arith, ints, same, code.least, has.from_is n v),
+      (omega (arith, ints, same, code.most, has.to_is n v), tt),
+    ) refl
+    (ends_if exactly (FOUND ++ extra_clauses known) b s (with_kept s kept)
+    (λ so. omega (arith, ints, same, code.least, code.most, has.alone so, has.from_is n v))
+    (changes_more FOUND (extra_clauses known) b s kept (wants_extras known)
+    (met_extras s span known (length items) e t (given_by given n v) here facts
     (long of.exact n v s true_of whole) kept)
     refl
-    (found_changes s span known (length items) e t (given_by (least ∷ []) n v) here facts
-    (long of.exact n v s true_of whole) kept found refl refl begin.before)))
+    (found_changes s span known (length items) e t (given_by given n v) here facts
+    (long of.exact n v s true_of whole) kept found refl refl begin.before))))))
 
 -- What is so of a text in the stead of a match: where its last line starts in it, if more is said, or it ends no line.
 pub record IsInStead (known : Known) (more : Bool) (text : List ℕ) : Type 0 where

@@ -96,6 +96,12 @@ pub record IsOf (parts : List Part) (direction : Direction) (kept : Kept) (span 
   pub matches : IsMatch (flat_map (items_of kept.registers exact) parts) kept.text span
   pub lies : LiesTo direction kept.pointer span
 
+-- no match of parts begins at the pointer
+abbrev pub BeginsLater : List Part → Direction → Case → Type 0
+BeginsLater parts direction case =
+    (n : ℕ) (v : Valuation) (s : Point) (span : Span)
+    → IsTrueOf n v case s → IsWhole s.kept → IsOf parts direction s.kept span → s.kept.pointer < span.start
+
 -- S keeps this
 pub record HasFound (span : Span) (old new : Kept) : Type 0 where
   pub text : new.text ≡ old.text

@@ -4,12 +4,14 @@ ghost use Rattle.std.specs.List.{All};
 ghost use Rattle.teco_linear.specs.Form.{Valuation, value};
 ghost use Rattle.teco_model.specs.Pattern as model;
 ghost use Rattle.teco_model.specs.laws.Whole.{IsWhole};
-ghost use Rattle.teco_search_outcomes.specs.Patterns.{EndsLine, IsLong, IsSingle, StaysInLine};
+ghost use Rattle.teco_search_outcomes.specs.Patterns.{AreCodes, AreCodesOf, BeginsIn, EndsIn, EndsLine, IsLong};
+ghost use Rattle.teco_search_outcomes.specs.Patterns.{IsSingle, StaysInLine};
+ghost use Rattle.teco_model.specs.declared.pattern.Class.TheVariants.{Literal};
 ghost use Rattle.teco_rows.specs.States.{Point, IsTrueOf};
 
 use std::alloc::Global;
 use teco_base::Reg;
-use teco_base::bytes::{control, to_upper};
+use teco_base::bytes::{control, is_letter, to_upper};
 use teco_linear::Form;
 use teco_model::pattern::{Class, Item, Part};
 use teco_rows::case::Case;
@@ -213,5 +215,104 @@ pub fn end_line(parts: &[Part]) -> bool
             _ => false,
         },
         _ => false,
+    }
+}
+
+/// From which number to which one more than the code of a character is.
+#[derive(Clone, Copy)]
+pub struct Codes {
+    pub least: u32,
+    pub most: u32,
+}
+
+const ANY: Codes = Codes {
+    least: 1,
+    most: 256,
+};
+
+// That of a literal, in either case.
+fn literal_codes(b: u8) -> Codes
+    ensures { AreCodesOf (Literal b) result }
+{
+    let upper = u32::from(to_upper(b));
+    let code = u32::from(b) + 1;
+    if is_letter(b) {
+        Codes {
+            least: upper + 1,
+            most: upper + 33,
+        }
+    } else {
+        Codes {
+            least: code,
+            most: code,
+        }
+    }
+}
+
+// And of a character of a class,
+fn class_codes(class: Class) -> Codes
+    ensures { AreCodesOf class result }
+{
+    match class {
+        Class::Literal(b) => literal_codes(b),
+        Class::LineEnd => Codes {
+            least: 11,
+            most: 13,
+        },
+        Class::Digit => Codes {
+            least: 49,
+            most: 58,
+        },
+        Class::Letter => Codes {
+            least: 66,
+            most: 123,
+        },
+        Class::Upper => Codes {
+            least: 66,
+            most: 91,
+        },
+        Class::Lower => Codes {
+            least: 98,
+            most: 123,
+        },
+        Class::LetterOrDigit => Codes {
+            least: 49,
+            most: 123,
+        },
+        _ => ANY,
+    }
+}
+
+// and of one that a part begins and ends with.
+fn part_codes(part: Part) -> Codes
+    ensures { AreCodes part result }
+{
+    match part {
+        Part::Item(Item::Is(class)) => class_codes(class),
+        Part::Item(Item::Blanks) => Codes {
+            least: 10,
+            most: 33,
+        },
+        _ => ANY,
+    }
+}
+
+/// That of the character that a match begins with.
+pub fn first_codes(parts: &[Part]) -> Codes
+    ensures { BeginsIn parts.now result }
+{
+    match parts.first() {
+        Some(part) => part_codes(*part),
+        None => ANY,
+    }
+}
+
+/// And of that which it ends with.
+pub fn last_codes(parts: &[Part]) -> Codes
+    ensures { EndsIn parts.now result }
+{
+    match parts.last() {
+        Some(part) => part_codes(*part),
+        None => ANY,
     }
 }

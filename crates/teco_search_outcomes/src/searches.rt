@@ -1,21 +1,27 @@
 //! What comes of searches in the buffer.
-ghost use Rattle.std.specs.Prelude.{◌≡◌, ℕ, IfOk, OnOk, if◌then◌else◌, [], ◌++◌};
+ghost use Rattle.std.specs.Prelude.{◌≡◌, ◌≢◌, ◌≤◌, ◌≤ℤ◌, ◌+ℤ◌, ℕ, pos, true, IfOk, OnOk, if◌then◌else◌, [], ◌++◌};
 ghost use Rattle.std.specs.List.{All};
-ghost use Rattle.teco_linear.specs.Form.{Valuation};
+ghost use Rattle.teco_linear.specs.Form.{Valuation, value};
 ghost use Rattle.teco_linear.specs.Implied.{Holds};
 ghost use Rattle.teco_model.specs.Element.{seen};
 ghost use Rattle.teco_model.specs.declared.kind.Kind.TheVariants as kinds;
-ghost use Rattle.teco_search_outcomes.specs.Searches.{Aims, Answers, Ends, IsFoundBy, IsKnown, IsMissed};
-ghost use Rattle.teco_search_outcomes.specs.Searches.{HasRoom, IsReplacedBy, Leaves, SearchLaw};
+ghost use Rattle.teco_model.specs.declared.pattern.Span.{Span};
+ghost use Rattle.teco_search_outcomes.specs.Patterns.{IsIn};
+ghost use Rattle.teco_search_outcomes.specs.Searches.{Aims, Answers, BeginsLater, Ends, IsFoundBy, IsKnown, IsMissed};
+ghost use Rattle.teco_search_outcomes.specs.Searches.{HasRoom, IsReplacedBy, Leaves, LiesTo, SearchLaw};
 ghost use Rattle.teco_search_outcomes.specs.Searches.{aimed, direction_clauses, extra_clauses};
 
-use crate::patterns::{are_single, end_line, least, parts, stay_in_line};
+use crate::patterns::{
+    Codes, are_single, end_line, first_codes, last_codes, least, parts, stay_in_line,
+};
 use std::alloc::Global;
 use teco_base::LIMIT;
 use teco_command_outcomes::changes::{changed, told};
 use teco_command_outcomes::deletions::HELD;
 use teco_command_outcomes::insertions::{counted, last_start};
-use teco_command_outcomes::motions::{ANY_BEFORE, ANY_HERE, LINE_END, LINE_START, POINTER, SIZE};
+use teco_command_outcomes::motions::{
+    ANY_BEFORE, ANY_HERE, CODE_BEFORE, LINE_END, LINE_START, POINTER, SIZE, THERE,
+};
 use teco_flow_outcomes::flow::left;
 use teco_flow_outcomes::ranges::Range;
 use teco_linear::Form;
@@ -136,6 +142,17 @@ const STARTED: [Clause; 7] = [
     Clause::Wants(0, [(1, Of::Was(SIZE)), (-1, START), NO, NO]),
 ];
 
+// The match ends with a character whose code is from one to another, or which is just one.
+const ENDS_IN: [Clause; 2] = [
+    Clause::Wants(0, [(1, THERE), (-1, Of::Given(1)), NO, NO]),
+    Clause::Wants(0, [(-1, THERE), (1, Of::Given(2)), NO, NO]),
+];
+
+const ENDS_WITH: [Clause; 1] = [Clause::Sets(CODE_BEFORE, 0, [(1, Of::Given(1)), NO, NO, NO])];
+
+// It does not begin at the pointer, where another character is than it begins with.
+const LATER: [Clause; 1] = [Clause::Wants(-1, [(1, START), (-1, Of::Was(POINTER)), NO, NO])];
+
 /// What is answered where it is found.
 pub const YES: [Clause; 1] = [Clause::Sets(VALUE, -1, [NO, NO, NO, NO])];
 
@@ -171,6 +188,9 @@ const OTHER_LINE: [Clause; 2] = [
     Clause::Wants(0, [(1, BEGIN), (-1, START), (-1, LAST_START), NO]),
     Clause::Wants(0, [(-1, BEGIN), (1, START), (1, LAST_START), NO]),
 ];
+
+// A constraint of a number alone has no more terms than this: it and a constant.
+const MOST_TERMS: usize = 2;
 
 // Adds the clauses of where a search looks.
 fn add_direction(row: &mut Vec<Clause>, direction: Direction) -> Result<(), Fault>
@@ -221,6 +241,101 @@ fn known_of(parts: &[Part], direction: Direction) -> Known
     }
 }
 
+// Whether matches that a search looks for begin at the pointer or behind it.
+fn looks_ahead(direction: Direction) -> bool
+    ensures { result ≡ true → (p : ℕ) (span : Span) → LiesTo direction p span → p ≤ span.start }
+{
+    !matches!(direction, Direction::Back)
+}
+
+// Whether a number plainly is of no character with some codes.
+fn is_outside(number: &Form, codes: Codes) -> bool
+    ensures { result ≡ true → (n : ℕ) (v : Valuation) (code : ℕ)
+        → IsIn codes code → value number.now n v ≢ pos code }
+{
+    match known(number) {
+        Some(code) => code < i128::from(codes.least) || code > i128::from(codes.most),
+        None => false,
+    }
+}
+
+// Whether a constraint plainly keeps a number below a code.
+fn is_kept_below(number: &Form, constraint: &Form, code: u32, alloc: Global) -> Result<bool, Fault>
+    ensures { IfOk result (λ is_so. is_so ≡ true → (n : ℕ) (v : Valuation)
+        → Holds n v constraint.now → (value number.now n v +ℤ pos 1) ≤ℤ pos code) }
+{
+    let sum = number.add(constraint, alloc)?;
+    match known(&sum) {
+        Some(most) => Ok(most < i128::from(code)),
+        None => Ok(false),
+    }
+}
+
+// Whether it plainly keeps it above one.
+fn is_kept_above(number: &Form, constraint: &Form, code: u32, alloc: Global) -> Result<bool, Fault>
+    ensures { IfOk result (λ is_so. is_so ≡ true → (n : ℕ) (v : Valuation)
+        → Holds n v constraint.now → (pos code +ℤ pos 1) ≤ℤ value number.now n v) }
+{
+    let difference = number.sub(constraint, alloc)?;
+    match known(&difference) {
+        Some(least) => Ok(least > i128::from(code)),
+        None => Ok(false),
+    }
+}
+
+// Whether a constraint plainly keeps it outside some codes.
+fn is_kept_outside(
+    number: &Form,
+    constraint: &Form,
+    codes: Codes,
+    alloc: Global,
+) -> Result<bool, Fault>
+    ensures { IfOk result (λ is_so. is_so ≡ true → (n : ℕ) (v : Valuation) (code : ℕ)
+        → Holds n v constraint.now → IsIn codes code → value number.now n v ≢ pos code) }
+{
+    if is_kept_below(number, constraint, codes.least, alloc)? {
+        return Ok(true);
+    }
+    is_kept_above(number, constraint, codes.most, alloc)
+}
+
+// Whether it plainly is outside them by the constraints of a case.
+fn is_never_in(case: &Case, number: &Form, codes: Codes, alloc: Global) -> Result<bool, Fault>
+    ensures { IfOk result (λ is_so. is_so ≡ true → (n : ℕ) (v : Valuation) (code : ℕ)
+        → All (Holds n v) case.now.constraints.items → IsIn codes code
+        → value number.now n v ≢ pos code) }
+{
+    if is_outside(number, codes) {
+        return Ok(true);
+    }
+    for constraint in &case.constraints {
+        if constraint.terms().len() > MOST_TERMS {
+            continue;
+        }
+        if is_kept_outside(number, constraint, codes, alloc)? {
+            return Ok(true);
+        }
+    }
+    Ok(false)
+}
+
+// Whether a match plainly begins with another character than that at the pointer.
+fn begins_later(
+    case: &Case,
+    parts: &[Part],
+    direction: Direction,
+    alloc: Global,
+) -> Result<bool, Fault>
+    ensures { IfOk result (λ is_so. is_so ≡ true → BeginsLater parts.now direction case.now) }
+{
+    if !looks_ahead(direction) {
+        return Ok(false);
+    }
+    let here = single(case, Single::CodeHere, alloc)?;
+    let is_other = is_never_in(case, &here, first_codes(parts), alloc)?;
+    Ok(is_other)
+}
+
 /// The case where the pointer is behind a match.
 pub fn find(case: &Case, parts: &[Part], direction: Direction, alloc: Global) -> Result<Case, Fault>
     ensures { IfOk result (λ made. IsFoundBy parts.now direction case.now made) }
@@ -230,7 +345,14 @@ pub fn find(case: &Case, parts: &[Part], direction: Direction, alloc: Global) ->
     let mut row = Vec::new(alloc);
     row.extend_from_slice(&FOUND)?;
     row.extend_from_slice(&more)?;
-    changed(case, &row, &[least], alloc)
+    let is_later = begins_later(case, parts, direction, alloc)?;
+    let codes = last_codes(parts);
+    add_if(&mut row, codes.least == codes.most, &ENDS_WITH)?;
+    row.extend_from_slice(&ENDS_IN)?;
+    add_if(&mut row, is_later, &LATER)?;
+    let from = counted(codes.least as usize, alloc)?;
+    let to = counted(codes.most as usize, alloc)?;
+    changed(case, &row, &[least, from, to], alloc)
 }
 
 /// The case where a text is put in the stead of a match.

@@ -7,7 +7,7 @@ use teco_apply::Pages;
 use teco_base::Reg;
 use teco_edits::{Choice, Task};
 use teco_tools::Start;
-use teco_verdicts::{Console, Editions, Escape, Method, Origin, Request, Rules};
+use teco_verdicts::{Console, Edition, Escape, Method, Origin, Request};
 
 /// Fails, and says what, where this is false.
 pub fn expect(rt: &impl Abort, is_so: bool, what: &str) {
@@ -30,7 +30,7 @@ pub fn library_file<'a>(rt: &HostRuntime, name: &'a str, text: &[u8]) -> Result<
     Ok(Request {
         library: Origin::of_file(name),
         escape: Escape::Mark(b'$'),
-        method: Method::Tables(Editions::Only(Rules::First)),
+        method: Method::Only(Edition::First),
     })
 }
 

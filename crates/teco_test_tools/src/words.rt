@@ -4,7 +4,7 @@ use std::alloc::{AllocError, Global};
 use std::convert::AsStr;
 use std::env::{Env, FillError};
 use teco_tools::Script;
-use teco_verdicts::{Editions, Method, Rules};
+use teco_verdicts::{Edition, Method};
 use teco_words::{
     Arguments, cap, check_streams, check_texts, command, entry, escape_of, file_name, given, limit,
     method_of, pages, scripts, settings,
@@ -51,9 +51,9 @@ fn is_edit(alloc: Global, matches: &ArgMatches<'_>) -> bool {
 // The number of the edition that a method is named by.
 fn edition_of(method: Method) -> i64 {
     match method {
-        Method::Tables(Editions::Only(Rules::First)) => 1,
-        Method::Tables(_) => 2,
-        Method::Claims => 3,
+        Method::Only(Edition::First) => 1,
+        Method::Only(Edition::Second) => 2,
+        Method::Best => 0,
     }
 }
 
@@ -95,7 +95,7 @@ const READ: &[&str] = &[
     "entry -2 teco verify LIB \u{c4}",
     "rules -1 teco verify LIB A",
     "rules 2 teco check --rules 2 LIB A CERT",
-    "rules 3 teco verify --rules 3 LIB A",
+    "rules 2 teco verify --rules 3 LIB A",
     "rules -2 teco verify --rules 4 LIB A",
     "argument -1 teco apply LIB A in out",
     "argument 2147483647 teco apply --arg=2147483647 LIB A in out",

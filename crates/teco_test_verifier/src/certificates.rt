@@ -15,9 +15,6 @@ const MARK: &str = "TECO-CERT 1\nentry A\nneeds -\ncommands 8 + 4*N\nsize 1 + 2*
 // Certificates.
 const CERTIFICATES: &[&str] = &[
     MARK,
-    // by the second edition there are least distances, too
-    "TECO-CERT 1\nentry A\nrules 2\nneeds -\ncommands 13 + 9*N\nsize N\n\
-     loop 7 held N kept back 3 fore 0 texts -\nend\n",
     // a text is put in as often as an argument says
     "TECO-CERT 2\nentry A\nargument 1 10\nneeds -\ncommands 24\nsize 10 + N\n\
      loop 2 held 9 + N kept texts -\nend\n",
@@ -32,9 +29,7 @@ const CERTIFICATES: &[&str] = &[
     "TECO-CERT 1\nentry Z\nneeds O\ncommands 7 + 5*N + N^2\nsize 18446744073709551615*N^8\nend\n",
     "TECO-CERT 1\nentry B\nneeds -\ncommands 9\nsize 4*N\nloop 0 held 0 lost texts 9=7\n\
      loop 18446744073709551615 held 1 + N kept texts A=N,B=3*N,Z=N,0=1 + N,9=N^2\nend\n",
-    "TECO-CERT 2\nentry Z\nargument 7 7\nrules 2\nneeds IO\ncommands 4\nsize N\nend\n",
-    "TECO-CERT 1\nentry B\nrules 2\nneeds -\ncommands 9\nsize 4*N\n\
-     loop 1 held 0 lost back 0 fore 4294967295 texts 9=7\nend\n",
+    "TECO-CERT 2\nentry Z\nargument 7 7\nneeds IO\ncommands 4\nsize N\nend\n",
 ];
 
 // Whether a certificate has a text. None where memory was refused.

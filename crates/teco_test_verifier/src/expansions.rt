@@ -3,12 +3,10 @@
 use crate::subjects::{Case, expect_all, library_of};
 use std::alloc::{AllocError, Global};
 use std::test::*;
-use teco_base::{REGISTERS, Reg};
+use teco_base::Reg;
 use teco_check::{Table, derive};
 use teco_expansion::{ExpandFault, Reason, expand};
-use teco_facts::Entry;
 use teco_library::Library;
-use teco_verifier::Rules;
 
 /// Texts, and how often each of them stands in the text of A, one after another.
 type Parts = &'static [(&'static str, usize)];
@@ -113,14 +111,9 @@ fn lie_together(table: &Table, one: usize, other: usize) -> Option<bool> {
 
 impl Case for Packed {
     fn holds(&self, alloc: Global) -> Option<bool> {
-        let entry = Entry {
-            rules: Rules::First,
-            lengths: [None; REGISTERS],
-            argument: None,
-        };
         let library = library_in(alloc, self.0)?;
         let nodes = expand(alloc, &library, Reg::default()).ok()?;
-        let table = derive(alloc, &entry, &nodes, &[]).ok()?;
+        let table = derive(alloc, None, &nodes, &[]).ok()?;
         let before = self.1.saturating_sub(1);
         let is_kept = lie_together(&table, 3, before)?
             && lie_together(&table, self.1, nodes.len())?;

@@ -6,7 +6,7 @@ use teco_base::{Code, Reg};
 use teco_explain::*;
 use teco_lex::element;
 use teco_source::{Form, Source};
-use teco_verifier::{Refusal, Rules};
+use teco_verifier::Refusal;
 
 // The number of the refusal of a name.
 fn number_named(name: &str) -> Option<usize> {
@@ -74,26 +74,23 @@ fn notes_are_printed(rt: HostRuntime) {
     expect(&rt, is_so == Some(true), REFUSAL);
 }
 
-// The name of a reason, an edition of the rules, a place, a text, and the front of the hint, if there is one.
-struct Hinted(&'static str, u8, usize, &'static str, &'static str);
+// The name of a reason, a place, a text, and the front of the hint, if there is one.
+struct Hinted(&'static str, usize, &'static str, &'static str);
 
 const HINTS: &[Hinted] = &[
-    Hinted("X9", 1, 11, "J<I> \x1bL.-Z;>", "L and K are not known"),
-    Hinted("X9", 2, 7, "J<I> \x1bL>", "L and K move on only"),
-    Hinted("X9", 1, 11, "J<Sfoo\x1b;0LK>", "The search moves on"),
-    Hinted("X9", 1, 11, "J<.-Z;I# \x1bP>", "P is not known"),
-    Hinted("X9", 1, 4, "<Ix\x1b>", ""),
-    Hinted("X9", 1, 3, "<HK>", "HK and m,nK"),
-    Hinted("X9", 1, 2, "<A>", "A may have no page"),
-    Hinted("X9", 1, 8, "<J.-Z;HK>", "J goes back in each turn. Go on"),
-    Hinted("X9", 1, 10, "J<QA<Ix\x1b>L>", "An iteration in this one"),
-    Hinted("X6", 1, 7, ".UBQB,.K", "A place that a register"),
-    Hinted("X6", 2, 7, ".UBQB,.K", "A place that .UQ kept bounds"),
-    Hinted("X6", 1, 7, ".UB0KQBJ", "A place that .UQ kept counts"),
-    Hinted("X7", 1, 7, "0A-32\"ED'", NOTHING),
-    Hinted("X7", 2, 8, "0A-32\"E3D'", "A test of a character says that"),
-    Hinted("X10", 1, 7, "3<HXBGB>", "X and G"),
-    Hinted("X15", 1, 0, "Sfoo\x1b", "Outside an iteration"),
+    Hinted("X9", 11, "J<I> \x1bL.-Z;>", "L and K are not known"),
+    Hinted("X9", 11, "J<Sfoo\x1b;0LK>", "The search moves on"),
+    Hinted("X9", 11, "J<.-Z;I# \x1bP>", "P is not known"),
+    Hinted("X9", 4, "<Ix\x1b>", ""),
+    Hinted("X9", 3, "<HK>", "HK and m,nK"),
+    Hinted("X9", 2, "<A>", "A may have no page"),
+    Hinted("X9", 8, "<J.-Z;HK>", "J goes back in each turn. Go on"),
+    Hinted("X9", 10, "J<QA<Ix\x1b>L>", "An iteration in this one"),
+    Hinted("X6", 7, ".UBQB,.K", "A place that a register"),
+    Hinted("X6", 7, ".UB0KQBJ", "A place that .UQ kept counts"),
+    Hinted("X7", 7, "0A-32\"ED'", NOTHING),
+    Hinted("X10", 7, "3<HXBGB>", "X and G"),
+    Hinted("X15", 0, "Sfoo\x1b", "Outside an iteration"),
 ];
 
 const NOTHING: &str = "A test of a character says nothing";
@@ -101,9 +98,8 @@ const NOTHING: &str = "A test of a character says nothing";
 impl Case for Hinted {
     fn holds(&self, _alloc: Global) -> Option<bool> {
         let why = refusal_numbered(self.0)?;
-        let rules = [Rules::First, Rules::Second][usize::from(self.1 == 2)];
-        let found = hint(why, self.3.as_bytes(), self.2, rules).unwrap_or("");
-        Some(found.starts_with(self.4) && found.is_empty() == self.4.is_empty())
+        let found = hint(why, self.2.as_bytes(), self.1).unwrap_or("");
+        Some(found.starts_with(self.3) && found.is_empty() == self.3.is_empty())
     }
 }
 
@@ -207,7 +203,7 @@ impl Case for Said {
             why: self.1,
             register: self.2.as_bytes().first().and_then(|name| Reg::of(*name)),
             place: self.3,
-            rules: Rules::First,
+            is_by_table: true,
         };
         is_text(alloc, &explained, self.4)
     }

@@ -1,13 +1,13 @@
 //! What is printed of verdicts, over libraries in a scratch folder.
 use crate::subjects::is_text;
-use std::alloc::{AllocError, Global};
+use std::alloc::Global;
 use std::test::Fail;
 use std::{fs, io};
 use teco_base::Reg;
 use teco_library::LibraryFault;
 use teco_poly::Poly;
 use teco_verdicts::*;
-use teco_verifier::{Refusal as Why, Rules};
+use teco_verifier::Refusal as Why;
 
 // The library.
 const NAME: &str = "somleut_tools_library";
@@ -17,7 +17,7 @@ fn kept(rt: &HostRuntime) -> Console<Vec<u8>, Vec<u8>> {
     Console::new(rt.alloc(), Vec::new(rt.alloc()), Vec::new(rt.alloc()))
 }
 
-// A library in its file, to be judged by some editions.
+// A library in its file, to be judged by a method.
 fn library(rt: &HostRuntime, text: &[u8], method: Method) -> io::Result<Request<'static>> {
     fs::write(rt, NAME, text)?;
     Ok(Request {
@@ -27,9 +27,9 @@ fn library(rt: &HostRuntime, text: &[u8], method: Method) -> io::Result<Request<
     })
 }
 
-const FIRST: Method = Method::Tables(Editions::Only(Rules::First));
+const FIRST: Method = Method::Only(Edition::First);
 
-const SECOND: Method = Method::Tables(Editions::Only(Rules::Second));
+const SECOND: Method = Method::Only(Edition::Second);
 
 const LAST: &str =
     "holds for texts up to 0 characters (N up to 20,648,880, of which the macro takes \
@@ -130,11 +130,11 @@ fn is_checked(rt: &HostRuntime, request: Request<'_>, wanted: &str) -> bool {
 #[test]
 fn certificates_are_of_an_edition(rt: HostRuntime) -> Result<(), Fail> {
     let second = library(&rt, b"@^UA/J<I> $L.-Z;>/", SECOND)?;
-    assert!(rt; is_certified(&rt, second, b"TECO-CERT 1\nentry A\nrules 2\n"));
+    assert!(rt; is_certified(&rt, second, b"TECO-CERT 1\nentry A\nrules 3\n"));
     let rows = [
         (SECOND, "accepted\n"),
         (FIRST, "refused X18\n"),
-        (Method::Tables(Editions::Best), "accepted\n"),
+        (Method::Best, "accepted\n"),
     ];
     for (method, wanted) in rows {
         let request = Request { method, ..second };
@@ -144,35 +144,20 @@ fn certificates_are_of_an_edition(rt: HostRuntime) -> Result<(), Fail> {
     Ok(fs::remove_file(&rt, CERTIFICATE)?)
 }
 
-// A macro, and the best edition for its certificate: the first, unless that promises nothing and the second more.
-const BEST: &[(&[u8], &[u8])] = &[
-    (b"@^UA/J<Sfoo$;I!$>/", b"TECO-CERT 1\nentry A\nneeds -\n"),
-    (b"@^UA/J<I> $L.-Z;>/", b"TECO-CERT 1\nentry A\nrules 2\n"),
-    (
-        b"@^UA/J2147483647<I*$>/",
-        b"TECO-CERT 1\nentry A\nneeds -\n",
-    ),
-];
-
-// Where an edition is named it alone is taken, and the first where none is.
+// A macro is verified by the second edition, and where an edition is named by that one.
 #[test]
-fn the_best_edition_is_taken_or_one_that_is_named(rt: HostRuntime) -> Result<(), Fail> {
-    for (text, front) in BEST {
-        let request = library(&rt, text, method_for(None, true))?;
-        assert!(rt; is_certified(&rt, request, front), "{front:?}");
-    }
+fn the_second_edition_is_taken_or_one_that_is_named(rt: HostRuntime) -> Result<(), Fail> {
+    let best = library(&rt, b"@^UA/J<Sfoo$;I!$>/", method_for(None, true))?;
+    assert!(rt; is_certified(&rt, best, b"TECO-CERT 1\nentry A\nrules 3\n"));
+    let first = Request {
+        method: method_for(Some(FIRST), true),
+        ..best
+    };
+    assert!(rt; is_certified(&rt, first, b"TECO-CERT 1\nentry A\nneeds -\n"));
     fs::remove_file(&rt, NAME)?;
     fs::remove_file(&rt, CERTIFICATE)?;
-    let named = method_for(Some(SECOND), false);
-    assert!(rt; matches!(named, Method::Tables(Editions::Only(Rules::Second))));
-    let named = method_for(Some(FIRST), true);
-    assert!(rt; matches!(named, Method::Tables(Editions::Only(Rules::First))));
-    assert!(rt;
-        matches!(
-            method_for(None, false),
-            Method::Tables(Editions::Only(Rules::First))
-        )
-    );
+    assert!(rt; method_for(Some(SECOND), false) == SECOND);
+    assert!(rt; method_for(None, false) == FIRST);
     Ok(())
 }
 
@@ -211,44 +196,5 @@ fn promises_and_searches_are_told(rt: HostRuntime) -> Result<(), Fail> {
         let request = library(&rt, text, FIRST)?;
         assert!(rt; is_told(&rt, request, wanted), "{wanted}");
     }
-    Ok(fs::remove_file(&rt, NAME)?)
-}
-
-// Six nested iterations, of which the innermost, with so many elements, is searched some hundred times.
-fn nested(alloc: Global, elements: usize) -> Result<String, AllocError> {
-    let front = "@^UA~2<Ia$HXFGC2<0XEIa$2<^UGa$:^UDa$2<^UGa$^UDa$2<GD:^UGa$2<HXEHXG";
-    let inside = "J".repeat(alloc, elements)?;
-    format!(in alloc; "{front}{inside}>HXC>>>>GE>~")
-}
-
-const HINT: &[u8] = b"\n  the second edition of the rules accepts it: add --rules 2\n";
-
-const GUESS: &[u8] = b"\n  the second edition of the rules may accept it: try --rules 2\n";
-
-// Is the macro A of a library refused, with a hint of the second edition, or a guess, at the end?
-fn is_hinted(rt: &HostRuntime, text: &[u8], has_hint: bool, has_guess: bool) -> bool {
-    let Ok(request) = library(rt, text, FIRST) else {
-        return false;
-    };
-    let (is_accepted, _, said) = verified(rt, request);
-    let is_so = (said.ends_with(HINT), said.ends_with(GUESS)) == (has_hint, has_guess);
-    !is_accepted && is_so
-}
-
-// Is there a guess, or none, where so many elements stand in nested iterations?
-fn is_guessed(rt: &HostRuntime, elements: usize, has_guess: bool) -> bool {
-    match nested(rt.alloc(), elements) {
-        Ok(text) => is_hinted(rt, text.as_bytes(), false, has_guess),
-        Err(_) => false,
-    }
-}
-
-// The hint stands where that edition accepts the macro, and the guess where the search takes too long.
-#[test]
-fn the_second_edition_is_hinted_at(rt: HostRuntime) -> Result<(), Fail> {
-    assert!(rt; is_hinted(&rt, b"@^UA/J<I> $L.-Z;>/", true, false));
-    assert!(rt; is_hinted(&rt, b"@^UA/J<LA.-Z;>/", false, false));
-    assert!(rt; is_guessed(&rt, 40, false));
-    assert!(rt; is_guessed(&rt, 700, true));
     Ok(fs::remove_file(&rt, NAME)?)
 }

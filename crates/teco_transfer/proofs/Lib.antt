@@ -1,3 +1,3 @@
 -- What the proofs of the functions share.
-pub mod Parts
 pub mod Searched
+pub mod Deleted

@@ -18,7 +18,7 @@ needs_no_value facts = do
 -- a part of the buffer is copied to a register, or its own text stored
 abbrev pub may_copy : Bool → KnownTaken → Facts → Result (Unit {0}) Refusal
 may_copy library taken facts = do
-  named ← part_named facts.rules taken.first taken.value facts.position.distances
+  named ← part_named taken.first taken.value facts.position.distances
   not_of_library library
 
 abbrev pub may_store : Bool → Option Value → Result (Unit {0}) Refusal

@@ -1,5 +1,4 @@
 -- The words of the contracts.
-pub mod Offsets
 pub mod Seen
 pub mod Searched
 pub mod Placed

@@ -4,15 +4,11 @@ use Rattle.teco_model.specs.declared.kind.Search.{Search}
 use Rattle.teco_verifier.specs.declared.refusal.Refusal.{Refusal}
 use Rattle.teco_verifier.specs.facts.Attempt.{◌>>=◌}
 use Rattle.teco_verifier.specs.facts.Facts.{Facts}
-use Rattle.teco_verifier.specs.facts.Searches.{digit_found, minimum_of, shift_found}
+use Rattle.teco_verifier.specs.facts.Searches.{minimum_of, shift_found}
 use Rattle.teco_verifier.specs.facts.Shifts.{shifted}
 
 -- where a text is found, for which another is put in
 abbrev pub facts_found : Search → List ℕ → List ℕ → Facts → Result Facts Refusal
 facts_found s text second facts = do
   least ← minimum_of text
-  shifted
-      (record (shift_found s least (length second) facts.position.distances) {
-        digit = digit_found facts.rules s text;
-      })
-      facts
+  shifted (shift_found s least (length second) facts.position.distances) facts

@@ -2,7 +2,7 @@
 use Rattle.teco_verifier.specs.facts.Ways as ways
 use Rattle.teco_transfer.specs.declared.ways.Numbers.{Numbers}
 use Rattle.teco_transfer.specs.declared.ways.Numbers.TheVariants.{Zero, NotZero, Negative, NotNegative, Positive}
-use Rattle.teco_transfer.specs.declared.ways.Numbers.TheVariants.{NotPositive, Characters, Digits, All}
+use Rattle.teco_transfer.specs.declared.ways.Numbers.TheVariants.{NotPositive, All}
 
 abbrev pub seen : Numbers → ways.Numbers
 seen Zero = ways.Zero
@@ -11,6 +11,4 @@ seen Negative = ways.Negative
 seen NotNegative = ways.NotNegative
 seen Positive = ways.Positive
 seen NotPositive = ways.NotPositive
-seen Characters = ways.Characters
-seen Digits = ways.Digits
 seen All = ways.All

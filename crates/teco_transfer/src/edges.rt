@@ -247,7 +247,7 @@ fn edges_of(placed: &Placed<'_>, answer: &Option<Answer>, facts: Facts) -> Resul
         Kind::Stack(Stack::Pop(register)) => {
             Ok(Edges::on(stack::pop(placed.library, register, facts)?))
         }
-        Kind::Call(_) => Ok(Edges::on(facts.without_digit())),
+        Kind::Call(_) => Ok(Edges::on(facts)),
         Kind::Flow(kind) => flow_edges(kind, element.colons, placed.leaves, answer, facts),
         Kind::Command(kind) => Ok(Edges::on(facts_after_command(kind, placed, facts)?)),
         Kind::Page(kind) => Ok(Edges::on(facts_after_page(kind, facts)?)),
@@ -274,5 +274,5 @@ pub fn return_from(mut facts: Facts) -> Edges
     ensures { result ≡ rules.transfer_return facts }
 {
     let _answer = facts.take_answer();
-    Edges::on(facts.without_digit())
+    Edges::on(facts)
 }

@@ -16,7 +16,7 @@ use teco_facts::{Answer, Facts};
 use teco_known::{Fault, Number, sum_of};
 use teco_model::kind::Test;
 use teco_poly::Poly;
-use teco_verifier::{Rank, Refusal};
+use teco_verifier::Refusal;
 
 /// The edges behind an element, where they are reached: on, to what stands behind it, and away, to
 /// where it leads else.
@@ -28,7 +28,6 @@ pub struct Edges {
 
 impl Model for Edges {
     ghost use Rattle.teco_verifier.specs.facts.Flows as flows;
-    ghost use Rattle.teco_verifier.specs.facts.Ranks as ranks;
 
     ghost Value = { flows.Edges };
 
@@ -91,31 +90,25 @@ pub fn bound_of(number: Number, facts: &Facts) -> Result<Poly, Refusal>
 {
     let most = positive(number.range(facts.margins()).hi);
     let n = number.value;
-    if n.code.is_some() {
-        return Ok(Poly::number(most));
-    }
     bound_by(n.ahead, n.behind, positive(n.hi), most, facts)
 }
 
-// The turns of an iteration with this count. Where nothing is known to fall, what falls is what is
-// ahead.
-fn turns_of(rank: Option<Rank>, count: Option<Number>, facts: &Facts) -> Result<Poly, Refusal>
-    ensures { result ≡ flows.turns_of rank count facts.now }
+// The turns of an iteration with this count.
+fn turns_of(count: Option<Number>, facts: &Facts) -> Result<Poly, Refusal>
+    ensures { result ≡ flows.turns_of count facts.now }
 {
-    match (count, rank) {
-        (Some(count), _) => bound_of(count, facts),
-        (None, Some(Rank::Held)) => sum_of(&facts.held(), &Poly::number(1)),
-        (None, _) => sum_of(&facts.ahead(), &Poly::number(1)),
+    match count {
+        Some(count) => bound_of(count, facts),
+        None => sum_of(&facts.ahead(), &Poly::number(1)),
     }
 }
 
-/// The turns of an iteration: at most its count, or without one what there is of what falls, and
-/// one more.
-pub fn turns(rank: Option<Rank>, facts: &Facts) -> Result<Poly, Refusal>
-    ensures { result ≡ flows.turns rank facts.now }
+/// The turns of an iteration: at most its count, or without one what is ahead and one more.
+pub fn turns(facts: &Facts) -> Result<Poly, Refusal>
+    ensures { result ≡ flows.turns facts.now }
 {
     let taken = facts.level().taken()?;
-    turns_of(rank, taken.value, facts)
+    turns_of(taken.value, facts)
 }
 
 /// < enters its body where there may be a turn, and skips it where there may be none.
@@ -125,7 +118,7 @@ pub fn iterate(facts: Facts) -> Result<Edges, Fault>
     ensures { Gives (flows.iterate facts) result }
 {
     let taken = facts.level().taken()?;
-    let most = turns_of(None, taken.value, &facts);
+    let most = turns_of(taken.value, &facts);
     let facts = facts.taking();
     facts.none_pending()?;
     let _most = most?;

@@ -16,6 +16,6 @@ mod ways;
 pub use edges::{Placed, return_from, transfer_from};
 pub use flow::{Edges, turns};
 use motion::count_of;
-pub use printed::{is_in_pages, needs_of, steps};
+pub use printed::{needs_of, steps};
 use typing::{needed_value, part_named};
 use ways::Numbers;

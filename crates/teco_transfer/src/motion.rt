@@ -1,13 +1,13 @@
 //! C, R, J and L.
-ghost use Rattle.std.specs.Prelude.{◌≡◌};
+ghost use Rattle.std.specs.Prelude.{◌≡◌, IfSome};
 ghost use Rattle.teco_verifier.specs.facts.Motions as motions;
 ghost use Rattle.teco_verifier.specs.facts.Shifts as shifts;
-ghost use Rattle.teco_known.specs.Numbers.{IsPlace, AreSmall};
+ghost use Rattle.teco_known.specs.Numbers.{IsPlace, IsNear, AreSmall};
 
 use teco_facts::{Facts, Foreseen, success};
-use teco_known::{Descent, KnownPlace, Margins, Number, Range, Shift, Taken, minus, plus};
+use teco_known::{Margins, Number, Range, Shift, Taken, minus, plus};
 use teco_model::kind::Motion;
-use teco_verifier::{DigitMark, Refusal, Rules, Value};
+use teco_verifier::{Refusal, Value};
 
 /// The argument, 1 where there is none.
 pub fn or_one(value: Option<Number>) -> Number
@@ -47,62 +47,34 @@ fn goes_forward(motion: Motion, n: Range) -> bool
     }
 }
 
-// Whether every number of a range is one.
-fn is_exactly(n: i64, range: Range) -> bool
-    ensures { result ≡ motions.is_exactly n range }
+/// To lines: where n is at least 1, what is ahead is not more; where it is at most 0, what is behind is
+/// not more, and what is ahead falls by so much at the least, if that is known.
+pub fn shift_by_lines(fall: Option<i64>, margins: Margins, n: Range) -> Shift
+    requires { IfSome fall IsNear }
+    ensures { result ≡ motions.shift_by_lines fall margins n }
 {
-    range.lo == n && range.hi == n
-}
-
-// nL: where n is at least 1 past the end of the line, where it is 0 to the begin of the line, where
-// it is less behind that. In the second edition the pointer is farther from the begin of the buffer
-// past a character that stood at it.
-fn shift_by_lines(rules: Rules, margins: Margins, n: Range) -> Shift
-    ensures { result ≡ motions.shift_by_lines rules margins n }
-{
-    let Margins { back, fore } = margins;
     if 1 <= n.lo {
-        match rules {
-            Rules::First => Shift::moving(back, 0, Descent::PastLine),
-            Rules::Second => Shift::moving(back + fore.min(1), 0, Descent::PastLine),
-        }
-    } else if is_exactly(0, n) {
-        Shift::moving(0, fore, Descent::InLine)
+        Shift::moving(margins.back, 0, Some(0))
     } else if n.hi <= 0 {
-        Shift::moving(0, fore, Descent::By(None))
+        Shift::moving(0, margins.fore, fall)
     } else {
-        Shift::moving(0, 0, Descent::By(None))
+        Shift::moving(0, 0, fall)
     }
 }
 
-// A place that is known to lie in the buffer; a saved one, to which J goes, is somewhere in it.
-fn place_for(motion: Motion, n: &Option<Number>, margins: Margins) -> Result<KnownPlace, Refusal>
-    ensures { result ≡ shifts.place_or_saved (motions.goes_to_saved motion n.now) (shifts.place_of
+// To a place that is known to lie in the buffer; a saved one, to which J goes, is somewhere in it.
+fn shift_for(motion: Motion, n: &Option<Number>, margins: Margins) -> Result<Shift, Refusal>
+    ensures { result ≡ motions.shift_or_saved (motions.goes_to_saved motion n.now) (shifts.shift_to
         (motions.target motion n.now) margins) }
 {
     let saved = match (motion, n) {
         (Motion::To, Some(n)) => n.value.saved,
         _ => false,
     };
-    KnownPlace::or_saved(saved, KnownPlace::of(target(motion, *n), margins))
-}
-
-// One step back from behind a digit leads to it.
-fn digit_after(motion: Motion, n: Range, digit: Option<DigitMark>) -> Option<DigitMark>
-    ensures { result ≡ motions.digit_after (motions.is_step_back motion n) digit }
-{
-    match (digit, motion) {
-        (Some(DigitMark::Before), Motion::Forward) if is_exactly(-1, n) => Some(DigitMark::At),
-        (Some(DigitMark::Before), Motion::Backward) if is_exactly(1, n) => Some(DigitMark::At),
-        _ => None,
+    match Shift::to(target(motion, *n), margins) {
+        Err(_) if saved => Ok(Shift::moving(0, 0, None)),
+        shift => shift,
     }
-}
-
-// The shift to a place, where a digit may stand.
-fn shift_to(place: KnownPlace, digit: Option<DigitMark>) -> Shift
-    ensures { result ≡ record (shifts.shift_to place) { digit = digit } }
-{
-    Shift::moving(place.back, place.fore, Descent::By(place.beyond)).marking(digit)
 }
 
 // The shift to anywhere, where nothing more may be ahead if it goes forward.
@@ -110,7 +82,7 @@ fn perhaps_forward(forward: bool) -> Shift
     ensures { result ≡ motions.perhaps_forward forward }
 {
     let fall = if forward { Some(0) } else { None };
-    Shift::moving(0, 0, Descent::By(fall))
+    Shift::moving(0, 0, fall)
 }
 
 // With no colon it is a place that is known to lie in the buffer.
@@ -118,10 +90,8 @@ fn motion_to_place(motion: Motion, n: Option<Number>, facts: Facts) -> Result<Fo
     requires { AreSmall facts.position.falls }
     ensures { result ≡ motions.motion_to motion 0 n facts }
 {
-    let margins = facts.margins();
-    let digit = digit_after(motion, count_of(n, margins), facts.position().digit);
-    let place = place_for(motion, &n, margins)?;
-    Foreseen::behind(&shift_to(place, digit), facts)
+    let shift = shift_for(motion, &n, facts.margins())?;
+    Foreseen::behind(&shift, facts)
 }
 
 // With a colon it may fail.
@@ -131,7 +101,7 @@ fn motion_with_colon(motion: Motion, n: Option<Number>, facts: Facts) -> Result<
 {
     let shift = perhaps_forward(goes_forward(motion, count_of(n, facts.margins())));
     let facts = facts.shifted(&shift)?;
-    Ok(Foreseen::giving(Number::within(success()), facts))
+    Ok(Foreseen::giving(success(), facts))
 }
 
 // To the place that the argument names; with a colon it may fail.
@@ -159,7 +129,7 @@ pub fn motion(motion: Motion, colons: u8, taken: Taken, facts: Facts) -> Result<
     match motion {
         Motion::Lines => {
             let margins = facts.margins();
-            let shift = shift_by_lines(facts.rules(), margins, count_of(taken.value, margins));
+            let shift = shift_by_lines(None, margins, count_of(taken.value, margins));
             Foreseen::behind(&shift, facts)
         }
         motion => motion_to(motion, colons, taken.value, facts),

@@ -2,37 +2,13 @@
 ghost use Rattle.std.specs.Prelude.{◌≡◌, None, Some, if◌then◌else◌};
 ghost use Rattle.teco_verifier.specs.facts.Pages as pages;
 ghost use Rattle.teco_known.specs.Numbers.{AreSmall};
-ghost use Rattle.teco_transfer.specs.Offsets as offsets;
 
 use crate::query::character;
 use crate::{Numbers, count_of, part_named};
-use teco_base::LIMIT;
 use teco_facts::{Facts, Foreseen};
-use teco_known::{Descent, Margins, Number, Range, Shift, Taken, has_no_distance};
+use teco_known::{Margins, Number, Range, Shift, Taken};
 use teco_model::kind::Page;
-use teco_verifier::{Refusal, Rules, Value};
-
-// The single number from -LIMIT to LIMIT - 1, if it is one.
-fn offset_of(n: Value) -> Option<i64>
-    ensures { result ≡ offsets.offset_of n }
-{
-    let single = has_no_distance(n) && n.code.is_none() && n.hi <= n.lo;
-    if single && -(LIMIT as i64) <= n.lo && n.hi <= LIMIT as i64 - 1 {
-        Some(n.lo)
-    } else {
-        None
-    }
-}
-
-// The code of a character; in the second edition it is known of which.
-fn code_asked(rules: Rules, n: Number) -> Number
-    ensures { result ≡ pages.code_asked rules n }
-{
-    match (rules, offset_of(n.value)) {
-        (Rules::Second, Some(offset)) => Number::code(offset),
-        _ => Number::within(character()),
-    }
-}
+use teco_verifier::Refusal;
 
 // A count of pages is at least 1.
 fn some_pages(n: Range) -> Result<(), Refusal>
@@ -50,8 +26,8 @@ fn part_written(m: Number, n: Number, facts: Facts) -> Result<Foreseen, Refusal>
     ensures { result ≡ pages.writing (Some m) (Some n) facts }
 {
     let (first, value) = (Some(m), Some(n));
-    part_named(facts.rules(), Taken { first, value }, facts.margins())?;
-    Ok(Foreseen::silent(facts.without_digit()))
+    part_named(Taken { first, value }, facts.margins())?;
+    Ok(Foreseen::silent(facts))
 }
 
 // Pages are written, which leaves all as it is.
@@ -59,7 +35,7 @@ fn pages_written(n: Option<Number>, facts: Facts) -> Result<Foreseen, Refusal>
     ensures { result ≡ pages.writing None n facts }
 {
     some_pages(count_of(n, facts.margins()))?;
-    Ok(Foreseen::silent(facts.without_digit()))
+    Ok(Foreseen::silent(facts))
 }
 
 // To the begin of another page, where nothing is saved.
@@ -68,7 +44,7 @@ fn pages_turned(n: Option<Number>, facts: Facts) -> Result<Foreseen, Refusal>
     ensures { result ≡ pages.turning None n facts }
 {
     some_pages(count_of(n, facts.margins()))?;
-    Foreseen::behind(&Shift::moving(0, 0, Descent::NextPage).ending(), facts)
+    Foreseen::behind(&Shift::moving(0, 0, Some(0)).ending(), facts)
 }
 
 // To the begin of another page, or pages are written, or a part.
@@ -84,19 +60,17 @@ fn turning(goes_on: bool, taken: Taken, facts: Facts) -> Result<Foreseen, Refusa
     }
 }
 
-/// What is done with pages: A gives the code of a character, or adds a page behind the buffer,
-/// where a digit stays.
+/// What is done with pages: A gives the code of a character, or adds a page behind the buffer.
 pub fn page(page: Page, taken: Taken, facts: Facts) -> Result<Foreseen, Refusal>
     requires { AreSmall facts.position.falls }
     ensures { result ≡ pages.pages page taken facts }
 {
     match page {
         Page::Append => match taken.value {
-            Some(n) => Ok(Foreseen::giving(code_asked(facts.rules(), n), facts)),
+            Some(_) => Ok(Foreseen::giving(character(), facts)),
             None => {
                 let Margins { back, fore } = facts.margins();
-                let shift = Shift::moving(back, fore, Descent::Refilled(0));
-                Foreseen::behind(&shift.marking(facts.position().digit), facts)
+                Foreseen::behind(&Shift::moving(back, fore, Some(0)), facts)
             }
         },
         Page::Next => turning(true, taken, facts),

@@ -9,18 +9,10 @@ use teco_known::sum_of;
 use teco_model::kind::{Page, Search};
 use teco_model::{Kind, Needs};
 use teco_poly::Poly;
-use teco_verifier::{Refusal, Rules};
-
-/// Whether a search looks through pages: N and FN do.
-pub fn is_in_pages(search: Search) -> bool
-    ensures { result ≡ printed.is_in_pages search }
-{
-    matches!(search, Search::FindInPages | Search::ReplaceInPages)
-}
+use teco_verifier::Refusal;
 
 /// The most steps that an element takes: a command of pages one for each page, or one for a part.
-/// By the first edition N and FN take one for each page that is ahead, and one more; by the second
-/// these pages count once for all.
+/// N and FN take one for each page that is ahead, and one more.
 pub fn steps(kind: Kind, facts: &Facts) -> Result<Poly, Refusal>
     ensures { result ≡ printed.steps kind facts.now }
 {
@@ -32,10 +24,9 @@ pub fn steps(kind: Kind, facts: &Facts) -> Result<Poly, Refusal>
                 (_, _, value) => bound_of(or_one(value), facts),
             }
         }
-        Kind::Search(search) => match facts.rules() {
-            Rules::First if is_in_pages(search) => sum_of(&facts.ahead(), &Poly::number(1)),
-            _ => Ok(Poly::number(1)),
-        },
+        Kind::Search(Search::FindInPages | Search::ReplaceInPages) => {
+            sum_of(&facts.ahead(), &Poly::number(1))
+        }
         _ => Ok(Poly::number(1)),
     }
 }
@@ -53,7 +44,7 @@ pub fn needs_of(kind: Kind, facts: &Facts) -> Result<Needs, Refusal>
                 _ => (false, true),
             }
         }
-        Kind::Search(search) => (false, is_in_pages(search)),
+        Kind::Search(Search::FindInPages | Search::ReplaceInPages) => (false, true),
         _ => (false, false),
     };
     Ok(Needs { input, output })

@@ -1,19 +1,18 @@
 //! Q, ^X and \.
 ghost use Rattle.std.specs.Prelude.{◌≡◌, None};
 ghost use Rattle.teco_verifier.specs.facts.Queries as queries;
-ghost use Rattle.teco_verifier.specs.facts.Values as values;
 ghost use Rattle.teco_known.specs.Numbers.{AreSmall};
 
 use teco_base::LIMIT;
 use teco_facts::{Facts, Foreseen};
-use teco_known::{Descent, Level, Number, Range, Shift};
+use teco_known::{Level, Number, Range, Shift};
 use teco_model::kind::Query;
 use teco_poly::Poly;
-use teco_verifier::{DigitMark, Refusal};
+use teco_verifier::Refusal;
 
 /// The code of a character, -1 where there is none.
 pub fn character() -> Range
-    ensures { result ≡ values.character }
+    ensures { result ≡ queries.character }
 {
     Range { lo: -1, hi: 255 }
 }
@@ -34,8 +33,7 @@ fn queried(query: &Query, colons: u8, facts: &Facts) -> Number
     }
 }
 
-// What is known where nothing is taken: \ goes on past the number that is read, of which a digit
-// that is known to stand at the pointer is one.
+// What is known where nothing is taken: \ goes on past the number that is read.
 fn facts_at_query(query: Query, facts: Facts) -> Result<Facts, Refusal>
     requires { AreSmall facts.position.falls }
     ensures { result ≡ queries.facts_at_query query facts }
@@ -43,12 +41,7 @@ fn facts_at_query(query: Query, facts: Facts) -> Result<Facts, Refusal>
     if !matches!(query, Query::Conversion) {
         return Ok(facts);
     }
-    let digits = match facts.position().digit {
-        Some(DigitMark::At) => 1,
-        _ => 0,
-    };
-    let fall = Descent::By(Some(digits as i64));
-    let shift = Shift::moving(facts.margins().back + digits, 0, fall);
+    let shift = Shift::moving(facts.margins().back, 0, Some(0));
     facts.shifted(&shift)
 }
 
@@ -77,7 +70,7 @@ fn query_with(query: Query, facts: Facts) -> Result<Foreseen, Refusal>
     ensures { result ≡ queries.query_with query facts }
 {
     match query {
-        Query::Number(_) => Ok(Foreseen::giving(Number::within(character()), facts)),
+        Query::Number(_) => Ok(Foreseen::giving(character(), facts)),
         Query::Mode => Ok(Foreseen::silent(facts)),
         Query::Conversion => {
             let shift = Shift::inserting(1, Poly::number(11), facts.margins());

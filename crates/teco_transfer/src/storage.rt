@@ -10,7 +10,7 @@ use crate::{Placed, count_of, needed_value, part_named};
 use std::alloc::AllocError;
 use teco_base::Reg;
 use teco_facts::{Facts, Foreseen};
-use teco_known::{Fault, KnownPlace, Number, Shift, Taken, sum_of};
+use teco_known::{Fault, Number, Shift, Taken, sum_of};
 use teco_model::Element;
 use teco_model::kind::Storage;
 use teco_poly::Poly;
@@ -44,7 +44,7 @@ fn set_number(register: Reg, taken: Taken, facts: Facts) -> Result<Foreseen, Fau
 {
     let n = needed_value(taken.value)?;
     let margins = facts.margins();
-    let saved = n.value.saved || KnownPlace::of(n.place(), margins).is_ok();
+    let saved = n.value.saved || Shift::to(n.place(), margins).is_ok();
     Ok(Foreseen::silent(facts.with_number(register, n.range(margins), saved)?))
 }
 
@@ -55,14 +55,14 @@ fn add(register: Reg, value: Option<Number>, facts: Facts) -> Result<Foreseen, A
     let n = count_of(value, facts.margins());
     let sum = facts.number_of(register).sum(n);
     let facts = facts.with_number(register, sum, false)?;
-    Ok(Foreseen::giving(Number::within(sum), facts))
+    Ok(Foreseen::giving(sum, facts))
 }
 
 // A part of the buffer is named, and the register's text is none of the library's.
 fn may_copy(library: bool, taken: Taken, facts: &Facts) -> Result<(), Refusal>
     ensures { result ≡ allowed.may_copy library taken facts.now }
 {
-    part_named(facts.rules(), taken, facts.margins())?;
+    part_named(taken, facts.margins())?;
     not_of_library(library)
 }
 
@@ -85,7 +85,7 @@ fn retrieval(colons: u8, register: Reg, facts: Facts) -> Result<Foreseen, Refusa
         let shift = Shift::inserting(0, facts.text_of(register), facts.margins());
         Foreseen::behind(&shift, facts)
     } else {
-        Ok(Foreseen::silent(facts.without_digit()))
+        Ok(Foreseen::silent(facts))
     }
 }
 

@@ -7,18 +7,18 @@ ghost use Rattle.teco_known.specs.Numbers.{AreSmall};
 ghost use Rattle.teco_transfer.specs.Shifts as shifts;
 
 use teco_facts::{Facts, Foreseen};
-use teco_known::{KnownPlace, Margins, Number, Shift, Taken};
+use teco_known::{Margins, Number, Shift, Taken};
 use teco_model::kind::{Insertion, Typing};
 use teco_poly::Poly;
-use teco_verifier::{Refusal, Rules};
+use teco_verifier::Refusal;
 
 /// Two places that are known to lie in the buffer, if there are two.
-pub fn part_named(rules: Rules, taken: Taken, margins: Margins) -> Result<(), Refusal>
-    ensures { result ≡ typings.part_named rules taken.first taken.value margins }
+pub fn part_named(taken: Taken, margins: Margins) -> Result<(), Refusal>
+    ensures { result ≡ typings.part_named taken.first taken.value margins }
 {
     if let (Some(m), Some(n)) = (taken.first, taken.value) {
-        let _from = KnownPlace::bound(rules, m, margins)?;
-        let _to = KnownPlace::bound(rules, n, margins)?;
+        let _from = Shift::to(m.place(), margins)?;
+        let _to = Shift::to(n.place(), margins)?;
     }
     Ok(())
 }
@@ -35,7 +35,7 @@ pub fn typing(typing: Typing, taken: Taken, facts: Facts) -> Result<Foreseen, Re
     ensures { result ≡ typings.typing typing taken facts }
 {
     match typing {
-        Typing::Part => part_named(facts.rules(), taken, facts.margins())?,
+        Typing::Part => part_named(taken, facts.margins())?,
         Typing::View | Typing::Message => {}
         Typing::Byte | Typing::Number(_) => {
             let _needed = needed_value(taken.value)?;

@@ -6,23 +6,23 @@ use Rattle.teco_library.specs.Library.{LibraryFile}
 use Rattle.teco_library.specs.Reads.{Reads}
 use Rattle.teco_certificate.specs.Text.{certificate_text}
 use Rattle.teco_verifier.specs.certificate.Fields.{Fields, Finding}
-use Rattle.teco_verifier.specs.declared.rules.Rules.{Rules}
 use Rattle.teco_verify.specs.Again.{AreMadeAgain, PrintedIsAccepted}
 use Rattle.teco_verify.specs.Certified.{IsCertified, TakesDeclared}
-use Rattle.teco_verify.specs.Straight.{StraightIsChecked, StraightIsVerified, straight_fields}
+use Rattle.teco_verify.specs.Straight.{StraightIsChecked, StraightIsVerified}
 use Rattle.teco_verify.specs.declared.refusal.Refusal.{Refusal}
 use Rattle.teco_verify.specs.declared.refusal.Refusal.TheVariants.{No, Memory}
 use Rattle.teco_verify.specs.Refusing.{IsOfCertificate, PrintedIsFound, RefusedIsDerived, RefusedIsExpansions}
 use Rattle.teco_verify.specs.Refusing.{RefusedIsOverflow, RefusedIsUnclosed}
 use Rattle.std.specs.Result.{IfErr}
-use Rattle.teco_verify.specs.Telling.{Telling}
-use Rattle.teco_verdicts.specs.Answers.{Answer, Answers, AnswersIn, CheckIn, IsDenied, IsDeniedBy, IsRefusal}
-use Rattle.teco_verdicts.specs.Answers.{IsStraightVerdict, OfText, ReadsNone, Refuses, VerdictIn}
-use Rattle.teco_verdicts.specs.Certificates.{IsAmong, IsCertificate, newest_of}
+use Rattle.teco_verdicts.specs.Answers.{Answer, Answers, AnswersIn, ChecksByTable, IsDenied, IsDeniedBy, IsRefusal}
+use Rattle.teco_verdicts.specs.Answers.{IsStraightVerdict, OfText, ReadsNone, Refuses, VerdictByTable}
+use Rattle.teco_verdicts.specs.Certificates.{IsCertificate}
 use Rattle.teco_verdicts.specs.Linear.{ChecksByClaims, RefusesCertificate, VerdictByClaims}
 use Rattle.teco_verdicts.specs.Lines.{refused_line}
 use Rattle.teco_verdicts.specs.Output.{Writes}
-use Rattle.teco_verdicts.specs.declared.editions.Editions.{Editions}
+use Rattle.teco_verdicts.specs.Methods.{ChecksBy, ChecksIn, IsAmong, VerdictBy, VerdictIn}
+use Rattle.teco_verdicts.specs.declared.method.Edition.{Edition}
+use Rattle.teco_verdicts.specs.declared.method.Method.{Method}
 use Rattle.teco_verdicts.specs.declared.outcome.Outcome.{Outcome}
 use Rattle.teco_verdicts.specs.declared.outcome.Outcome.TheVariants.{Done, Coded, Refused}
 
@@ -84,120 +84,112 @@ of_no_library In source old new (No reason register place) result none refused p
 of_no_library In source old new Memory result none refused p = of_none (OfText In source) old new result p.0 p.1
 
 -- what is found of straight text
-pub straight_verdict : (rules : Rules) (library : LibraryFile) (entry : ℕ) (verdict : Result Finding Refusal)
-    → IfOk verdict (λ found. found.fields.rules ≡ rules) → StraightIsVerified rules library entry verdict
-    → IsStraightVerdict library entry verdict
-straight_verdict rules library entry (Ok found) same straight =
-    λ text elements none is. subst (λ edition. found.fields ≡ straight_fields edition entry elements) (sym same)
-    (straight text elements none is)
-straight_verdict rules library entry (Err refusal) same straight = tt
+pub straight_verdict : (library : LibraryFile) (entry : ℕ) (verdict : Result Finding Refusal)
+    → StraightIsVerified library entry verdict → IsStraightVerdict library entry verdict
+straight_verdict library entry (Ok found) straight = straight
+straight_verdict library entry (Err refusal) straight = tt
 
 -- bytes that are refused as a certificate, since no certificate is read of them
-pub denied_by : (editions : Editions) (rules : Rules) (bytes : List ℕ) (library : LibraryFile) (entry : ℕ)
-    (refusal : Refusal) → IsAmong editions rules → StraightIsChecked rules library bytes (Err refusal)
-    → PrintedIsAccepted rules library bytes (Err refusal) → IsDeniedBy editions bytes library entry refusal
-denied_by editions rules bytes library entry (No reason register place) among straight again =
+pub denied_by : (bytes : List ℕ) (library : LibraryFile) (entry : ℕ) (refusal : Refusal)
+    → StraightIsChecked library bytes (Err refusal) → PrintedIsAccepted library bytes (Err refusal)
+    → IsDeniedBy bytes library entry refusal
+denied_by bytes library entry (No reason register place) straight again =
     record {
-      rules = rules;
-      among = among;
-      straight = λ text elements none is same.
-          straight entry text elements none is same;
-      none = λ fields edition made of_entry same. again fields edition made same;
+      straight = λ text elements none is same. straight entry text elements none is same;
+      none = λ fields made of_entry same. again fields made same;
     }
-denied_by editions rules bytes library entry Memory among straight again = tt
+denied_by bytes library entry Memory straight again = tt
 
 -- or since it is one of another entry
-pub denied_other : (editions : Editions) (rules : Rules) (bytes : List ℕ) (library : LibraryFile) (entry : ℕ)
-    (found : Finding) → IsAmong editions rules → StraightIsChecked rules library bytes (Ok found)
-    → PrintedIsAccepted rules library bytes (Ok found) → found.fields.entry ≢ entry
-    → IsDenied editions bytes library entry
-denied_other editions rules bytes library entry found among straight again other =
+pub denied_other : (bytes : List ℕ) (library : LibraryFile) (entry : ℕ) (found : Finding)
+    → StraightIsChecked library bytes (Ok found) → PrintedIsAccepted library bytes (Ok found)
+    → found.fields.entry ≢ entry → IsDenied bytes library entry
+denied_other bytes library entry found straight again other =
     record {
-      rules = rules;
-      among = among;
       straight = λ text elements none is same.
           other (ap (λ (fields : Fields). fields.entry) (straight entry text elements none is same));
-      none = λ fields edition made of_entry same.
-          other (ap (λ (fields : Fields). fields.entry) (again fields edition made same) ∙ of_entry);
+      none = λ fields made of_entry same.
+          other (ap (λ (fields : Fields). fields.entry) (again fields made same) ∙ of_entry);
     }
 
--- the verdicts of `verify`
-pub of_verified : {E : Type 0} (editions : Editions) (library : LibraryFile) (entry : ℕ) (old new : Option (List ℕ))
+-- the verdicts of `verify` by a table
+pub of_verified : {E : Type 0} (library : LibraryFile) (entry : ℕ) (old new : Option (List ℕ))
     (found : Finding) (result : Result Outcome E) → found.library ≡ library.texts
     → IsCertified found.library found.fields → TakesDeclared library found.fields → found.fields.entry ≡ entry
-    → IsAmong editions found.fields.rules → IsStraightVerdict library entry (Ok found)
-    → AreMadeAgain library found.fields → IfOk result (λ o. o ≡ Done)
-    → Writes old new (certificate_text found.fields) result → Answers (VerdictIn editions library entry) old new result
-of_verified editions library entry old new found result same certified declared of_entry among straight made done
-    written =
-    of_written (VerdictIn editions library entry) old new Done (certificate_text found.fields) result (record {
+    → IsStraightVerdict library entry (Ok found) → AreMadeAgain library found.fields → IfOk result (λ o. o ≡ Done)
+    → Writes old new (certificate_text found.fields) result → Answers (VerdictByTable library entry) old new result
+of_verified library entry old new found result same certified declared of_entry straight made done written =
+    of_written (VerdictByTable library entry) old new Done (certificate_text found.fields) result (record {
       certificate = record {
         fields = found.fields;
         certified = subst (λ texts. IsCertified texts found.fields) same certified;
         declared = declared;
         of_entry = of_entry;
-        of_edition = among;
         spelled = refl;
       };
       straight = λ text elements none is. ap certificate_text (straight text elements none is);
       made = made;
     }) done written
 
-pub of_refused : {E : Type 0} (editions : Editions) (library : LibraryFile) (entry : ℕ) (old new : Option (List ℕ))
-    (refusal : Refusal) (result : Result Outcome E) → IsRefusal (newest_of editions) library entry refusal
+pub of_refused : {E : Type 0} (library : LibraryFile) (entry : ℕ) (old new : Option (List ℕ))
+    (refusal : Refusal) (result : Result Outcome E) → IsRefusal library entry refusal
     → IfOk result (λ o. o ≡ Refused) → Refuses old new refusal result
-    → Answers (VerdictIn editions library entry) old new result
-of_refused editions library entry old new refusal result is refused p =
-    of_refusal (VerdictIn editions library entry) old new refusal result
+    → Answers (VerdictByTable library entry) old new result
+of_refused library entry old new refusal result is refused p =
+    of_refusal (VerdictByTable library entry) old new refusal result
     (record { refusal = refusal; refused = is; line = refl }) refused p
 
--- the answers of `check`
-pub of_accepted : {E : Type 0} (editions : Editions) (bytes : List ℕ) (library : LibraryFile) (entry : ℕ)
-    (old new : Option (List ℕ)) (result : Result Outcome E) → IsCertificate editions library entry bytes
+-- the answers of `check` by a table
+pub of_accepted : {E : Type 0} (bytes : List ℕ) (library : LibraryFile) (entry : ℕ)
+    (old new : Option (List ℕ)) (result : Result Outcome E) → IsCertificate library entry bytes
     → IfOk result (λ o. o ≡ Done) → Writes old new (codes "accepted\n") result
-    → Answers (CheckIn editions bytes library entry) old new result
-of_accepted editions bytes library entry old new result certificate done written =
-    of_written (CheckIn editions bytes library entry) old new Done (codes "accepted\n") result (
+    → Answers (ChecksByTable bytes library entry) old new result
+of_accepted bytes library entry old new result certificate done written =
+    of_written (ChecksByTable bytes library entry) old new Done (codes "accepted\n") result (
       certificate,
       refl,
     ) done written
 
-pub of_denied : {E : Type 0} (editions : Editions) (bytes : List ℕ) (library : LibraryFile) (entry : ℕ)
+pub of_denied : {E : Type 0} (bytes : List ℕ) (library : LibraryFile) (entry : ℕ)
     (old new : Option (List ℕ)) (refusal : Refusal) (result : Result Outcome E) → IsOfCertificate refusal
-    → IsDeniedBy editions bytes library entry refusal → IfOk result (λ o. o ≡ Refused) → Refuses old new refusal result
-    → Answers (CheckIn editions bytes library entry) old new result
-of_denied editions bytes library entry old new (No reason register place) result spelled denied refused p =
-    of_refusal (CheckIn editions bytes library entry) old new (No reason register place) result (
+    → IsDeniedBy bytes library entry refusal → IfOk result (λ o. o ≡ Refused) → Refuses old new refusal result
+    → Answers (ChecksByTable bytes library entry) old new result
+of_denied bytes library entry old new (No reason register place) result spelled denied refused p =
+    of_refusal (ChecksByTable bytes library entry) old new (No reason register place) result (
       denied,
       ap refused_line spelled,
     ) refused p
-of_denied editions bytes library entry old new Memory result spelled denied refused p =
-    of_none (CheckIn editions bytes library entry) old new result p.0 p.1
+of_denied bytes library entry old new Memory result spelled denied refused p =
+    of_none (ChecksByTable bytes library entry) old new result p.0 p.1
 
 -- what is promised of a refusal
-pub refused_verdict : (rules : Rules) (library : LibraryFile) (entry : ℕ) (verdict : Result Finding Refusal)
-    → StraightIsVerified rules library entry verdict → RefusedIsExpansions library entry verdict
-    → RefusedIsDerived rules library entry verdict → RefusedIsUnclosed rules library entry verdict
-    → RefusedIsOverflow rules library entry verdict → PrintedIsFound rules library entry verdict
-    → IfErr verdict (IsRefusal rules library entry)
-refused_verdict rules library entry (Ok found) straight unexpanded derived unclosed overflow printed = tt
-refused_verdict rules library entry (Err refusal) straight unexpanded derived unclosed overflow printed = record {
+pub refused_verdict : (library : LibraryFile) (entry : ℕ) (verdict : Result Finding Refusal)
+    → StraightIsVerified library entry verdict → RefusedIsExpansions library entry verdict
+    → RefusedIsDerived library entry verdict → RefusedIsUnclosed library entry verdict
+    → RefusedIsOverflow library entry verdict → PrintedIsFound library entry verdict
+    → IfErr verdict (IsRefusal library entry)
+refused_verdict library entry (Ok found) straight unexpanded derived unclosed overflow printed = tt
+refused_verdict library entry (Err refusal) straight unexpanded derived unclosed overflow printed = record {
   straight = straight;
   unexpanded = unexpanded;
   judged = record { derived = derived; unclosed = unclosed; overflow = overflow; printed = printed };
 }
 
-pub refused_account : {E : Type 0} (rules : Rules) (library : LibraryFile) (entry : ℕ) (told : Result Telling E)
-    → IfOk told (λ it. StraightIsVerified rules library entry it.verdict)
-    → IfOk told (λ it. RefusedIsExpansions library entry it.verdict)
-    → IfOk told (λ it. RefusedIsDerived rules library entry it.verdict)
-    → IfOk told (λ it. RefusedIsUnclosed rules library entry it.verdict)
-    → IfOk told (λ it. RefusedIsOverflow rules library entry it.verdict)
-    → IfOk told (λ it. PrintedIsFound rules library entry it.verdict)
-    → IfOk told (λ it. IfErr it.verdict (IsRefusal rules library entry))
-refused_account rules library entry (Ok it) straight unexpanded derived unclosed overflow printed =
-    refused_verdict rules library entry it.verdict straight unexpanded derived unclosed overflow printed
-refused_account rules library entry (Err fault) straight unexpanded derived unclosed overflow printed = tt
+-- answers of an edition are answers of a method that has it
+pub verdict_by : {E : Type 0} (method : Method) (edition : Edition) (library : LibraryFile) (entry : ℕ)
+    (old new : Option (List ℕ)) (result : Result Outcome E) → IsAmong method edition
+    → Answers (VerdictIn edition library entry) old new result → Answers (VerdictBy method library entry) old new result
+verdict_by method edition library entry old new result among p =
+    answers_as (VerdictIn edition library entry) (VerdictBy method library entry) old new result
+    (λ outcome text answer. record { edition = edition; among = among; answer = answer }) p
+
+pub checks_by : {E : Type 0} (method : Method) (edition : Edition) (bytes : List ℕ) (library : LibraryFile) (entry : ℕ)
+    (old new : Option (List ℕ)) (result : Result Outcome E) → IsAmong method edition
+    → Answers (ChecksIn edition bytes library entry) old new result
+    → Answers (ChecksBy method bytes library entry) old new result
+checks_by method edition bytes library entry old new result among p =
+    answers_as (ChecksIn edition bytes library entry) (ChecksBy method bytes library entry) old new result
+    (λ outcome text answer. record { edition = edition; among = among; answer = answer }) p
 
 -- the answers by claims
 pub refused_by_claims : {E : Type 0} (library : LibraryFile) (entry : ℕ) (old new : Option (List ℕ))

@@ -9,17 +9,15 @@ use Rattle.teco_library.specs.declared.fault.LibraryFault.TheVariants.{NotALibra
 use Rattle.teco_model.specs.Element.{Element}
 use Rattle.teco_verifier.specs.certificate.Fields.{Fields, Finding}
 use Rattle.teco_verifier.specs.declared.refusal.Refusal.TheVariants as why
-use Rattle.teco_verifier.specs.declared.rules.Rules.{Rules}
 use Rattle.teco_verify.specs.Again.{AreMadeAgain}
 use Rattle.teco_verify.specs.Refusing.{IsJudged, RefusedIsExpansions, refusal_of_certificate}
 use Rattle.teco_verify.specs.Straight.{StraightIsVerified, straight_fields}
 use Rattle.teco_verify.specs.declared.refusal.Refusal.{Refusal}
 use Rattle.teco_verify.specs.declared.refusal.Refusal.TheVariants.{No, Memory}
-use Rattle.teco_verdicts.specs.Certificates.{IsAmong, IsCertificate, newest_of}
+use Rattle.teco_verdicts.specs.Certificates.{IsCertificate}
 use Rattle.teco_verdicts.specs.Lines.{refused_line}
 use Rattle.teco_verdicts.specs.Output.{Writes, WritesFront}
 use Rattle.teco_verdicts.specs.Sources.{IsReadFor}
-use Rattle.teco_verdicts.specs.declared.editions.Editions.{Editions}
 use Rattle.teco_verdicts.specs.declared.outcome.Outcome.{Outcome}
 use Rattle.teco_verdicts.specs.declared.outcome.Outcome.TheVariants.{Done, Coded, Refused}
 use Rattle.teco_verdicts.specs.declared.request.Request.{Request}
@@ -60,56 +58,49 @@ StraightIs library entry P =
 -- what is found of straight text is the definition's
 abbrev pub IsStraightVerdict : LibraryFile → ℕ → Result Finding Refusal → Type 0
 IsStraightVerdict library entry (Ok found) = StraightIs library entry (λ elements.
-    found.fields ≡ straight_fields found.fields.rules entry elements)
+    found.fields ≡ straight_fields entry elements)
 IsStraightVerdict library entry (Err refusal) = ⊤
 
 -- what the verifier promises of its refusal of an entry
-pub record IsRefusal (rules : Rules) (library : LibraryFile) (entry : ℕ) (refusal : Refusal) : Type 0 where
-  pub straight : StraightIsVerified rules library entry (Err refusal)
+pub record IsRefusal (library : LibraryFile) (entry : ℕ) (refusal : Refusal) : Type 0 where
+  pub straight : StraightIsVerified library entry (Err refusal)
   pub unexpanded : RefusedIsExpansions library entry (Err refusal)
-  pub judged : IsJudged rules library entry (Err refusal)
+  pub judged : IsJudged library entry (Err refusal)
 
 -- the line of such a refusal
-pub record IsRefusalLine (rules : Rules) (library : LibraryFile) (entry : ℕ) (text : List ℕ) : Type 0 where
+pub record IsRefusalLine (library : LibraryFile) (entry : ℕ) (text : List ℕ) : Type 0 where
   pub refusal : Refusal
-  pub refused : IsRefusal rules library entry refusal
+  pub refused : IsRefusal library entry refusal
   pub line : text ≡ refused_line refusal
 
 -- a certificate that was found, which is made again from its text, and of straight text is that of the definition
-pub record IsFoundCertificate (editions : Editions) (library : LibraryFile) (entry : ℕ) (text : List ℕ)
-    : Type 0 where
-  pub certificate : IsCertificate editions library entry text
-  pub straight : StraightIs library entry (λ elements.
-      text ≡ certificate_text (straight_fields certificate.fields.rules entry elements))
+pub record IsFoundCertificate (library : LibraryFile) (entry : ℕ) (text : List ℕ) : Type 0 where
+  pub certificate : IsCertificate library entry text
+  pub straight : StraightIs library entry (λ elements. text ≡ certificate_text (straight_fields entry elements))
   pub made : AreMadeAgain library certificate.fields
 
--- what `verify` answers of an entry of a library: a certificate, or the line of the refusal
-abbrev pub VerdictIn : Editions → LibraryFile → ℕ → Answer
-VerdictIn editions library entry Done text = IsFoundCertificate editions library entry text
-VerdictIn editions library entry Coded text = ⊥
-VerdictIn editions library entry Refused text = IsRefusalLine (newest_of editions) library entry text
+-- what `verify` answers of an entry of a library by a table: a certificate, or the line of the refusal
+abbrev pub VerdictByTable : LibraryFile → ℕ → Answer
+VerdictByTable library entry Done text = IsFoundCertificate library entry text
+VerdictByTable library entry Coded text = ⊥
+VerdictByTable library entry Refused text = IsRefusalLine library entry text
 
 -- bytes that are refused as a certificate: they are that of nothing that is made again from it, nor of straight text
-pub record IsDenied (editions : Editions) (bytes : List ℕ) (library : LibraryFile) (entry : ℕ) : Type 0 where
-  pub rules : Rules
-  pub among : IsAmong editions rules
-  pub straight : StraightIs library entry (λ elements.
-      bytes ≢ certificate_text (straight_fields rules entry elements))
-  pub none : (fields : Fields) → fields.rules ≡ rules → AreMadeAgain library fields → fields.entry ≡ entry
-      → bytes ≢ certificate_text fields
+pub record IsDenied (bytes : List ℕ) (library : LibraryFile) (entry : ℕ) : Type 0 where
+  pub straight : StraightIs library entry (λ elements. bytes ≢ certificate_text (straight_fields entry elements))
+  pub none : (fields : Fields) → AreMadeAgain library fields → fields.entry ≡ entry → bytes ≢ certificate_text fields
 
 -- so they are, where memory is not what is wanted
-abbrev pub IsDeniedBy : Editions → List ℕ → LibraryFile → ℕ → Refusal → Type 0
-IsDeniedBy editions bytes library entry (No reason register place) = IsDenied editions bytes library entry
-IsDeniedBy editions bytes library entry Memory = ⊤
+abbrev pub IsDeniedBy : List ℕ → LibraryFile → ℕ → Refusal → Type 0
+IsDeniedBy bytes library entry (No reason register place) = IsDenied bytes library entry
+IsDeniedBy bytes library entry Memory = ⊤
 
--- what `check` answers of bytes: that they are a certificate, or that they are refused
-abbrev pub CheckIn : Editions → List ℕ → LibraryFile → ℕ → Answer
-CheckIn editions bytes library entry Done text =
-    IsCertificate editions library entry bytes × (text ≡ codes "accepted\n")
-CheckIn editions bytes library entry Coded text = ⊥
-CheckIn editions bytes library entry Refused text =
-    IsDenied editions bytes library entry × (text ≡ refused_line refusal_of_certificate)
+-- what `check` answers of bytes by a table: that they are a certificate, or that they are refused
+abbrev pub ChecksByTable : List ℕ → LibraryFile → ℕ → Answer
+ChecksByTable bytes library entry Done text = IsCertificate library entry bytes × (text ≡ codes "accepted\n")
+ChecksByTable bytes library entry Coded text = ⊥
+ChecksByTable bytes library entry Refused text =
+    IsDenied bytes library entry × (text ≡ refused_line refusal_of_certificate)
 
 -- why a text is read as no library
 abbrev pub ReadsNone : List ℕ → Refusal → Type 0

@@ -1,23 +1,44 @@
 -- What `verify` and `check` answer by whichever method.
-use Rattle.std.specs.Prelude.{ℕ, ◌≡◌, ◌⊎◌, List, Option, Result, IsErr, IfSome}
+use Rattle.std.specs.Prelude.{ℕ, ◌≡◌, ◌⊎◌, ⊤, List, Option, Result, IsErr, IfSome}
 use Rattle.std.specs.Io.KnownBytes.{Keeps}
 use Rattle.teco_library.specs.Library.{LibraryFile}
-use Rattle.teco_verdicts.specs.Answers.{Answer, AnswersFor, CheckIn, VerdictIn}
+use Rattle.teco_verdicts.specs.Answers.{Answer, AnswersFor, ChecksByTable, VerdictByTable}
 use Rattle.teco_verdicts.specs.Linear.{ChecksByClaims, VerdictByClaims}
+use Rattle.teco_verdicts.specs.declared.method.Edition.{Edition}
+use Rattle.teco_verdicts.specs.declared.method.Edition.TheVariants.{First, Second}
 use Rattle.teco_verdicts.specs.declared.method.Method.{Method}
-use Rattle.teco_verdicts.specs.declared.method.Method.TheVariants.{Tables, Claims}
+use Rattle.teco_verdicts.specs.declared.method.Method.TheVariants.{Only, Best}
 use Rattle.teco_verdicts.specs.declared.outcome.Outcome.{Outcome}
 use Rattle.teco_verdicts.specs.declared.request.Request.{Request}
 
--- what `verify` answers of an entry
-abbrev pub VerdictBy : Method → LibraryFile → ℕ → Answer
-VerdictBy (Tables editions) library entry = VerdictIn editions library entry
-VerdictBy Claims library entry = VerdictByClaims library entry
+-- an edition of the rules is one by which a method verifies
+abbrev pub IsAmong : Method → Edition → Type 0
+IsAmong (Only asked) edition = edition ≡ asked
+IsAmong Best edition = ⊤
 
--- what `check` answers of bytes
-abbrev pub ChecksBy : Method → List ℕ → LibraryFile → ℕ → Answer
-ChecksBy (Tables editions) bytes library entry = CheckIn editions bytes library entry
-ChecksBy Claims bytes library entry = ChecksByClaims bytes library entry
+-- what `verify` answers of an entry by an edition
+abbrev pub VerdictIn : Edition → LibraryFile → ℕ → Answer
+VerdictIn First library entry = VerdictByTable library entry
+VerdictIn Second library entry = VerdictByClaims library entry
+
+-- by a method: an answer of one of its editions
+pub record VerdictBy (method : Method) (library : LibraryFile) (entry : ℕ) (outcome : Outcome) (text : List ℕ)
+    : Type 0 where
+  pub edition : Edition
+  pub among : IsAmong method edition
+  pub answer : VerdictIn edition library entry outcome text
+
+-- what `check` answers of bytes by an edition
+abbrev pub ChecksIn : Edition → List ℕ → LibraryFile → ℕ → Answer
+ChecksIn First bytes library entry = ChecksByTable bytes library entry
+ChecksIn Second bytes library entry = ChecksByClaims bytes library entry
+
+-- by a method: an answer of one of its editions
+pub record ChecksBy (method : Method) (bytes : List ℕ) (library : LibraryFile) (entry : ℕ) (outcome : Outcome)
+    (text : List ℕ) : Type 0 where
+  pub edition : Edition
+  pub among : IsAmong method edition
+  pub answer : ChecksIn edition bytes library entry outcome text
 
 -- what `check` answers of the bytes that a file of a name has
 pub record ChecksOn {E : Type 0} (holds : List ℕ → Option (List ℕ)) (request : Request) (entry : ℕ)

@@ -2,12 +2,12 @@
 ghost use Rattle.std.specs.Prelude.{◌≡◌, IfOk};
 ghost use Rattle.teco_verdicts.specs.Accepted.{IsProved, certificate_of, promise_of};
 
+use crate::method::Edition;
 use std::alloc::{AllocError, Global};
 use teco_base::Reg;
 use teco_claimed::Claimed;
 use teco_library::Library;
 use teco_promise::Promise;
-use teco_verifier::Rules;
 use teco_verify::Verified;
 
 /// A macro that is accepted.
@@ -50,11 +50,11 @@ impl<'l> Accepted<'l> {
         }
     }
 
-    /// The edition of the rules of its table, if it has one.
-    pub fn rules(&self) -> Option<Rules> {
+    /// The edition of the rules that accepts it.
+    pub fn edition(&self) -> Edition {
         match self {
-            Accepted::Table(verified) => Some(verified.rules()),
-            Accepted::Claims(_) => None,
+            Accepted::Table(_) => Edition::First,
+            Accepted::Claims(_) => Edition::Second,
         }
     }
 

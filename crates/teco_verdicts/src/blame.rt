@@ -6,6 +6,7 @@ use crate::acceptance::Accepted;
 use crate::console::{Console, Voice};
 use crate::fault::AnswerFault;
 use crate::library::Sourced;
+use crate::method::Edition;
 use crate::outcome::Outcome;
 use crate::premise::{Grouped, Premise};
 use std::alloc::{AllocError, Global};
@@ -16,8 +17,7 @@ use teco_explain::position_in;
 use teco_poly::Poly;
 use teco_promise::Promise;
 use teco_source::{Position, Shown, Source};
-use teco_verifier::Rules;
-use teco_verify::{Account, account_by};
+use teco_verify::{Account, account_of};
 
 /// How large a count is, at the least, that is to blame.
 const LARGE: u64 = 1000;
@@ -101,14 +101,16 @@ fn blame_of(
     alloc: Global,
     source: &Source,
     promise: &Promise<'_>,
-    rules: Option<Rules>,
+    edition: Edition,
 ) -> Result<Blame, AllocError> {
     let premise = Premise::of_promise(promise);
-    let Some(rules) = rules else {
-        return Ok(Blame::Growth(premise));
-    };
-    let account = account_by(alloc, promise.library(), promise.entry(), rules)?;
-    Ok(Blame::of(source, &account, premise))
+    match edition {
+        Edition::First => {
+            let account = account_of(alloc, promise.library(), promise.entry())?;
+            Ok(Blame::of(source, &account, premise))
+        }
+        Edition::Second => Ok(Blame::Growth(premise)),
+    }
 }
 
 /// Up to which texts the promise of a macro holds, in words; where it holds for none, what count is
@@ -127,12 +129,12 @@ impl Held {
         alloc: Global,
         source: &Source,
         promise: &Promise<'_>,
-        rules: Option<Rules>,
+        edition: Edition,
     ) -> Result<Held, AllocError> {
         let premise = Premise::of_promise(promise);
         let entry = promise.entry();
         let blame = if premise.is_empty() {
-            Some(blame_of(alloc, source, promise, rules)?)
+            Some(blame_of(alloc, source, promise, edition)?)
         } else {
             None
         };
@@ -170,9 +172,9 @@ pub fn tell_premise<E: Write + Drop>(
     voice: &mut Voice<E>,
     source: &Source,
     promise: &Promise<'_>,
-    rules: Option<Rules>,
+    edition: Edition,
 ) -> Result<(), AllocError> {
-    let held = Held::of(voice.alloc(), source, promise, rules)?;
+    let held = Held::of(voice.alloc(), source, promise, edition)?;
     voice.say(held);
     Ok(())
 }
@@ -213,7 +215,7 @@ pub fn warn_no_text<O: Write + Drop, E: Write + Drop>(
         console.alloc,
         &sourced.source,
         &accepted.promise(),
-        accepted.rules(),
+        accepted.edition(),
     )?;
     if held.is_empty() {
         console.say(held);
@@ -235,7 +237,7 @@ pub fn tell_no_text<O: Write + Drop, E: Write + Drop>(
         console.alloc,
         &sourced.source,
         &accepted.promise(),
-        accepted.rules(),
+        accepted.edition(),
     )?;
     console.complain(format_args!("{file}: the promise of {name} holds for no text: {blame}"));
     Ok(Outcome::Refused)

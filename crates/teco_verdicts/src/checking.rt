@@ -1,7 +1,7 @@
 //! `check`: certificates are checked.
 ghost use Rattle.std.specs.Prelude.{◌≡◌, IfOk, codes};
-ghost use Rattle.teco_verdicts.specs.Answers.{Answers, AnswersFor, CheckIn, OfText, Refuses};
-ghost use Rattle.teco_verdicts.specs.Methods.{ChecksBy, ChecksFor};
+ghost use Rattle.teco_verdicts.specs.Answers.{Answers, AnswersFor, ChecksByTable, OfText, Refuses};
+ghost use Rattle.teco_verdicts.specs.Methods.{ChecksBy, ChecksFor, ChecksIn};
 ghost use Rattle.teco_verdicts.specs.Output.{Writes};
 ghost use Rattle.teco_verdicts.specs.declared.outcome.Outcome.TheVariants.{Done, Refused};
 
@@ -9,12 +9,11 @@ use crate::blame::tell_premise;
 use crate::claim::{Claim, edition_of, split_line};
 use crate::console::Console;
 use crate::dollars::tell_dollars;
-use crate::editions::Editions;
 use crate::fault::AnswerFault;
 use crate::files::Shelf;
 use crate::library::{Sourced, explained, library_of};
 use crate::linear::check_claims;
-use crate::method::{Method, tell_edition};
+use crate::method::{Edition, Method};
 use crate::outcome::Outcome;
 use crate::request::Request;
 use crate::verdict::Verdict;
@@ -23,8 +22,7 @@ use crate::written::read_source;
 use std::io::Write;
 use teco_base::Reg;
 use teco_source::{Shown, Source};
-use teco_verifier::Rules;
-use teco_verify::{Refusal, Verified, verify_by};
+use teco_verify::{Refusal, Verified, verify};
 
 // A line of a certificate that isn't as it should be.
 #[derive(Clone, Copy)]
@@ -84,29 +82,29 @@ fn tell_difference<O: Write + Drop, E: Write + Drop>(
     }
 }
 
-// The edition of the rules that a certificate says it is of, if it is another than the one by which
-// it is checked.
-fn other_edition(text: &[u8], method: Method) -> Option<Rules> {
-    match (edition_of(text), method) {
-        (Rules::First, Method::Tables(Editions::Only(Rules::Second))) => Some(Rules::First),
-        (Rules::Second, Method::Tables(Editions::Only(Rules::First))) => Some(Rules::Second),
+/// The edition of the rules that a certificate says it is of, if it is another than the one by which
+/// it is checked.
+pub fn other_edition(text: &[u8], method: Method) -> Option<Edition> {
+    let said = edition_of(text);
+    match method {
+        Method::Only(edition) if edition != said => Some(said),
         _ => None,
     }
 }
 
-// Says that a certificate is of the other edition of the rules, and with which option it is
-// checked.
-fn tell_other_edition<O: Write + Drop, E: Write + Drop>(
+/// Says that a certificate is of the other edition of the rules, and with which option it is
+/// checked.
+pub fn tell_other_edition<O: Write + Drop, E: Write + Drop>(
     console: &mut Console<O, E>,
     name: &str,
-    edition: Rules,
+    edition: Edition,
 )
     ensures { console.new.out ≡ console.old.out }
 {
     let name = Shown(name.as_bytes());
     let (edition, option) = match edition {
-        Rules::First => ("first", 1),
-        Rules::Second => ("second", 2),
+        Edition::First => ("first", 1),
+        Edition::Second => ("second", 2),
     };
     console.say(format_args!(
         "{name}: refused X18: the certificate is of the {edition} edition of the rules, \
@@ -127,22 +125,21 @@ fn tell_wanted<O: Write + Drop, E: Write + Drop>(
     Ok(())
 }
 
-// Says why a macro of a source is refused by an edition of the rules.
+// Says why the macro of a source is refused by its table.
 fn tell_refusal<O: Write + Drop, E: Write + Drop>(
     console: &mut Console<O, E>,
     source: &Source,
     refusal: &Refusal,
-    rules: Rules,
 )
     ensures { console.new.out ≡ console.old.out }
 {
-    if let Some(told) = explained(source, refusal, rules) {
+    if let Some(told) = explained(source, refusal, Edition::First) {
         console.say(told);
     }
     tell_dollars(&mut console.voice, source);
 }
 
-// Says why a certificate is refused: the macro is, or a line is another.
+// Says why a certificate by a table is refused: the macro is, or a line is another.
 fn tell_why<O: Write + Drop, E: Write + Drop>(
     console: &mut Console<O, E>,
     sourced: &Sourced,
@@ -151,14 +148,10 @@ fn tell_why<O: Write + Drop, E: Write + Drop>(
 ) -> Result<(), AnswerFault>
     ensures { console.new.out ≡ console.old.out }
 {
-    let Some(editions) = sourced.method.editions() else {
-        return Ok(());
-    };
-    let rules = claim.edition_among(editions);
-    match verify_by(console.alloc, &sourced.library, entry, rules) {
+    match verify(console.alloc, &sourced.library, entry) {
         Ok(verified) => tell_wanted(console, claim, &verified),
         Err(refusal) => {
-            tell_refusal(console, &sourced.source, &refusal, rules);
+            tell_refusal(console, &sourced.source, &refusal);
             Ok(())
         }
     }
@@ -181,9 +174,13 @@ pub fn refuse_claim<O: Write + Drop, E: Write + Drop>(
         return Err(AnswerFault::Memory);
     };
     console.answer(format_args!("{verdict}\n"))?;
-    match other_edition(&claim.bytes, sourced.method) {
-        Some(edition) => tell_other_edition(console, claim.name, edition),
-        None => tell_why(console, sourced, entry, claim)?,
+    match (
+        other_edition(&claim.bytes, sourced.method),
+        claim.edition_by(sourced.method),
+    ) {
+        (Some(edition), _) => tell_other_edition(console, claim.name, edition),
+        (None, Edition::First) => tell_why(console, sourced, entry, claim)?,
+        (None, Edition::Second) => {}
     }
     Ok(Outcome::Refused)
 }
@@ -200,30 +197,27 @@ fn tell_accepted<O: Write + Drop, E: Write + Drop>(
         (codes "accepted\n") result }
 {
     console.answer("accepted\n")?;
-    let rules = Some(verified.rules());
-    tell_edition(&mut console.voice, sourced.method, rules);
     tell_premise(
         &mut console.voice,
         &sourced.source,
         &verified.promise(),
-        rules,
+        Edition::First,
     )?;
     Ok(Outcome::Done)
 }
 
-// Accepts a certificate, or says why not.
+// Accepts a certificate by a table, or says why not.
 #[tactic(auto, using(crate::proofs::Answering::of_accepted, crate::proofs::Answering::of_denied))]
-fn check_claim<O: Write + Drop, E: Write + Drop>(
+fn check_table<O: Write + Drop, E: Write + Drop>(
     console: &mut Console<O, E>,
     sourced: &Sourced,
-    editions: Editions,
     entry: Reg,
     claim: &Claim<'_>,
 ) -> Result<Outcome, AnswerFault>
-    ensures { Answers (CheckIn editions claim.now.bytes.items sourced.now.library entry)
+    ensures { Answers (ChecksByTable claim.now.bytes.items sourced.now.library entry)
         (O.contents console.old.out) (O.contents console.new.out) result }
 {
-    match claim.accept(console.alloc, &sourced.library, entry, editions) {
+    match claim.accept(console.alloc, &sourced.library, entry) {
         Ok(verified) => {
             verified.is_certified();
             tell_accepted(console, sourced, &verified)
@@ -232,7 +226,25 @@ fn check_claim<O: Write + Drop, E: Write + Drop>(
     }
 }
 
+// Accepts a certificate by an edition of the rules, or says why not.
+fn check_by_edition<O: Write + Drop, E: Write + Drop>(
+    console: &mut Console<O, E>,
+    sourced: &Sourced,
+    edition: Edition,
+    entry: Reg,
+    claim: &Claim<'_>,
+) -> Result<Outcome, AnswerFault>
+    ensures { Answers (ChecksIn edition claim.now.bytes.items sourced.now.library entry)
+        (O.contents console.old.out) (O.contents console.new.out) result }
+{
+    match edition {
+        Edition::First => check_table(console, sourced, entry, claim),
+        Edition::Second => check_claims(console, sourced, entry, claim),
+    }
+}
+
 // Accepts a certificate by a method, or says why not.
+#[tactic(auto, using(crate::proofs::Answering::checks_by))]
 fn check_by_method<O: Write + Drop, E: Write + Drop>(
     console: &mut Console<O, E>,
     sourced: &Sourced,
@@ -242,10 +254,8 @@ fn check_by_method<O: Write + Drop, E: Write + Drop>(
     ensures { Answers (ChecksBy sourced.now.method claim.now.bytes.items sourced.now.library entry)
         (O.contents console.old.out) (O.contents console.new.out) result }
 {
-    match sourced.method {
-        Method::Tables(editions) => check_claim(console, sourced, editions, entry, claim),
-        Method::Claims => check_claims(console, &sourced.source, &sourced.library, entry, claim),
-    }
+    let edition = claim.edition_by(sourced.method);
+    check_by_edition(console, sourced, edition, entry, claim)
 }
 
 // Checks a certificate of a macro of the library that a source says.
@@ -269,7 +279,7 @@ fn check_source<O: Write + Drop, E: Write + Drop>(
             };
             check_by_method(console, &sourced, entry, claim)
         }
-        Err(refusal) => refuse(console, &source, refusal, Rules::First),
+        Err(refusal) => refuse(console, &source, refusal, Edition::First),
     }
 }
 

@@ -4,23 +4,21 @@ ghost use Rattle.std.specs.Result.{IfErr};
 ghost use Rattle.teco_base.specs.declared.TheConstants.{LIMIT};
 ghost use Rattle.teco_certificate.specs.Text.{certificate_text};
 ghost use Rattle.teco_verdicts.specs.Answers.{IsDeniedBy};
-ghost use Rattle.teco_verdicts.specs.Certificates.{IsAmong};
 ghost use Rattle.teco_verdicts.specs.Accepted.{IsOf, certificate_of};
+ghost use Rattle.teco_verdicts.specs.Methods.{IsAmong};
 ghost use Rattle.teco_verify.specs.Certified.{TakesDeclared};
 ghost use Rattle.teco_verify.specs.Refusing.{IsOfCertificate};
 
 use crate::acceptance::Accepted;
-use crate::editions::Editions;
 use crate::fault::AnswerFault;
 use crate::files::{Shelf, read_file};
 use crate::linear::{accepted_by_claims, refusal_of_text};
-use crate::method::Method;
+use crate::method::{Edition, Method};
 use std::alloc::Global;
 use teco_base::Reg;
 use teco_base::bytes::LF;
 use teco_library::Library;
-use teco_verifier::Rules;
-use teco_verify::{Refusal, Verified, check_certificate_by};
+use teco_verify::{Refusal, Verified, check_certificate};
 
 /// The first line of a text, and what comes behind its end.
 pub fn split_line(text: &[u8]) -> (&[u8], &[u8]) {
@@ -34,16 +32,16 @@ pub fn split_line(text: &[u8]) -> (&[u8], &[u8]) {
 const HEAD_LINES: usize = 4;
 
 /// The edition of the rules that a certificate says it is of.
-pub fn edition_of(text: &[u8]) -> Rules {
+pub fn edition_of(text: &[u8]) -> Edition {
     let mut rest = text;
     for _ in 0..HEAD_LINES {
         let (line, behind) = split_line(rest);
-        if line == b"rules 2".as_slice() {
-            return Rules::Second;
+        if line == b"rules 3".as_slice() {
+            return Edition::Second;
         }
         rest = behind;
     }
-    Rules::First
+    Edition::First
 }
 
 /// What a file says to be the certificate of a macro.
@@ -66,37 +64,33 @@ impl<'a> Claim<'a> {
         Ok(Claim { name, bytes })
     }
 
-    /// The edition by which it is checked, of these: the one that it says it is of, where there are
-    /// two.
-    pub fn edition_among(&self, editions: Editions) -> Rules
-        ensures { IsAmong editions result }
+    /// The edition by which it is checked: where each is tried, the one that it says it is of.
+    pub fn edition_by(&self, method: Method) -> Edition
+        ensures { IsAmong method result }
     {
-        match editions {
-            Editions::Only(rules) => rules,
-            Editions::Best => edition_of(&self.bytes),
+        match method {
+            Method::Only(edition) => edition,
+            Method::Best => edition_of(&self.bytes),
         }
     }
 
-    /// The macro that it is the certificate of by one of these editions, if that is the entry.
+    /// The macro that it is the certificate of by a table, if that is the entry.
     #[tactic(auto, using(crate::proofs::Answering::denied_by, crate::proofs::Answering::denied_other))]
     pub fn accept<'l>(
         &self,
         alloc: Global,
         library: &'l Library,
         entry: Reg,
-        editions: Editions,
     ) -> Result<Verified<'l>, Refusal>
         ensures library { IfOk result (λ verified. verified.library ≡ library.now.texts) }
         ensures declared { IfOk result (λ verified. TakesDeclared library.now verified.fields) }
         ensures entry { IfOk result (λ verified. verified.fields.entry ≡ entry) }
-        ensures rules { IfOk result (λ verified. IsAmong editions verified.fields.rules) }
         ensures text { IfOk result (λ verified. certificate_text verified.fields
             ≡ self.now.bytes.items) }
         ensures refused { IfErr result IsOfCertificate }
-        ensures denied { IfErr result (IsDeniedBy editions self.now.bytes.items library.now entry) }
+        ensures denied { IfErr result (IsDeniedBy self.now.bytes.items library.now entry) }
     {
-        let rules = self.edition_among(editions);
-        let verified = check_certificate_by(alloc, library, &self.bytes, rules)?;
+        let verified = check_certificate(alloc, library, &self.bytes)?;
         if verified.entry().index() == entry.index() {
             Ok(verified)
         } else {
@@ -128,12 +122,12 @@ fn accepted_by<'l>(
     ensures is { IfOk result (IsOf library.now entry) }
     ensures text { IfOk result (λ accepted. certificate_of accepted ≡ claim.now.bytes.items) }
 {
-    match method {
-        Method::Tables(editions) => {
-            let verified = claim.accept(alloc, library, entry, editions)?;
+    match claim.edition_by(method) {
+        Edition::First => {
+            let verified = claim.accept(alloc, library, entry)?;
             Ok(Accepted::Table(verified))
         }
-        Method::Claims => match accepted_by_claims(alloc, library, entry, &claim.bytes) {
+        Edition::Second => match accepted_by_claims(alloc, library, entry, &claim.bytes) {
             Ok(claimed) => Ok(Accepted::Claims(claimed)),
             Err(refused) => Err(refusal_of_text(&refused)),
         },

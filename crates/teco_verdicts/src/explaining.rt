@@ -3,24 +3,24 @@ ghost use Rattle.std.specs.Prelude.{◌≡◌};
 
 use crate::blame::tell_premise;
 use crate::console::Console;
-use crate::editions::Editions;
 use crate::fault::{AnswerFault, written};
 use crate::files::Shelf;
 use crate::known::{words_of, words_of_choice};
 use crate::library::{Sourced, read_library};
-use crate::linear::verify_claims;
-use crate::method::tell_edition;
+use crate::linear::{answer_claims, verify_claims};
+use crate::method::{Edition, Method, is_unbalanced};
 use crate::naming::element_at;
 use crate::outcome::Outcome;
 use crate::request::Request;
 use crate::verdict::Verdict;
-use crate::verifying::{refuse, tell_second_edition};
+use crate::verifying::refuse;
 use std::alloc::{AllocError, Global};
 use std::io::Write;
 use teco_base::Reg;
+use teco_claimed::verify_linear;
 use teco_library::Library;
 use teco_source::{Position, Shown};
-use teco_verify::Account;
+use teco_verify::{Account, account_of};
 
 // The text in which an element stands, or none.
 fn text_of<'l>(library: &'l Library, account: &Account<'_>, number: usize) -> &'l [u8] {
@@ -137,17 +137,15 @@ fn conclude<O: Write + Drop, E: Write + Drop>(
     match account.verdict() {
         Ok(verified) => {
             console.answer("accepted\n")?;
-            let rules = Some(verified.rules());
-            tell_edition(&mut console.voice, sourced.method, rules);
             tell_premise(
                 &mut console.voice,
                 &sourced.source,
                 &verified.promise(),
-                rules,
+                Edition::First,
             )?;
             Ok(Outcome::Done)
         }
-        Err(refusal) => refuse(console, &sourced.source, refusal, sourced.method.newest()),
+        Err(refusal) => refuse(console, &sourced.source, refusal, Edition::First),
     }
 }
 
@@ -162,31 +160,45 @@ fn list_account<O: Write + Drop, E: Write + Drop>(
     conclude(console, sourced, account)
 }
 
-// Explains a macro of a library by tables.
-fn explain_entry<O: Write + Drop, E: Write + Drop>(
+// Explains a macro of a library by its table.
+fn explain_table<O: Write + Drop, E: Write + Drop>(
     console: &mut Console<O, E>,
     sourced: &Sourced,
-    editions: Editions,
     entry: Reg,
 ) -> Result<Outcome, AnswerFault> {
-    let account = editions.account(console.alloc, &sourced.library, entry)?;
+    let account = account_of(console.alloc, &sourced.library, entry)?;
     list_account(console, sourced, &account)
 }
 
-// Explains a macro of a library, and says whether the second edition accepts it.
-fn explain_by_both<O: Write + Drop, E: Write + Drop>(
+// Explains a macro of a library by its claims, or by its table where there are none.
+fn explain_by_either<O: Write + Drop, E: Write + Drop>(
     console: &mut Console<O, E>,
     sourced: &Sourced,
     entry: Reg,
 ) -> Result<Outcome, AnswerFault> {
-    let Some(editions) = sourced.method.editions() else {
-        return verify_claims(console, &sourced.source, &sourced.library, entry);
-    };
-    let outcome = explain_entry(console, sourced, editions, entry)?;
-    if let Outcome::Refused = outcome {
-        tell_second_edition(console, &sourced.library, entry, sourced.method);
+    if is_unbalanced(console.alloc, &sourced.library, entry) {
+        return explain_table(console, sourced, entry);
     }
-    Ok(outcome)
+    let found = verify_linear(&sourced.library, entry, console.alloc);
+    if found.is_err() {
+        return explain_table(console, sourced, entry);
+    }
+    answer_claims(console, &sourced.source, &sourced.library, entry, found)
+}
+
+// Explains a macro of a library by a method.
+fn explain_by_method<O: Write + Drop, E: Write + Drop>(
+    console: &mut Console<O, E>,
+    sourced: &Sourced,
+    entry: Reg,
+) -> Result<Outcome, AnswerFault> {
+    match sourced.method {
+        Method::Only(Edition::First) => explain_table(console, sourced, entry),
+        Method::Only(Edition::Second) => {
+            verify_claims(console, &sourced.source, &sourced.library, entry)
+        }
+        Method::Best => explain_by_either(console, sourced, entry),
+    }
 }
 
 /// Lists the elements that a macro of a library comes to, up to the one at which it is refused,
@@ -198,7 +210,7 @@ pub fn explain_macro<R: Shelf, O: Write + Drop, E: Write + Drop>(
     entry: Reg,
 ) -> Result<Outcome, AnswerFault> {
     match read_library(rt, console, request)? {
-        Some(sourced) => explain_by_both(console, &sourced, entry),
+        Some(sourced) => explain_by_method(console, &sourced, entry),
         None => Ok(Outcome::Refused),
     }
 }

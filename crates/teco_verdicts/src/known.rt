@@ -4,7 +4,7 @@ use std::alloc::{AllocError, Global};
 use std::fmt;
 use teco_base::Reg;
 use teco_poly::Poly;
-use teco_verifier::{CharacterCode, Distances, Interval, Value};
+use teco_verifier::{Distances, Interval, Value};
 use teco_verify::{Choice, Known};
 
 /// The numbers that a register may have.
@@ -55,22 +55,6 @@ impl fmt::Display for Multiple {
     }
 }
 
-// The code of a character, or minus that, in a value.
-#[derive(Clone, Copy)]
-struct Code(Option<CharacterCode>);
-
-impl fmt::Display for Code {
-    fn fmt<W: fmt::Write>(&self, f: &mut fmt::Formatter<W>) -> fmt::Result {
-        match self.0 {
-            None => Ok(()),
-            Some(CharacterCode { offset, negated }) => {
-                let sign = if negated { "-" } else { "" };
-                write!(f, "{sign}code at {offset} + ")
-            }
-        }
-    }
-}
-
 // A value as listings have it.
 #[derive(Clone, Copy)]
 struct Pending(Value);
@@ -80,7 +64,6 @@ impl fmt::Display for Pending {
         let Value {
             ahead,
             behind,
-            code,
             lo,
             hi,
             saved,
@@ -93,9 +76,8 @@ impl fmt::Display for Pending {
             factor: behind,
             distance: "behind",
         };
-        let code = Code(code);
         let place = if saved { ", a place" } else { "" };
-        write!(f, "{ahead}{behind}{code}{}{place}", Numbers { lo, hi })
+        write!(f, "{ahead}{behind}{}{place}", Numbers { lo, hi })
     }
 }
 

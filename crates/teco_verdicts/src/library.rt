@@ -8,7 +8,7 @@ ghost use Rattle.teco_verdicts.specs.Answers.{ReadsNone};
 use crate::console::Console;
 use crate::fault::AnswerFault;
 use crate::files::Shelf;
-use crate::method::Method;
+use crate::method::{Edition, Method};
 use crate::request::Request;
 use crate::setting::Setting;
 use crate::verifying::refuse;
@@ -19,7 +19,7 @@ use teco_base::{LIMIT, Reg};
 use teco_explain::Explained;
 use teco_library::{Library, LibraryFault};
 use teco_source::Source;
-use teco_verifier::{Refusal as Why, Rules};
+use teco_verifier::Refusal as Why;
 use teco_verify::Refusal;
 
 /// The library that a source says.
@@ -62,7 +62,7 @@ fn library_in<O: Write + Drop, E: Write + Drop>(
             method,
         })),
         Err(refusal) => {
-            refuse(console, &source, refusal, Rules::First)?;
+            refuse(console, &source, refusal, Edition::First)?;
             Ok(None)
         }
     }
@@ -150,7 +150,11 @@ pub fn read_library_for<R: Shelf, O: Write + Drop, E: Write + Drop>(
 
 /// What a refusal of a macro of this source by an edition of the rules is for people; none for want of
 /// memory.
-pub fn explained<'a>(source: &'a Source, refusal: &Refusal, rules: Rules) -> Option<Explained<'a>> {
+pub fn explained<'a>(
+    source: &'a Source,
+    refusal: &Refusal,
+    edition: Edition,
+) -> Option<Explained<'a>> {
     match refusal {
         Refusal::No {
             why,
@@ -161,7 +165,7 @@ pub fn explained<'a>(source: &'a Source, refusal: &Refusal, rules: Rules) -> Opt
             why: *why,
             register: *register,
             place: *place,
-            rules,
+            is_by_table: edition == Edition::First,
         }),
         Refusal::Memory => None,
     }

@@ -9,11 +9,13 @@ ghost use Rattle.teco_verdicts.specs.declared.outcome.Outcome.TheVariants.{Done,
 ghost use Rattle.teco_verify.specs.Refusing.{IsOfCertificate};
 
 use crate::blame::tell_premise;
+use crate::checking::{other_edition, tell_other_edition};
 use crate::claim::Claim;
 use crate::console::{Console, write_bytes};
 use crate::fault::AnswerFault;
-use crate::library::{NAMES, library_of};
+use crate::library::{NAMES, Sourced};
 use crate::linting::Findings;
+use crate::method::Edition;
 use crate::outcome::Outcome;
 use crate::verifying::refuse;
 use std::alloc::Global;
@@ -24,7 +26,7 @@ use teco_expansion::ExpandFault;
 use teco_infer::Refusal as Unfound;
 use teco_library::Library;
 use teco_source::{Shown, Source};
-use teco_verifier::{Refusal as Why, Rules};
+use teco_verifier::Refusal as Why;
 use teco_verify::Refusal;
 
 // The register at a place, if there is one.
@@ -151,7 +153,12 @@ fn accept<O: Write + Drop, E: Write + Drop>(
 {
     let text = claimed.certificate(console.alloc)?;
     write_bytes(&mut console.out, text.as_slice())?;
-    tell_premise(&mut console.voice, source, &claimed.promise(), None)?;
+    tell_premise(
+        &mut console.voice,
+        source,
+        &claimed.promise(),
+        Edition::Second,
+    )?;
     let library = claimed.library();
     Findings::new(console.alloc, source, false).tell(&mut console.voice, library, claimed.entry());
     Ok(Outcome::Done)
@@ -168,9 +175,35 @@ fn refuse_claims<O: Write + Drop, E: Write + Drop>(
     ensures line { Refuses (O.contents console.old.out) (O.contents console.new.out) refusal
         result }
 {
-    let outcome = refuse(console, source, refusal, Rules::Second)?;
+    let outcome = refuse(console, source, refusal, Edition::Second)?;
     console.say(format_args!("  {refused}"));
     Ok(outcome)
+}
+
+/// Prints the certificate of a macro of a library by claims that were found, or why there are none.
+pub fn answer_claims<O: Write + Drop, E: Write + Drop>(
+    console: &mut Console<O, E>,
+    source: &Source,
+    library: &Library,
+    entry: Reg,
+    found: Result<Claimed<'_>, LinearRefusal>,
+) -> Result<Outcome, AnswerFault>
+    requires library { IfOk found (λ claimed. claimed.library ≡ library.now) }
+    requires declared { IfOk found (λ claimed. TakesDeclared library.now claimed.certificate) }
+    requires entry { IfOk found (λ claimed. claimed.certificate.entry ≡ entry) }
+    ensures { Answers (VerdictByClaims library.now entry)
+        (O.contents console.old.out) (O.contents console.new.out) result }
+{
+    match found {
+        Ok(claimed) => {
+            claimed.is_checked();
+            accept(console, source, &claimed)
+        }
+        Err(refused) => {
+            let refusal = refusal_of(library, entry, &refused);
+            refuse_claims(console, source, refusal, &refused)
+        }
+    }
 }
 
 /// Prints the certificate of a macro of a library by claims, or why it is refused.
@@ -183,22 +216,14 @@ pub fn verify_claims<O: Write + Drop, E: Write + Drop>(
     ensures { Answers (VerdictByClaims library.now entry)
         (O.contents console.old.out) (O.contents console.new.out) result }
 {
-    match verify_linear(library, entry, console.alloc) {
-        Ok(claimed) => {
-            claimed.is_checked();
-            accept(console, source, &claimed)
-        }
-        Err(refused) => {
-            let refusal = refusal_of(library, entry, &refused);
-            refuse_claims(console, source, refusal, &refused)
-        }
-    }
+    let found = verify_linear(library, entry, console.alloc);
+    answer_claims(console, source, library, entry, found)
 }
 
 // Prints why a certificate by claims is refused.
 fn refuse_linear<O: Write + Drop, E: Write + Drop>(
     console: &mut Console<O, E>,
-    source: &Source,
+    sourced: &Sourced,
     claim: &Claim<'_>,
     refused: &LinearRefusal,
 ) -> Result<Outcome, AnswerFault>
@@ -206,9 +231,15 @@ fn refuse_linear<O: Write + Drop, E: Write + Drop>(
     ensures line { RefusesCertificate (O.contents console.old.out) (O.contents console.new.out)
         result }
 {
-    let outcome = refuse(console, source, refusal_of_text(refused), Rules::Second)?;
-    let name = Shown(claim.name.as_bytes());
-    console.say(format_args!("{name}: {refused}"));
+    let refusal = refusal_of_text(refused);
+    let outcome = refuse(console, &sourced.source, refusal, Edition::Second)?;
+    match other_edition(&claim.bytes, sourced.method) {
+        Some(edition) => tell_other_edition(console, claim.name, edition),
+        None => {
+            let name = Shown(claim.name.as_bytes());
+            console.say(format_args!("{name}: {refused}"));
+        }
+    }
     Ok(outcome)
 }
 
@@ -216,21 +247,25 @@ fn refuse_linear<O: Write + Drop, E: Write + Drop>(
 #[tactic(auto, using(crate::proofs::Fronts::whole_front))]
 pub fn check_claims<O: Write + Drop, E: Write + Drop>(
     console: &mut Console<O, E>,
-    source: &Source,
-    library: &Library,
+    sourced: &Sourced,
     entry: Reg,
     claim: &Claim<'_>,
 ) -> Result<Outcome, AnswerFault>
-    ensures { Answers (ChecksByClaims claim.now.bytes.items library.now entry)
+    ensures { Answers (ChecksByClaims claim.now.bytes.items sourced.now.library entry)
         (O.contents console.old.out) (O.contents console.new.out) result }
 {
-    match accepted_by_claims(console.alloc, library, entry, &claim.bytes) {
+    match accepted_by_claims(console.alloc, &sourced.library, entry, &claim.bytes) {
         Ok(claimed) => {
             claimed.is_checked();
             console.answer("accepted\n")?;
-            tell_premise(&mut console.voice, source, &claimed.promise(), None)?;
+            tell_premise(
+                &mut console.voice,
+                &sourced.source,
+                &claimed.promise(),
+                Edition::Second,
+            )?;
             Ok(Outcome::Done)
         }
-        Err(refused) => refuse_linear(console, source, claim, &refused),
+        Err(refused) => refuse_linear(console, sourced, claim, &refused),
     }
 }

@@ -3,32 +3,79 @@ ghost use Rattle.std.specs.Prelude.{IfOk};
 ghost use Rattle.teco_verdicts.specs.Accepted.{IsOf};
 
 use crate::acceptance::Accepted;
-use crate::console::Voice;
-use crate::editions::Editions;
 use crate::linear::verified_by_claims;
 use std::alloc::Global;
-use std::io::Write;
 use teco_base::Reg;
 use teco_library::Library;
-use teco_verifier::Rules;
-use teco_verify::Refusal;
+use teco_verifier::Refusal as Why;
+use teco_verify::{Refusal, verify};
 
-/// How macros are verified.
-#[derive(Clone, Copy)]
-pub enum Method {
-    /// By tables of what is known before each element, by these editions of the rules.
-    Tables(Editions),
-    /// By claims at their loops.
-    Claims,
+/// An edition of the rules by which macros are verified.
+#[derive(Clone, Copy, Debug, PartialEq, Eq)]
+pub enum Edition {
+    /// The first: by a table of what is known before each element.
+    First,
+    /// The second: by claims at loops.
+    Second,
 }
 
-/// How macros are verified, where the words name that or do not; `is_best` where the best verdict by
-/// tables is wanted then, and not that of the first edition.
+/// How macros are verified.
+#[derive(Clone, Copy, Debug, PartialEq, Eq)]
+pub enum Method {
+    /// By this edition of the rules alone.
+    Only(Edition),
+    /// By the second edition, or by the first where that refuses.
+    Best,
+}
+
+/// How macros are verified, where the words name that or do not; `is_best` where each edition is
+/// tried then, and not the first alone.
 pub fn method_for(named: Option<Method>, is_best: bool) -> Method {
     match named {
         Some(method) => method,
-        None if is_best => Method::Tables(Editions::Best),
-        None => Method::Tables(Editions::Only(Rules::First)),
+        None if is_best => Method::Best,
+        None => Method::Only(Edition::First),
+    }
+}
+
+// A macro of a library, by a table.
+fn by_table<'l>(alloc: Global, library: &'l Library, entry: Reg) -> Result<Accepted<'l>, Refusal>
+    ensures { IfOk result (IsOf library.now entry) }
+{
+    let verified = verify(alloc, library, entry)?;
+    Ok(Accepted::Table(verified))
+}
+
+// The same, by claims.
+fn by_claims<'l>(alloc: Global, library: &'l Library, entry: Reg) -> Result<Accepted<'l>, Refusal>
+    ensures { IfOk result (IsOf library.now entry) }
+{
+    let claimed = verified_by_claims(alloc, library, entry)?;
+    Ok(Accepted::Claims(claimed))
+}
+
+/// Is a macro refused by its table for a push or a pop that has no partner? Claims are not sought then.
+pub fn is_unbalanced(alloc: Global, library: &Library, entry: Reg) -> bool {
+    matches!(
+        verify(alloc, library, entry),
+        Err(Refusal::No { why: Why::Pop, .. })
+    )
+}
+
+// The same, by claims, or by a table where there are none. Where both editions refuse it, the second
+// says why.
+fn by_either<'l>(alloc: Global, library: &'l Library, entry: Reg) -> Result<Accepted<'l>, Refusal>
+    ensures { IfOk result (IsOf library.now entry) }
+{
+    if is_unbalanced(alloc, library, entry) {
+        return by_table(alloc, library, entry);
+    }
+    match by_claims(alloc, library, entry) {
+        Ok(accepted) => Ok(accepted),
+        Err(refusal) => match by_table(alloc, library, entry) {
+            Ok(accepted) => Ok(accepted),
+            Err(_) => Err(refusal),
+        },
     }
 }
 
@@ -43,48 +90,17 @@ impl Method {
         ensures { IfOk result (IsOf library.now entry) }
     {
         match self {
-            Method::Tables(editions) => {
-                let verified = editions.verify(alloc, library, entry)?;
-                Ok(Accepted::Table(verified))
-            }
-            Method::Claims => {
-                let claimed = verified_by_claims(alloc, library, entry)?;
-                Ok(Accepted::Claims(claimed))
-            }
+            Method::Only(Edition::First) => by_table(alloc, library, entry),
+            Method::Only(Edition::Second) => by_claims(alloc, library, entry),
+            Method::Best => by_either(alloc, library, entry),
         }
     }
 
-    /// The editions of tables, where it is by tables.
-    pub fn editions(self) -> Option<Editions> {
+    /// The edition that says why a macro is refused.
+    pub fn newest(self) -> Edition {
         match self {
-            Method::Tables(editions) => Some(editions),
-            Method::Claims => None,
+            Method::Only(edition) => edition,
+            Method::Best => Edition::Second,
         }
-    }
-
-    /// The newest of the editions whose refusal is told.
-    pub fn newest(self) -> Rules {
-        match self {
-            Method::Tables(editions) => editions.newest(),
-            Method::Claims => Rules::Second,
-        }
-    }
-}
-
-/// What is said of a macro that is verified by the second edition, where the words name none.
-pub const BY_SECOND: &str = "verified by the second edition of the rules";
-
-/// Was the second edition taken where the words name none?
-pub fn chose_second(method: Method, rules: Option<Rules>) -> bool {
-    matches!(
-        (method, rules),
-        (Method::Tables(Editions::Best), Some(Rules::Second))
-    )
-}
-
-/// Says that a macro is verified by the second edition, where the words name no edition.
-pub fn tell_edition<E: Write + Drop>(voice: &mut Voice<E>, method: Method, rules: Option<Rules>) {
-    if chose_second(method, rules) {
-        voice.say(BY_SECOND);
     }
 }

@@ -1,33 +1,33 @@
 //! `verify`: macros of a library are verified.
 ghost use Rattle.std.specs.Prelude.{◌≡◌, IfOk};
 ghost use Rattle.teco_certificate.specs.Text.{certificate_text};
-ghost use Rattle.teco_verdicts.specs.Answers.{Answers, AnswersFor, OfText, Refuses, VerdictIn};
-ghost use Rattle.teco_verdicts.specs.Methods.{VerdictBy};
+ghost use Rattle.teco_verdicts.specs.Answers.{Answers, AnswersFor, OfText, Refuses, VerdictByTable};
+ghost use Rattle.teco_verdicts.specs.Methods.{VerdictBy, VerdictIn};
 ghost use Rattle.teco_verdicts.specs.Output.{Writes};
+ghost use Rattle.teco_verdicts.specs.declared.method.Method.TheVariants.{Best};
 ghost use Rattle.teco_verdicts.specs.declared.outcome.Outcome.TheVariants.{Done, Refused};
 
 use crate::acceptance::Accepted;
 use crate::blame::{Held, tell_premise};
 use crate::console::{Console, write_bytes};
 use crate::dollars::tell_dollars;
-use crate::editions::Editions;
 use crate::explaining::tell_known;
 use crate::fault::AnswerFault;
 use crate::files::Shelf;
 use crate::library::{NAMES, Sourced, explained, library_of, macro_named, read_library};
-use crate::linear::verify_claims;
+use crate::linear::{answer_claims, verify_claims};
 use crate::linting::Findings;
-use crate::method::{BY_SECOND, Method, chose_second, tell_edition};
+use crate::method::{Edition, Method, is_unbalanced};
 use crate::outcome::Outcome;
 use crate::request::Request;
 use crate::verdict::Verdict;
 use crate::written::read_source;
 use std::io::Write;
 use teco_base::Reg;
+use teco_claimed::verify_linear;
 use teco_library::Library;
 use teco_source::Source;
-use teco_verifier::Rules;
-use teco_verify::{Account, Refusal, Trial, Verified, trial_by};
+use teco_verify::{Account, Refusal, Verified, account_of, verify};
 
 /// Says why a macro of a source is refused by an edition of the rules, behind its line.
 #[tactic(auto, using(crate::proofs::Fronts::nothing, crate::proofs::Fronts::whole_front))]
@@ -35,7 +35,7 @@ pub fn refuse<O: Write + Drop, E: Write + Drop>(
     console: &mut Console<O, E>,
     source: &Source,
     refusal: Refusal,
-    rules: Rules,
+    edition: Edition,
 ) -> Result<Outcome, AnswerFault>
     ensures outcome { IfOk result (λ outcome. outcome ≡ Refused) }
     ensures line { Refuses (O.contents console.old.out) (O.contents console.new.out) refusal
@@ -45,7 +45,7 @@ pub fn refuse<O: Write + Drop, E: Write + Drop>(
         return Err(AnswerFault::Memory);
     };
     console.answer(format_args!("{verdict}\n"))?;
-    if let Some(told) = explained(source, &refusal, rules) {
+    if let Some(told) = explained(source, &refusal, edition) {
         console.say(told);
     }
     tell_dollars(&mut console.voice, source);
@@ -76,79 +76,49 @@ fn print_certificate<O: Write + Drop, E: Write + Drop>(
     print(console, text.as_slice())
 }
 
-// Says why a macro of a source is refused by an edition of the rules, and what is known there.
+// Says why the macro of a source is refused by its table, and what is known there.
 #[tactic(auto, using(crate::proofs::Fronts::whole_front))]
 fn refuse_known<O: Write + Drop, E: Write + Drop>(
     console: &mut Console<O, E>,
     source: &Source,
     account: &Account<'_>,
     refusal: Refusal,
-    rules: Rules,
 ) -> Result<Outcome, AnswerFault>
     ensures outcome { IfOk result (λ outcome. outcome ≡ Refused) }
     ensures line { Refuses (O.contents console.old.out) (O.contents console.new.out) refusal
         result }
 {
-    let outcome = refuse(console, source, refusal, rules)?;
+    let outcome = refuse(console, source, refusal, Edition::First)?;
     tell_known(console, account)?;
     Ok(outcome)
 }
 
-/// Says why a macro of a library is refused, and what is known there.
+/// Says why a macro of a library is refused, and what its table knows there, if it was refused for that.
+#[tactic(auto, using(crate::proofs::Fronts::nothing))]
 pub fn refuse_macro<O: Write + Drop, E: Write + Drop>(
     console: &mut Console<O, E>,
     sourced: &Sourced,
-    account: &Account<'_>,
+    entry: Reg,
     refusal: Refusal,
 ) -> Result<Outcome, AnswerFault>
     ensures outcome { IfOk result (λ outcome. outcome ≡ Refused) }
     ensures line { Refuses (O.contents console.old.out) (O.contents console.new.out) refusal
         result }
 {
-    let rules = sourced.method.newest();
-    refuse_known(console, &sourced.source, account, refusal, rules)
-}
-
-// How many elements the search may pass whose outcome is only a hint: it takes a fifth of a second at
-// the most, and macros of everyday size are searched to the end.
-const PASSED_FOR_HINT: u64 = 1 << 18;
-
-/// Says where the second edition of the rules accepts a macro that the first refuses, or may accept
-/// it, where a short search does not tell. Nothing is said where the second was asked for.
-pub fn tell_second_edition<O: Write + Drop, E: Write + Drop>(
-    console: &mut Console<O, E>,
-    library: &Library,
-    entry: Reg,
-    method: Method,
-)
-    ensures { console.new.out ≡ console.old.out }
-{
-    let Method::Tables(Editions::Only(Rules::First)) = method else {
-        return;
-    };
-    match trial_by(
-        console.alloc,
-        library,
-        entry,
-        Rules::Second,
-        PASSED_FOR_HINT,
-    ) {
-        Trial::Accepted => {
-            console.say("  the second edition of the rules accepts it: add --rules 2");
+    match sourced.method.newest() {
+        Edition::First => {
+            let account = account_of(console.alloc, &sourced.library, entry)?;
+            refuse_known(console, &sourced.source, &account, refusal)
         }
-        Trial::Unknown => {
-            console.say("  the second edition of the rules may accept it: try --rules 2");
-        }
-        Trial::Refused => {}
+        Edition::Second => refuse(console, &sourced.source, refusal, Edition::Second),
     }
 }
 
-// Prints the certificate of a macro of a source, and says what it promises.
+// Prints the certificate of a macro of a source by its table, and says what it promises.
 #[tactic(auto, using(crate::proofs::Fronts::whole_front))]
 fn accept<O: Write + Drop, E: Write + Drop>(
     console: &mut Console<O, E>,
     source: &Source,
-    editions: Editions,
     verified: &Verified<'_>,
 ) -> Result<Outcome, AnswerFault>
     ensures outcome { IfOk result (λ outcome. outcome ≡ Done) }
@@ -156,43 +126,75 @@ fn accept<O: Write + Drop, E: Write + Drop>(
         (certificate_text verified.now.fields) result }
 {
     print_certificate(console, verified)?;
-    let rules = Some(verified.rules());
-    tell_edition(&mut console.voice, Method::Tables(editions), rules);
-    tell_premise(&mut console.voice, source, &verified.promise(), rules)?;
+    let promise = verified.promise();
+    tell_premise(&mut console.voice, source, &promise, Edition::First)?;
     let library = verified.library();
     Findings::new(console.alloc, source, false).tell(&mut console.voice, library, verified.entry());
     Ok(Outcome::Done)
 }
 
-// Prints the certificate of a macro of a library, or why it is refused.
+// Prints the certificate of a macro of a library by a table, or why it is refused.
 #[tactic(auto, using(crate::proofs::Answering::of_verified, crate::proofs::Answering::of_refused))]
-fn verify_entry<O: Write + Drop, E: Write + Drop>(
+fn verify_table<O: Write + Drop, E: Write + Drop>(
     console: &mut Console<O, E>,
     source: &Source,
     library: &Library,
     entry: Reg,
-    editions: Editions,
 ) -> Result<Outcome, AnswerFault>
-    ensures { Answers (VerdictIn editions library.now entry)
+    ensures { Answers (VerdictByTable library.now entry)
         (O.contents console.old.out) (O.contents console.new.out) result }
 {
-    let account = editions.account(console.alloc, library, entry)?;
+    let account = account_of(console.alloc, library, entry)?;
     match account.verdict() {
         Ok(verified) => {
             verified.is_certified();
-            accept(console, source, editions, verified)
+            accept(console, source, verified)
         }
-        Err(refusal) => {
-            let outcome = refuse_known(console, source, &account, refusal, editions.newest());
-            if outcome.is_ok() {
-                tell_second_edition(console, library, entry, Method::Tables(editions));
-            }
-            outcome
-        }
+        Err(refusal) => refuse_known(console, source, &account, refusal),
     }
 }
 
+// Prints the certificate of a macro of a library by an edition of the rules, or why it is refused.
+fn verify_by_edition<O: Write + Drop, E: Write + Drop>(
+    console: &mut Console<O, E>,
+    source: &Source,
+    library: &Library,
+    entry: Reg,
+    edition: Edition,
+) -> Result<Outcome, AnswerFault>
+    ensures { Answers (VerdictIn edition library.now entry)
+        (O.contents console.old.out) (O.contents console.new.out) result }
+{
+    match edition {
+        Edition::First => verify_table(console, source, library, entry),
+        Edition::Second => verify_claims(console, source, library, entry),
+    }
+}
+
+// Prints the certificate of a macro of a library by claims, or by a table where there are none, or why
+// there are none.
+#[tactic(auto, using(crate::proofs::Answering::verdict_by))]
+fn verify_by_either<O: Write + Drop, E: Write + Drop>(
+    console: &mut Console<O, E>,
+    source: &Source,
+    library: &Library,
+    entry: Reg,
+) -> Result<Outcome, AnswerFault>
+    ensures { Answers (VerdictBy Best library.now entry)
+        (O.contents console.old.out) (O.contents console.new.out) result }
+{
+    if is_unbalanced(console.alloc, library, entry) {
+        return verify_by_edition(console, source, library, entry, Edition::First);
+    }
+    let found = verify_linear(library, entry, console.alloc);
+    if found.is_err() && verify(console.alloc, library, entry).is_ok() {
+        return verify_by_edition(console, source, library, entry, Edition::First);
+    }
+    answer_claims(console, source, library, entry, found)
+}
+
 // Prints the certificate of a macro of a library by a method, or why it is refused.
+#[tactic(auto, using(crate::proofs::Answering::verdict_by))]
 fn verify_by_method<O: Write + Drop, E: Write + Drop>(
     console: &mut Console<O, E>,
     source: &Source,
@@ -204,8 +206,8 @@ fn verify_by_method<O: Write + Drop, E: Write + Drop>(
         (O.contents console.old.out) (O.contents console.new.out) result }
 {
     match method {
-        Method::Tables(editions) => verify_entry(console, source, library, entry, editions),
-        Method::Claims => verify_claims(console, source, library, entry),
+        Method::Only(edition) => verify_by_edition(console, source, library, entry, edition),
+        Method::Best => verify_by_either(console, source, library, entry),
     }
 }
 
@@ -248,13 +250,10 @@ fn tell_accepted<O: Write + Drop, E: Write + Drop>(
     accepted: &Accepted<'_>,
 ) -> Result<Outcome, AnswerFault> {
     let name = char::from(accepted.entry().name());
-    let rules = accepted.rules();
-    let held = Held::of(console.alloc, &sourced.source, &accepted.promise(), rules)?;
+    let edition = accepted.edition();
+    let held = Held::of(console.alloc, &sourced.source, &accepted.promise(), edition)?;
     let scope = if held.is_empty() { ", for no text" } else { "" };
     console.answer(format_args!("{name}: accepted{scope}\n"))?;
-    if chose_second(sourced.method, rules) {
-        console.say(format_args!("{name}: {BY_SECOND}"));
-    }
     console.say(format_args!("{name}: {held}"));
     Ok(Outcome::Done)
 }
@@ -291,11 +290,7 @@ fn verify_one<O: Write + Drop, E: Write + Drop>(
             findings.tell(&mut console.voice, library, entry);
             Ok(outcome)
         }
-        Err(refusal) => {
-            let outcome = tell_refused(console, sourced, name, refusal)?;
-            tell_second_edition(console, library, entry, sourced.method);
-            Ok(outcome)
-        }
+        Err(refusal) => tell_refused(console, sourced, name, refusal),
     }
 }
 

@@ -1,11 +1,9 @@
 -- What is known before an element, what each element does to it, and what it may be relied on for.
 pub mod Attempt
-pub mod Falls
 pub mod Values
 pub mod Arguments
 pub mod Facts
 pub mod Argument
-pub mod Ranks
 pub mod Shifts
 pub mod Motions
 pub mod Deletions

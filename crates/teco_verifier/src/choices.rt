@@ -1,6 +1,5 @@
 //! What is chosen for the bodies of iterations.
 
-use crate::values::Distances;
 use std::marker::Model;
 use teco_base::Reg;
 use teco_poly::Poly;
@@ -31,8 +30,6 @@ pub struct LoopLine {
     pub held: Poly,
     /// Whether what is ahead, and the falls of the iterations outside, are there as at the `<`.
     pub kept: bool,
-    /// The least distances of the pointer there.
-    pub distances: Distances,
     /// The texts that may be longer, by their registers.
     pub longer: Vec<LongerText>,
 }
@@ -46,7 +43,6 @@ impl Model for LoopLine {
       begin = l.number;
       held = l.held;
       kept = l.kept;
-      distances = l.distances;
       longer = l.longer.items;
     } };
 }

@@ -1,20 +1,12 @@
 //! What is known of numbers, and of where the pointer is.
 
-/// The code of the character at an offset from the pointer, -1 where there is none; or minus that.
-#[derive(Clone, Copy)]
-pub struct CharacterCode {
-    pub offset: i64,
-    pub negated: bool,
-}
-
 /// A number that is `ahead` times the distance of the pointer from the end, and `behind` times that
-/// from the begin, and the code, if there is one, and something from `lo` to `hi`; where it is
-/// `saved`, it is a place of the buffer.
+/// from the begin, and something from `lo` to `hi`; where it is `saved`, it is a place of the
+/// buffer.
 #[derive(Clone, Copy)]
 pub struct Value {
     pub ahead: i64,
     pub behind: i64,
-    pub code: Option<CharacterCode>,
     pub lo: i64,
     pub hi: i64,
     pub saved: bool,

@@ -8,16 +8,16 @@ use Rattle.teco_base.specs.declared.TheConstants.{LIMIT, REGISTERS}
 use Rattle.teco_certificate.specs.WellFormed.{IsWellFormed}
 use Rattle.teco_check.specs.Kept.{AreKept, RowIsKept}
 use Rattle.std.specs.Prelude.{IfSome}
+use Rattle.teco_model.specs.Macros.{ArgumentRange}
 use Rattle.teco_verifier.specs.table.Loops.{begins, loops_from, loops_of}
 use Rattle.teco_verifier.specs.expansion.Expansion.{expansion}
 use Rattle.teco_model.specs.Macros.{Library}
-use Rattle.teco_verifier.specs.declared.rules.Rules.{Rules}
 use Rattle.teco_verifier.specs.expansion.Node.{Node}
 use Rattle.teco_verifier.specs.expansion.Refusal as expanding
-use Rattle.teco_known.specs.Numbers.{AreSmall, IsSmallFalls}
+use Rattle.teco_known.specs.Numbers.{AreSmall, IsSmallFall}
 use Rattle.teco_known.specs.declared.few.TheConstants.{DEPTH}
 use Rattle.teco_poly.specs.Polynomial.{Polynomial}
-use Rattle.teco_verifier.specs.facts.Facts.{Facts, Entry, entry_of}
+use Rattle.teco_verifier.specs.facts.Facts.{Facts}
 use Rattle.teco_law_tables.specs.straight_text.Accepted.{BeginsNoIteration, Prints, RowIsOutside, IsAccepted}
 use Rattle.teco_verifier.specs.table.Closed.{check}
 use Rattle.teco_verifier.specs.table.Deriving.{derive}
@@ -52,7 +52,7 @@ none_begins (node ∷ nodes) a = rw a.0 (none_begins nodes a.1)
 -- what is known outside of iterations is kept
 kept : (facts : Facts) → facts.position.falls ≡ [] → facts.iterations ≡ [] → AreKept facts
 kept facts falls iterations = record {
-  small = subst AreSmall (sym falls) (All-nil IsSmallFalls);
+  small = subst AreSmall (sym falls) (All-nil IsSmallFall);
   room = record {
     falls = subst (λ fs. length fs < DEPTH) (sym falls) (omega arith);
     iterations = subst (λ is. length is < DEPTH) (sym iterations) (omega arith);
@@ -72,15 +72,16 @@ nodes_of (Ok nodes) = nodes
 nodes_of (Err why) = []
 
 -- the same of these nodes
-pub record AcceptsNodes (known : Entry) (nodes : List Node) (table : Table) (steps most : Polynomial) : Type 0 where
-  pub derived : derive known nodes [] ≡ Ok table
-  pub closed : check known nodes table ≡ Ok tt
-  pub prints : Prints known nodes table steps most
+pub record AcceptsNodes (argument : Option ArgumentRange) (nodes : List Node) (table : Table)
+    (steps most : Polynomial) : Type 0 where
+  pub derived : derive argument nodes [] ≡ Ok table
+  pub closed : check argument nodes table ≡ Ok tt
+  pub prints : Prints nodes table steps most
   pub outside : AllByRecursion RowIsOutside table
 
-module _ (edition : Rules) (library : Library) (entry : ℕ) (steps most : Polynomial)
-    (accepted : IsAccepted edition library entry steps most) where
-  pub is_well_formed : entry < REGISTERS → IsWellFormed (plain_fields edition entry steps most)
+module _ (library : Library) (entry : ℕ) (steps most : Polynomial)
+    (accepted : IsAccepted library entry steps most) where
+  pub is_well_formed : entry < REGISTERS → IsWellFormed (plain_fields entry steps most)
   is_well_formed h = record {
     parts = record {
       entry = h;
@@ -89,14 +90,13 @@ module _ (edition : Rules) (library : Library) (entry : ℕ) (steps most : Polyn
       size = accepted.prints.most_fits;
       loops = tt;
     };
-    distances = tt;
     order = record { numbers = λ k d h. absurd (omega (arith, h)); registers = tt };
   }
 
   module _ (nodes : List Node) (expanded : expansion library entry ≡ Ok nodes) where
-    pub these : AcceptsNodes (entry_of edition library None) nodes accepted.table steps most
+    pub these : AcceptsNodes None nodes accepted.table steps most
     unfolding nodes_of
-    these = subst (λ ns. AcceptsNodes (entry_of edition library None) ns accepted.table steps most)
+    these = subst (λ ns. AcceptsNodes None ns accepted.table steps most)
         (ap nodes_of (sym accepted.expanded ∙ expanded)) (record {
           derived = accepted.derived;
           closed = accepted.closed;

@@ -5,7 +5,7 @@ use Rattle.std.specs.List.{AllByRecursion, list_any}
 use Rattle.std.specs.Prelude.{IfOk, IfSome}
 use Rattle.teco_base.specs.declared.TheConstants.{REGISTERS}
 use Rattle.teco_certificate.specs.Reads.{IsTextOf}
-use Rattle.teco_certificate.specs.WellFormed.{HasDistancesOf, HasText, IsInOrder}
+use Rattle.teco_certificate.specs.WellFormed.{HasText, IsInOrder}
 use Rattle.teco_check.specs.Derived.{AreLarge, Derives}
 use Rattle.teco_check.specs.Kept.{AreKept, RowIsKept}
 use Rattle.teco_check.specs.declared.derivation.NotDerived.{NotDerived}
@@ -13,11 +13,11 @@ use Rattle.teco_check.specs.declared.derivation.NotDerived.TheVariants as fault
 use Rattle.teco_law_tables.specs.straight_text.Accepted.{BeginsNoIteration, IsAccepted}
 use Rattle.teco_library.specs.Library.{LibraryFile, argument_of}
 use Rattle.teco_poly.specs.Polynomial.{Polynomial}
+use Rattle.teco_model.specs.Macros.{ArgumentRange}
 use Rattle.teco_verifier.specs.certificate.Fields.{Fields, Finding}
-use Rattle.teco_verifier.specs.declared.rules.Rules.{Rules}
 use Rattle.teco_verifier.specs.expansion.Expansion.{expansion}
 use Rattle.teco_verifier.specs.expansion.Node.{Node}
-use Rattle.teco_verifier.specs.facts.Facts.{Entry, Facts, entry_of}
+use Rattle.teco_verifier.specs.facts.Facts.{Facts}
 use Rattle.teco_verifier.specs.table.Choices.{Chosen}
 use Rattle.teco_verifier.specs.table.Closed.{check}
 use Rattle.teco_verifier.specs.table.Deriving.{derive}
@@ -28,7 +28,6 @@ use Rattle.teco_verify.proofs.Accepted.{all_kept, is_well_formed, no_lines, thes
 use Rattle.teco_verify.specs.Accepting.{AcceptedIsChecked, AcceptedIsFound}
 use Rattle.teco_verify.specs.Again.{AreMadeAgain, AreMadeBy, AreMadeFrom, AreMadePlain, IsFoundAgain, PrintedIsAccepted}
 use Rattle.teco_verify.specs.Certifying.{AreFieldsOf, Certifies}
-use Rattle.teco_verify.specs.Given.{given_by}
 use Rattle.teco_verify.specs.Refusing.{IsJudged, IsPlain, fields_of}
 use Rattle.teco_verify.specs.Straight.{IsFound, plain_fields}
 use Rattle.teco_verify.specs.declared.certifying.Flaw.{Flaw}
@@ -47,83 +46,82 @@ not_large (row ∷ table) (suc zero) all large = row_not_large row.facts all.0 l
 not_large (row ∷ table) (suc (suc k)) all large = not_large table (suc k) all.1 large
 
 -- ---- what is made with choices is found with them, or memory is refused
-pub fields_are : (known : Entry) (nodes : List Node) (table : Table) (entry : ℕ) (steps most : Polynomial)
-    (fields : Fields) → AreFieldsOf known nodes table entry fields → fields.commands ≡ steps → fields.size ≡ most
-    → fields ≡ fields_of known nodes table entry steps most
-fields_are known nodes table entry steps most fields f c s =
-    rw (← f.entry_is, ← f.argument_is, ← f.rules_are, ← f.needs_are, ← f.loops_are, ← c, ← s) refl
+pub fields_are : (argument : Option ArgumentRange) (nodes : List Node) (table : Table) (entry : ℕ)
+    (steps most : Polynomial) (fields : Fields) → AreFieldsOf argument nodes table entry fields
+    → fields.commands ≡ steps → fields.size ≡ most
+    → fields ≡ fields_of argument nodes table entry steps most
+fields_are argument nodes table entry steps most fields f c s =
+    rw (← f.entry_is, ← f.argument_is, ← f.needs_are, ← f.loops_are, ← c, ← s) refl
 
-module _ (known : Entry) (nodes : List Node) (chosen : List Chosen) (entry : ℕ) (fields : Fields)
-    (made : AreMadeBy known nodes chosen entry fields) where
-  pub underived_only_memory : (why : NotDerived) → Derives (derive known nodes chosen) (Err why) → why ≡ fault.Memory
+module _ (argument : Option ArgumentRange) (nodes : List Node) (chosen : List Chosen) (entry : ℕ) (fields : Fields)
+    (made : AreMadeBy argument nodes chosen entry fields) where
+  pub underived_only_memory : (why : NotDerived) → Derives (derive argument nodes chosen) (Err why) → why ≡ fault.Memory
   underived_only_memory (fault.Refused reason number) d =
       let no : Ok made.table ≡ Err reason = sym made.derived ∙ d in absurd (cc)
   underived_only_memory (fault.Large node) d =
       absurd (not_large made.table node made.kept (d made.table made.derived))
   underived_only_memory fault.Memory d = refl
 
-  module _ (table : Table) (derived : derive known nodes chosen ≡ Ok table) where
+  module _ (table : Table) (derived : derive argument nodes chosen ≡ Ok table) where
     same_table : made.table ≡ table
     same_table = let same : Ok made.table ≡ Ok table = sym made.derived ∙ derived in cc
 
-    closed : check known nodes table ≡ Ok tt
-    closed = subst (λ t. check known nodes t ≡ Ok tt) same_table made.closed
+    closed : check argument nodes table ≡ Ok tt
+    closed = subst (λ t. check argument nodes t ≡ Ok tt) same_table made.closed
 
-    printed : AreFieldsOf known nodes table entry fields
-    printed = subst (λ t. AreFieldsOf known nodes t entry fields) same_table made.printed
+    printed : AreFieldsOf argument nodes table entry fields
+    printed = subst (λ t. AreFieldsOf argument nodes t entry fields) same_table made.printed
 
-    none_overflows : (number : ℕ) → ((commands known nodes table ≡ Err number)
-        ⊎ (IsOk (commands known nodes table) × (size known nodes table ≡ Err number))) → ⊥
+    none_overflows : (number : ℕ) → ((commands argument nodes table ≡ Err number)
+        ⊎ (IsOk (commands argument nodes table) × (size nodes table ≡ Err number))) → ⊥
     none_overflows number (inl is) = let no : Ok fields.commands ≡ Err number = sym printed.commands_are ∙ is in cc
     none_overflows number (inr is) = let no : Ok fields.size ≡ Err number = sym printed.size_is ∙ is.1 in cc
 
-    pub flawed_only_memory : (why : Flaw) → Certifies known nodes table entry (Err why) → why ≡ flaw.Memory
+    pub flawed_only_memory : (why : Flaw) → Certifies argument nodes table entry (Err why) → why ≡ flaw.Memory
     flawed_only_memory (flaw.Open number) f = let no : Ok tt ≡ Err number = sym closed ∙ f in absurd (cc)
     flawed_only_memory (flaw.Overflow number) f = absurd (none_overflows number f.here)
     flawed_only_memory flaw.Memory f = refl
 
-    pub found_same : (found : Fields) → AreFieldsOf known nodes table entry found → found ≡ fields
+    pub found_same : (found : Fields) → AreFieldsOf argument nodes table entry found → found ≡ fields
     found_same found f =
         let steps : found.commands ≡ fields.commands =
         let e : Ok found.commands ≡ Ok fields.commands = sym f.commands_are ∙ printed.commands_are in cc in
         let most : found.size ≡ fields.size =
         let e : Ok found.size ≡ Ok fields.size = sym f.size_is ∙ printed.size_is in cc in
-        fields_are known nodes table entry fields.commands fields.size found f steps most
-        ∙ sym (fields_are known nodes table entry fields.commands fields.size fields printed refl refl)
+        fields_are argument nodes table entry fields.commands fields.size found f steps most
+        ∙ sym (fields_are argument nodes table entry fields.commands fields.size fields printed refl refl)
 
 -- ---- from a text
-pub made_from : (edition : Rules) (library : LibraryFile) (text : List ℕ) (read : Fields) (entry : ℕ)
+pub made_from : (library : LibraryFile) (text : List ℕ) (read : Fields) (entry : ℕ)
     (nodes : List Node) (result : Result Finding Refusal) → IsTextOf read text → read.entry ≡ entry
     → expansion library.texts entry ≡ Ok nodes → IfOk result (λ found. found.fields.entry ≡ entry)
-    → IfOk result (λ found. AreMadeBy (given_by edition library entry) nodes read.loops entry found.fields)
+    → IfOk result (λ found. AreMadeBy (argument_of library entry) nodes read.loops entry found.fields)
     → IfOk result (λ found. AreMadeFrom library text found.fields)
-made_from edition library text read entry nodes (Ok found) spelled is expanded there made = record {
+made_from library text read entry nodes (Ok found) spelled is expanded there made = record {
   read = read;
   spelled = spelled;
   entry = is ∙ sym there;
   nodes = nodes;
   expanded = subst (λ n. expansion library.texts n ≡ Ok nodes) (sym there) expanded;
-  made = subst (λ n. AreMadeBy (given_by found.fields.rules library n) nodes read.loops n found.fields) (sym there)
-      (subst (λ rules. AreMadeBy (given_by rules library entry) nodes read.loops entry found.fields)
-      (sym made.printed.rules_are) made);
+  made = subst (λ n. AreMadeBy (argument_of library n) nodes read.loops n found.fields) (sym there)
+      made;
 }
-made_from edition library text read entry nodes (Err why) spelled is expanded there made = tt
+made_from library text read entry nodes (Err why) spelled is expanded there made = tt
 
 -- what is read of the text and expanded makes them
-made_there : (edition : Rules) (library : LibraryFile) (fields read : Fields) (entry : ℕ) (nodes : List Node)
-    (made : AreMadeAgain library fields) → fields.rules ≡ edition → read ≡ made.read → read.entry ≡ entry
+made_there : (library : LibraryFile) (fields read : Fields) (entry : ℕ) (nodes : List Node)
+    (made : AreMadeAgain library fields) → read ≡ made.read → read.entry ≡ entry
     → expansion library.texts entry ≡ Ok nodes
-    → AreMadeBy (given_by edition library entry) nodes read.loops entry fields
-made_there edition library fields read entry nodes made rules same is expanded =
+    → AreMadeBy (argument_of library entry) nodes read.loops entry fields
+made_there library fields read entry nodes made same is expanded =
     let there : fields.entry ≡ entry = sym made.entry ∙ (ap (λ (f : Fields). f.entry) (sym same) ∙ is) in
     let here : Ok made.nodes ≡ Ok nodes = sym made.expanded ∙ (ap (expansion library.texts) there ∙ expanded) in
     let nodes_are : made.nodes ≡ nodes = cc in
-    subst (λ n. AreMadeBy (given_by edition library n) nodes read.loops n fields) there
-    (subst (λ cs. AreMadeBy (given_by edition library fields.entry) nodes cs fields.entry fields)
+    subst (λ n. AreMadeBy (argument_of library n) nodes read.loops n fields) there
+    (subst (λ cs. AreMadeBy (argument_of library fields.entry) nodes cs fields.entry fields)
     (ap (λ (f : Fields). f.loops) (sym same))
-    (subst (λ ns. AreMadeBy (given_by edition library fields.entry) ns made.read.loops fields.entry fields) nodes_are
-    (subst (λ rules. AreMadeBy (given_by rules library fields.entry) made.nodes made.read.loops fields.entry fields)
-    rules made.made)))
+    (subst (λ ns. AreMadeBy (argument_of library fields.entry) ns made.read.loops fields.entry fields) nodes_are
+    made.made))
 
 -- ---- where nothing has to be chosen
 not_either : (a b : Bool) → (a || b) ≡ false → (a ≡ false) × (b ≡ false)
@@ -135,19 +133,19 @@ none_begins [] none = tt
 none_begins (node ∷ nodes) none =
     let each = not_either (begins node) (list_any begins nodes) none in (each.0, none_begins nodes each.1)
 
-module _ (edition : Rules) (library : LibraryFile) (entry : ℕ) where
+module _ (library : LibraryFile) (entry : ℕ) where
   pub made_plain : (nodes : List Node) (result : Result Finding Refusal) → expansion library.texts entry ≡ Ok nodes
       → (list_any begins nodes ≡ false → IfOk result
-      (λ found. AreMadeBy (given_by edition library entry) nodes [] entry found.fields))
-      → IfOk result (λ found. AreMadePlain edition library entry found.fields)
+      (λ found. AreMadeBy (argument_of library entry) nodes [] entry found.fields))
+      → IfOk result (λ found. AreMadePlain library entry found.fields)
   made_plain nodes (Ok found) expanded made = λ others plain.
       let both : Ok nodes ≡ Ok others = sym expanded ∙ plain.expanded in
       let same : nodes ≡ others = cc in
-      subst (λ those. AreMadeBy (given_by edition library entry) those [] entry found.fields) same
+      subst (λ those. AreMadeBy (argument_of library entry) those [] entry found.fields) same
       (made (subst (λ those. list_any begins those ≡ false) (sym same) plain.none))
   made_plain nodes (Err why) expanded made = tt
 
-  module _ (fields : Fields) (there : fields.entry ≡ entry) (plain : AreMadePlain edition library entry fields) where
+  module _ (fields : Fields) (there : fields.entry ≡ entry) (plain : AreMadePlain library entry fields) where
     again_plain : (nodes : List Node) → IsPlain library entry nodes → HasText fields
         → AreMadeAgain library fields
     again_plain nodes is parts =
@@ -159,7 +157,6 @@ module _ (edition : Rules) (library : LibraryFile) (entry : ℕ) where
           spelled = record {
             well_formed = record {
               parts = parts;
-              distances = subst (AllByRecursion (HasDistancesOf fields.rules)) (sym nothing) tt;
               order = subst IsInOrder (sym nothing)
                   (record { numbers = λ k d h. absurd (omega (arith, h)); registers = tt });
             };
@@ -168,18 +165,16 @@ module _ (edition : Rules) (library : LibraryFile) (entry : ℕ) where
           entry = refl;
           nodes = nodes;
           expanded = subst (λ n. expansion library.texts n ≡ Ok nodes) (sym there) is.expanded;
-          made = subst (λ n. AreMadeBy (given_by fields.rules library n) nodes fields.loops n fields) (sym there)
-              (subst (λ rules. AreMadeBy (given_by rules library entry) nodes fields.loops entry fields)
-              (sym made.printed.rules_are)
-              (subst (λ cs. AreMadeBy (given_by edition library entry) nodes cs entry fields) (sym nothing) made));
+          made = subst (λ n. AreMadeBy (argument_of library n) nodes fields.loops n fields) (sym there)
+              (subst (λ cs. AreMadeBy (argument_of library entry) nodes cs entry fields) (sym nothing) made);
         }
 
     module _ (result : Result Finding Refusal) (again : IsFoundAgain library fields result) where
       found_plain : (nodes : List Node) → IsPlain library entry nodes → IsFound fields result
       found_plain nodes is = again (again_plain nodes is)
 
-      pub judged_plain : (found : Finding) → found.fields ≡ fields → IsJudged edition library entry (Ok found)
-          → IsJudged edition library entry result
+      pub judged_plain : (found : Finding) → found.fields ≡ fields → IsJudged library entry (Ok found)
+          → IsJudged library entry result
       judged_plain found same judged = record {
         derived = λ nodes reason is e. absurd (judged.derived nodes reason is e);
         unclosed = λ nodes table number is e. absurd (judged.unclosed nodes table number is e);
@@ -190,16 +185,16 @@ module _ (edition : Rules) (library : LibraryFile) (entry : ℕ) where
       }
 
 -- ---- where a library is accepted with nothing chosen
-module _ (edition : Rules) (library : LibraryFile) (entry : ℕ) (steps most : Polynomial)
-    (takes_none : argument_of library entry ≡ None) (accepted : IsAccepted edition library.texts entry steps most) where
+module _ (library : LibraryFile) (entry : ℕ) (steps most : Polynomial)
+    (takes_none : argument_of library entry ≡ None) (accepted : IsAccepted library.texts entry steps most) where
   abbrev plain : Fields
-  plain = plain_fields edition entry steps most
+  plain = plain_fields entry steps most
 
   pub accepted_made : (nodes : List Node) → expansion library.texts entry ≡ Ok nodes
-      → AreMadeBy (given_by edition library entry) nodes [] entry plain
+      → AreMadeBy (argument_of library entry) nodes [] entry plain
   accepted_made nodes expanded =
-      let here = these edition library.texts entry steps most accepted nodes expanded in
-      subst (λ known. AreMadeBy known nodes [] entry plain) (sym (ap (entry_of edition library.texts) takes_none))
+      let here = these library.texts entry steps most accepted nodes expanded in
+      subst (λ argument. AreMadeBy argument nodes [] entry plain) (sym takes_none)
       (record {
         table = accepted.table;
         derived = here.derived;
@@ -208,7 +203,6 @@ module _ (edition : Rules) (library : LibraryFile) (entry : ℕ) (steps most : P
         printed = record {
           entry_is = refl;
           argument_is = refl;
-          rules_are = refl;
           needs_are = sym here.prints.needs_nothing;
           commands_are = here.prints.commands_are;
           size_is = here.prints.size_is;
@@ -220,7 +214,7 @@ module _ (edition : Rules) (library : LibraryFile) (entry : ℕ) (steps most : P
   accepted_made_again small = record {
     read = plain;
     spelled = record {
-      well_formed = is_well_formed edition library.texts entry steps most accepted small;
+      well_formed = is_well_formed library.texts entry steps most accepted small;
       spelled = refl;
     };
     entry = refl;
@@ -230,42 +224,42 @@ module _ (edition : Rules) (library : LibraryFile) (entry : ℕ) (steps most : P
   }
 
 -- ---- what was found is found again
-pub accepted_again : (edition : Rules) (library : LibraryFile) (entry : ℕ) (first result : Result Finding Refusal)
+pub accepted_again : (library : LibraryFile) (entry : ℕ) (first result : Result Finding Refusal)
     (found : Finding) → first ≡ Ok found → IsFoundAgain library found.fields result
-    → AcceptedIsFound edition library entry first → AcceptedIsFound edition library entry result
-accepted_again edition library entry (Err why) result found is again accepted = absurd (cc)
-accepted_again edition library entry (Ok other) result found is again accepted = λ steps most takes_none plain.
+    → AcceptedIsFound library entry first → AcceptedIsFound library entry result
+accepted_again library entry (Err why) result found is again accepted = absurd (cc)
+accepted_again library entry (Ok other) result found is again accepted = λ steps most takes_none plain.
     let both : other ≡ found = cc in
-    let same : found.fields ≡ plain_fields edition entry steps most =
-    subst (λ (f : Finding). f.fields ≡ plain_fields edition entry steps most) both
+    let same : found.fields ≡ plain_fields entry steps most =
+    subst (λ (f : Finding). f.fields ≡ plain_fields entry steps most) both
     (accepted steps most takes_none plain) in
     subst (λ f. IsFound f result) same
     (again (λ parts. subst (AreMadeAgain library) (sym same)
-    (accepted_made_again edition library entry steps most takes_none plain
+    (accepted_made_again library entry steps most takes_none plain
     (subst (λ (f : Fields). f.entry < REGISTERS) same parts.entry))))
 
-pub judged_again : (edition : Rules) (library : LibraryFile) (entry : ℕ) (first result : Result Finding Refusal)
+pub judged_again : (library : LibraryFile) (entry : ℕ) (first result : Result Finding Refusal)
     (found : Finding) → first ≡ Ok found → IfOk first (λ found. found.fields.entry ≡ entry)
-    → IfOk first (λ found. AreMadePlain edition library entry found.fields)
-    → IsFoundAgain library found.fields result → IsJudged edition library entry first
-    → IsJudged edition library entry result
-judged_again edition library entry (Err why) result found is there plain again judged = absurd (cc)
-judged_again edition library entry (Ok other) result found is there plain again judged =
+    → IfOk first (λ found. AreMadePlain library entry found.fields)
+    → IsFoundAgain library found.fields result → IsJudged library entry first
+    → IsJudged library entry result
+judged_again library entry (Err why) result found is there plain again judged = absurd (cc)
+judged_again library entry (Ok other) result found is there plain again judged =
     let both : found ≡ other = cc in
-    judged_plain edition library entry other.fields there plain result
+    judged_plain library entry other.fields there plain result
     (subst (λ (f : Finding). IsFoundAgain library f.fields result) both again) other refl judged
 
 -- ---- from its text
-pub made_by_choices : (edition : Rules) (library : LibraryFile) (fields read : Fields) (entry : ℕ) (nodes : List Node)
-    (chosen : List Chosen) (made : AreMadeAgain library fields) → fields.rules ≡ edition → read ≡ made.read
+pub made_by_choices : (library : LibraryFile) (fields read : Fields) (entry : ℕ) (nodes : List Node)
+    (chosen : List Chosen) (made : AreMadeAgain library fields) → read ≡ made.read
     → read.entry ≡ entry → expansion library.texts entry ≡ Ok nodes → chosen ≡ read.loops
-    → AreMadeBy (given_by edition library entry) nodes chosen entry fields
-made_by_choices edition library fields read entry nodes chosen made rules same is expanded choices =
-    subst (λ cs. AreMadeBy (given_by edition library entry) nodes cs entry fields) (sym choices)
-    (made_there edition library fields read entry nodes made rules same is expanded)
+    → AreMadeBy (argument_of library entry) nodes chosen entry fields
+made_by_choices library fields read entry nodes chosen made same is expanded choices =
+    subst (λ cs. AreMadeBy (argument_of library entry) nodes cs entry fields) (sym choices)
+    (made_there library fields read entry nodes made same is expanded)
 
-pub accepted_checked : (edition : Rules) (library : LibraryFile) (bytes : List ℕ) (result : Result Finding Refusal)
-    → PrintedIsAccepted edition library bytes result → AcceptedIsChecked edition library bytes result
-accepted_checked edition library bytes result again = λ entry steps most small takes_none is spelled.
-    again (plain_fields edition entry steps most) refl
-    (accepted_made_again edition library entry steps most takes_none is small) spelled
+pub accepted_checked : (library : LibraryFile) (bytes : List ℕ) (result : Result Finding Refusal)
+    → PrintedIsAccepted library bytes result → AcceptedIsChecked library bytes result
+accepted_checked library bytes result again = λ entry steps most small takes_none is spelled.
+    again (plain_fields entry steps most)
+    (accepted_made_again library entry steps most takes_none is small) spelled

@@ -2,9 +2,7 @@
 mod Accepted
 mod Refused
 mod Telling
-mod Trying
 mod Nodes
 mod Judged
-mod Lengths
 mod Again
 mod Promised

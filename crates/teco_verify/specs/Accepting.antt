@@ -7,7 +7,6 @@ use Rattle.teco_model.specs.Macros.{Library, macro}
 use Rattle.teco_library.specs.Library.{LibraryFile, argument_of}
 use Rattle.teco_poly.specs.Polynomial.{Polynomial}
 use Rattle.teco_law_tables.specs.straight_text.Accepted.{IsAccepted}
-use Rattle.teco_verifier.specs.declared.rules.Rules.{Rules}
 use Rattle.teco_verifier.specs.table.Choices.{Chosen}
 use Rattle.teco_verify.specs.declared.refusal.Refusal.{Refusal}
 use Rattle.teco_verifier.specs.certificate.Fields.{Finding}
@@ -22,16 +21,16 @@ abbrev pub ChoosesNothing : {E : Type 0} → Result (Vec Chosen Global) E → Ty
 ChoosesNothing (Ok choices) = choices.items ≡ []
 ChoosesNothing (Err why) = ⊥
 
-abbrev pub AcceptedIsFound : Rules → LibraryFile → ℕ → Result Finding Refusal → Type 0
-AcceptedIsFound edition library entry result =
+abbrev pub AcceptedIsFound : LibraryFile → ℕ → Result Finding Refusal → Type 0
+AcceptedIsFound library entry result =
     (steps most : Polynomial) → argument_of library entry ≡ None
-    → IsAccepted edition library.texts entry steps most
-    → IsFound (plain_fields edition entry steps most) result
+    → IsAccepted library.texts entry steps most
+    → IsFound (plain_fields entry steps most) result
 
-abbrev pub AcceptedIsChecked : Rules → LibraryFile → List ℕ → Result Finding Refusal → Type 0
-AcceptedIsChecked edition library bytes result =
+abbrev pub AcceptedIsChecked : LibraryFile → List ℕ → Result Finding Refusal → Type 0
+AcceptedIsChecked library bytes result =
     (entry : ℕ) (steps most : Polynomial)
     → entry < REGISTERS → argument_of library entry ≡ None
-    → IsAccepted edition library.texts entry steps most
-    → bytes ≡ certificate_text (plain_fields edition entry steps most)
-    → IsFound (plain_fields edition entry steps most) result
+    → IsAccepted library.texts entry steps most
+    → bytes ≡ certificate_text (plain_fields entry steps most)
+    → IsFound (plain_fields entry steps most) result

@@ -5,20 +5,17 @@ use Rattle.teco_verifier.specs.expansion.Expansion.{expansion}
 use Rattle.teco_model.specs.Macros.{Library, ArgumentRange}
 use Rattle.teco_verifier.specs.expansion.Node.{Node}
 use Rattle.teco_library.specs.Library.{LibraryFile, argument_of}
-use Rattle.teco_verifier.specs.facts.Facts.{entry_of}
 use Rattle.teco_verifier.specs.table.Printed.{needs_in, IsPrinted}
 use Rattle.teco_verifier.specs.table.Table.{Table}
 use Rattle.teco_verifier.specs.table.Loops.{loops_of}
 
--- There is a table of the expansion that is closed for the argument by the certificate's edition of the
--- rules, and its numbers, needs and choices are those of that table.
+-- There is a table of the expansion that is closed for the argument, and its numbers, needs and choices are those of
+-- that table.
 pub record IsCertified (library : Library) (fields : Fields) : Type 0 where
   pub nodes : List Node
   pub table : Table
   pub expanded : expansion library fields.entry ≡ Ok nodes
-  pub printed :
-      IsPrinted (entry_of fields.rules library fields.argument) nodes table fields.commands
-      fields.size
+  pub printed : IsPrinted fields.argument nodes table fields.commands fields.size
   pub needs_are : fields.needs ≡ needs_in nodes table
   pub loops_are : fields.loops ≡ loops_of nodes table
 

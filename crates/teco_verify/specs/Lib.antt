@@ -1,12 +1,10 @@
 -- What is found of a macro.
-pub mod Given
 pub mod Certified
 pub mod Promised
 pub mod Straight
 pub mod Accepting
 pub mod Certifying
 pub mod Telling
-pub mod Trying
 pub mod Refusing
 pub mod Unfit
 pub mod Again

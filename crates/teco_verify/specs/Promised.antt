@@ -2,7 +2,7 @@
 use Rattle.teco_promise.specs.Promise.{Promise}
 use Rattle.teco_verifier.specs.certificate.Fields.{Finding}
 
--- what the certificate says, but not by which rules it was found
+-- what the certificate says, but for its choices
 abbrev pub promise_of : Finding → Promise
 promise_of found = record {
   library = found.library;

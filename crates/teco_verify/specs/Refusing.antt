@@ -14,14 +14,12 @@ use Rattle.teco_verify.specs.declared.unfit.Unfit.TheVariants as unfits
 use Rattle.teco_verifier.specs.expansion.Expansion.{expansion}
 use Rattle.teco_verifier.specs.expansion.Node.{Node, place_of}
 use Rattle.teco_verifier.specs.expansion.Refusal as expanding
-use Rattle.teco_library.specs.Library.{LibraryFile}
+use Rattle.teco_library.specs.Library.{LibraryFile, argument_of}
 use Rattle.teco_expansion.specs.declared.refusal.ExpandFault.{ExpandFault}
 use Rattle.teco_expansion.specs.declared.refusal.ExpandFault.TheVariants as fault
 use Rattle.teco_expansion.specs.Refused.{refusal_seen}
 use Rattle.teco_poly.specs.Polynomial.{Polynomial}
-use Rattle.teco_verifier.specs.declared.rules.Rules.{Rules}
-use Rattle.teco_verifier.specs.facts.Facts.{Entry}
-use Rattle.teco_verify.specs.Given.{given_by}
+use Rattle.teco_model.specs.Macros.{ArgumentRange}
 use Rattle.teco_verifier.specs.declared.refusal.Refusal as rules
 use Rattle.teco_verifier.specs.declared.refusal.Refusal.TheVariants as why
 use Rattle.teco_verifier.specs.table.Closed.{check}
@@ -73,16 +71,16 @@ RefusedIsExpansions library entry result =
 
 -- a refusal by the rules, at the node at which they refuse where nothing is chosen
 pub record IsRefusedByRules
-    (known : Entry) (nodes : List Node) (reason : rules.Refusal) (refused : Refusal) : Type 0 where
+    (argument : Option ArgumentRange) (nodes : List Node) (reason : rules.Refusal) (refused : Refusal) : Type 0 where
   pub number : ℕ
-  pub first : IsRefusedAt known nodes [] number reason
+  pub first : IsRefusedAt argument nodes [] number reason
   pub told : refused ≡ refusal_at reason (node_at nodes number)
 
-abbrev pub IsToldByRules : Entry → List Node → rules.Refusal → Result Finding Refusal → Type 0
-IsToldByRules known nodes reason (Ok found) = ⊥
-IsToldByRules known nodes reason (Err refusal.Memory) = ⊤
-IsToldByRules known nodes reason (Err (refusal.No other register place)) =
-    IsRefusedByRules known nodes reason (refusal.No other register place)
+abbrev pub IsToldByRules : Option ArgumentRange → List Node → rules.Refusal → Result Finding Refusal → Type 0
+IsToldByRules argument nodes reason (Ok found) = ⊥
+IsToldByRules argument nodes reason (Err refusal.Memory) = ⊤
+IsToldByRules argument nodes reason (Err (refusal.No other register place)) =
+    IsRefusedByRules argument nodes reason (refusal.No other register place)
 
 -- Nothing has to be chosen: the library has an expansion, and no iteration begins in it.
 pub record IsPlain (library : LibraryFile) (entry : ℕ) (nodes : List Node) : Type 0 where
@@ -90,60 +88,59 @@ pub record IsPlain (library : LibraryFile) (entry : ℕ) (nodes : List Node) : T
   pub none : list_any begins nodes ≡ false
 
 -- There the rules give a table.
-pub record IsPlainTable (edition : Rules) (library : LibraryFile) (entry : ℕ) (nodes : List Node)
+pub record IsPlainTable (library : LibraryFile) (entry : ℕ) (nodes : List Node)
     (table : Table) : Type 0 where
   pub plain : IsPlain library entry nodes
-  pub derived : derive (given_by edition library entry) nodes [] ≡ Ok table
+  pub derived : derive (argument_of library entry) nodes [] ≡ Ok table
 
 -- Where nothing has to be chosen and the rules refuse, the refusal is theirs, at the node at which they refuse.
-abbrev pub RefusedIsDerived : Rules → LibraryFile → ℕ → Result Finding Refusal → Type 0
-RefusedIsDerived edition library entry result =
+abbrev pub RefusedIsDerived : LibraryFile → ℕ → Result Finding Refusal → Type 0
+RefusedIsDerived library entry result =
     (nodes : List Node) (reason : rules.Refusal)
-    → IsPlain library entry nodes → derive (given_by edition library entry) nodes [] ≡ Err reason
-    → IsToldByRules (given_by edition library entry) nodes reason result
+    → IsPlain library entry nodes → derive (argument_of library entry) nodes [] ≡ Err reason
+    → IsToldByRules (argument_of library entry) nodes reason result
 
 -- A table that is not closed is refused for no bound, at the first node at which it is not.
-abbrev pub RefusedIsUnclosed : Rules → LibraryFile → ℕ → Result Finding Refusal → Type 0
-RefusedIsUnclosed edition library entry result =
+abbrev pub RefusedIsUnclosed : LibraryFile → ℕ → Result Finding Refusal → Type 0
+RefusedIsUnclosed library entry result =
     (nodes : List Node) (table : Table) (number : ℕ)
-    → IsPlainTable edition library entry nodes table
-    → check (given_by edition library entry) nodes table ≡ Err number
+    → IsPlainTable library entry nodes table
+    → check (argument_of library entry) nodes table ≡ Err number
     → IsRefused (refusal_at why.Bound (node_at nodes number)) result
 
 -- A number that overflows is refused where it does.
-abbrev pub RefusedIsOverflow : Rules → LibraryFile → ℕ → Result Finding Refusal → Type 0
-RefusedIsOverflow edition library entry result =
+abbrev pub RefusedIsOverflow : LibraryFile → ℕ → Result Finding Refusal → Type 0
+RefusedIsOverflow library entry result =
     (nodes : List Node) (table : Table) (number : ℕ)
-    → IsPlainTable edition library entry nodes table
-    → Overflows (given_by edition library entry) nodes table number
+    → IsPlainTable library entry nodes table
+    → Overflows (argument_of library entry) nodes table number
     → IsRefused (refusal_at why.Overflow (node_at nodes number)) result
 
 -- A closed table whose numbers do not overflow is accepted, with what is printed of it.
-abbrev pub fields_of : Entry → List Node → Table → ℕ → Polynomial → Polynomial → Fields
-fields_of known nodes table entry steps most = record {
+abbrev pub fields_of : Option ArgumentRange → List Node → Table → ℕ → Polynomial → Polynomial → Fields
+fields_of argument nodes table entry steps most = record {
   entry = entry;
-  argument = known.argument;
-  rules = known.rules;
+  argument = argument;
   needs = needs_in nodes table;
   commands = steps;
   size = most;
   loops = loops_of nodes table;
 }
 
-abbrev pub PrintedIsFound : Rules → LibraryFile → ℕ → Result Finding Refusal → Type 0
-PrintedIsFound edition library entry result =
+abbrev pub PrintedIsFound : LibraryFile → ℕ → Result Finding Refusal → Type 0
+PrintedIsFound library entry result =
     (nodes : List Node) (table : Table) (steps most : Polynomial)
-    → IsPlainTable edition library entry nodes table
-    → IsPrinted (given_by edition library entry) nodes table steps most
-    → IsFound (fields_of (given_by edition library entry) nodes table entry steps most) result
+    → IsPlainTable library entry nodes table
+    → IsPrinted (argument_of library entry) nodes table steps most
+    → IsFound (fields_of (argument_of library entry) nodes table entry steps most) result
 
 -- these four
-pub record IsJudged (edition : Rules) (library : LibraryFile) (entry : ℕ)
+pub record IsJudged (library : LibraryFile) (entry : ℕ)
     (result : Result Finding Refusal) : Type 0 where
-  pub derived : RefusedIsDerived edition library entry result
-  pub unclosed : RefusedIsUnclosed edition library entry result
-  pub overflow : RefusedIsOverflow edition library entry result
-  pub printed : PrintedIsFound edition library entry result
+  pub derived : RefusedIsDerived library entry result
+  pub unclosed : RefusedIsUnclosed library entry result
+  pub overflow : RefusedIsOverflow library entry result
+  pub printed : PrintedIsFound library entry result
 
 -- A certificate is refused as such, or memory was refused.
 abbrev pub IsOfCertificate : Refusal → Type 0

@@ -8,7 +8,7 @@ ghost use Rattle.teco_verifier.specs.expansion.Node.{Node, numbered, place_of};
 ghost use Rattle.teco_model.specs.Element as elements;
 ghost use Rattle.teco_verifier.specs.table.Loops.{begins};
 ghost use Rattle.teco_verifier.specs.facts.Facts.{Facts};
-ghost use Rattle.teco_verifier.specs.declared.rules.Rules.TheVariants.{First};
+ghost use Rattle.teco_verifier.specs.facts.Flows as flows;
 ghost use Rattle.teco_verifier.specs.table.Table.{facts_at, choice_at};
 ghost use Rattle.teco_expansion.specs.Refused.{refusal_seen};
 ghost use Rattle.teco_verify.specs.Again.{AreMadeAgain};
@@ -17,7 +17,7 @@ ghost use Rattle.teco_verify.specs.Refusing.{refusal_of, register_of, IsJudged, 
 ghost use Rattle.teco_verify.specs.Refusing.{RefusedIsExpansions, RefusedIsOverflow, RefusedIsUnclosed};
 ghost use Rattle.teco_verify.specs.Straight.{StraightIsVerified};
 ghost use Rattle.teco_verify.specs.Accepting.{AcceptedIsFound};
-ghost use Rattle.teco_verify.specs.Telling.{AcceptedIsTold, IsVerdict, expanded, node_in, turns_told};
+ghost use Rattle.teco_verify.specs.Telling.{AcceptedIsTold, IsVerdict, expanded, node_in};
 
 use crate::asked::Asked;
 use crate::known::Known;
@@ -28,15 +28,15 @@ use crate::watching::watch;
 use std::alloc::{AllocError, Global};
 use std::marker::Model;
 use teco_base::Reg;
-use teco_check::{Table, begins_iteration, end_of, rank_at};
+use teco_check::{Table, begins_iteration};
 use teco_expansion::{ExpandFault, Nodes, Refusal as Unexpanded, expand};
-use teco_facts::{Choice, Entry};
+use teco_facts::Choice;
 use teco_law_tables::straight::straight_texts_are_accepted;
 use teco_library::Library;
-use teco_model::Element;
+use teco_model::{ArgumentRange, Element};
 use teco_poly::Poly;
 use teco_transfer::turns;
-use teco_verifier::{LoopLine, Rules};
+use teco_verifier::LoopLine;
 
 /// What the verifier knows of a macro: the elements that it comes to, numbered from 1, what is
 /// known before each, and the verdict.
@@ -168,17 +168,15 @@ impl<'l> Account<'l> {
         ensures { (those : List Node) (node : Node) (facts : Facts)
             → self.now.nodes ≡ Some those → numbered those number ≡ Some node
             → facts_at self.now.table number ≡ Some facts
-            → result ≡ (if begins node then result_ok (turns_told those self.now.table number facts)
+            → result ≡ (if begins node then result_ok (flows.turns facts)
             else None) }
     {
         if !begins_iteration(&self.element(number)) {
             return None;
         }
-        let nodes = self.nodes_with(number)?;
-        let end = self.table.facts(end_of(nodes, number));
         match self.table.facts(number) {
             None => None,
-            Some(facts) => turns(rank_at(end), facts).ok(),
+            Some(facts) => turns(facts).ok(),
         }
     }
 }
@@ -200,7 +198,7 @@ fn unexpanded<'l>(alloc: Global, refused: Unexpanded) -> Account<'l>
 // passed once more with the choices it had then, and what is known at each is kept.
 fn table_of(
     alloc: Global,
-    given: &Entry,
+    argument: Option<ArgumentRange>,
     nodes: &Nodes<'_>,
     derived: Option<Table>,
     chosen: Vec<LoopLine>,
@@ -209,7 +207,7 @@ fn table_of(
 {
     match derived {
         Some(table) => Ok(table),
-        None => watch(alloc, given, nodes, chosen),
+        None => watch(alloc, argument, nodes, chosen),
     }
 }
 
@@ -223,16 +221,13 @@ fn accounted<'l>(alloc: Global, asked: &Asked<'l>) -> Result<Account<'l>, AllocE
         (λ verified. TakesDeclared asked.now.library.now verified.fields)) }
     ensures entry { IfOk result (λ told. IfOk told.verdict
         (λ verified. verified.fields.entry ≡ asked.now.entry)) }
-    ensures rules { IfOk result (λ told. IfOk told.verdict
-        (λ verified. verified.fields.rules ≡ asked.now.rules)) }
-    ensures known { IfOk result (AcceptedIsTold asked.now.rules asked.now.library.now
-        asked.now.entry) }
-    ensures accepted { IfOk result (λ told.
-        AcceptedIsFound asked.now.rules asked.now.library.now asked.now.entry told.verdict) }
+    ensures known { IfOk result (AcceptedIsTold asked.now.library.now asked.now.entry) }
+    ensures accepted { IfOk result (λ told. AcceptedIsFound asked.now.library.now asked.now.entry
+        told.verdict) }
     ensures unexpanded { IfOk result (λ told.
         RefusedIsExpansions asked.now.library.now asked.now.entry told.verdict) }
-    ensures judged { IfOk result (λ told.
-        IsJudged asked.now.rules asked.now.library.now asked.now.entry told.verdict) }
+    ensures judged { IfOk result (λ told. IsJudged asked.now.library.now asked.now.entry
+        told.verdict) }
     ensures made { IfOk result (λ told. IfOk told.verdict
         (λ verified. AreMadeAgain asked.now.library.now verified.fields)) }
 {
@@ -245,7 +240,7 @@ fn accounted<'l>(alloc: Global, asked: &Asked<'l>) -> Result<Account<'l>, AllocE
     if let Err(Refusal::Memory) = &found.verdict {
         return Err(AllocError);
     }
-    let table = table_of(alloc, &asked.given(), &nodes, found.table, found.chosen)?;
+    let table = table_of(alloc, asked.argument(), &nodes, found.table, found.chosen)?;
     Ok(Account {
         nodes: Some(nodes),
         table,
@@ -254,50 +249,8 @@ fn accounted<'l>(alloc: Global, asked: &Asked<'l>) -> Result<Account<'l>, AllocE
     })
 }
 
-/// Tells what the verifier knows of a macro: the verdict of `verify_by`, and what it rests on. Where
-/// the macro is refused, it passes each element once more than `verify_by` does.
-pub fn account_by<'l>(
-    alloc: Global,
-    library: &'l Library,
-    entry: Reg,
-    rules: Rules,
-) -> Result<Account<'l>, AllocError>
-    ensures nodes { IfOk result (λ told. told.nodes
-        ≡ expanded (expansion library.now.texts entry)) }
-    ensures library { IfOk result (λ told. IfOk told.verdict
-        (λ verified. verified.library ≡ library.now.texts)) }
-    ensures argument { IfOk result (λ told. IfOk told.verdict
-        (λ verified. TakesDeclared library.now verified.fields)) }
-    ensures entry { IfOk result (λ told. IfOk told.verdict
-        (λ verified. verified.fields.entry ≡ entry)) }
-    ensures rules { IfOk result (λ told. IfOk told.verdict
-        (λ verified. verified.fields.rules ≡ rules)) }
-    ensures known { IfOk result (AcceptedIsTold rules library.now entry) }
-    ensures straight { IfOk result (λ told.
-        StraightIsVerified rules library.now entry told.verdict) }
-    ensures unexpanded { IfOk result (λ told. RefusedIsExpansions library.now entry told.verdict) }
-    ensures underived { IfOk result (λ told.
-        RefusedIsDerived rules library.now entry told.verdict) }
-    ensures unclosed { IfOk result (λ told.
-        RefusedIsUnclosed rules library.now entry told.verdict) }
-    ensures overflow { IfOk result (λ told.
-        RefusedIsOverflow rules library.now entry told.verdict) }
-    ensures printed { IfOk result (λ told. PrintedIsFound rules library.now entry told.verdict) }
-    ensures made { IfOk result (λ told. IfOk told.verdict
-        (λ verified. AreMadeAgain library.now verified.fields)) }
-{
-    straight_texts_are_accepted();
-    texts_are_within(library);
-    let asked = Asked {
-        library,
-        entry,
-        rules,
-        most: u64::MAX,
-    };
-    accounted(alloc, &asked)
-}
-
-/// Tells what the verifier knows of a macro by the first edition of the rules.
+/// Tells what the verifier knows of a macro: the verdict of `verify`, and what it rests on. Where
+/// the macro is refused, it passes each element once more than `verify` does.
 pub fn account_of<'l>(
     alloc: Global,
     library: &'l Library,
@@ -311,21 +264,18 @@ pub fn account_of<'l>(
         (λ verified. TakesDeclared library.now verified.fields)) }
     ensures entry { IfOk result (λ told. IfOk told.verdict
         (λ verified. verified.fields.entry ≡ entry)) }
-    ensures rules { IfOk result (λ told. IfOk told.verdict
-        (λ verified. verified.fields.rules ≡ First)) }
-    ensures known { IfOk result (AcceptedIsTold First library.now entry) }
-    ensures straight { IfOk result (λ told.
-        StraightIsVerified First library.now entry told.verdict) }
+    ensures known { IfOk result (AcceptedIsTold library.now entry) }
+    ensures straight { IfOk result (λ told. StraightIsVerified library.now entry told.verdict) }
     ensures unexpanded { IfOk result (λ told. RefusedIsExpansions library.now entry told.verdict) }
-    ensures underived { IfOk result (λ told.
-        RefusedIsDerived First library.now entry told.verdict) }
-    ensures unclosed { IfOk result (λ told.
-        RefusedIsUnclosed First library.now entry told.verdict) }
-    ensures overflow { IfOk result (λ told.
-        RefusedIsOverflow First library.now entry told.verdict) }
-    ensures printed { IfOk result (λ told. PrintedIsFound First library.now entry told.verdict) }
+    ensures underived { IfOk result (λ told. RefusedIsDerived library.now entry told.verdict) }
+    ensures unclosed { IfOk result (λ told. RefusedIsUnclosed library.now entry told.verdict) }
+    ensures overflow { IfOk result (λ told. RefusedIsOverflow library.now entry told.verdict) }
+    ensures printed { IfOk result (λ told. PrintedIsFound library.now entry told.verdict) }
     ensures made { IfOk result (λ told. IfOk told.verdict
         (λ verified. AreMadeAgain library.now verified.fields)) }
 {
-    account_by(alloc, library, entry, Rules::First)
+    straight_texts_are_accepted();
+    texts_are_within(library);
+    let asked = Asked { library, entry };
+    accounted(alloc, &asked)
 }

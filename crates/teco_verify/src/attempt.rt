@@ -4,25 +4,11 @@ use crate::memo::{Body, Memo};
 use std::alloc::{AllocError, Global};
 use teco_check::{choice_for, line_of};
 use teco_facts::{Changes, Choice, Facts, body_start, growth_of, held_last, joined_lengths};
-use teco_known::Margins;
 use teco_poly::Poly;
-use teco_verifier::{LoopLine, Rank, Refusal, Rules};
+use teco_verifier::{LoopLine, Refusal};
 
-// How often a choice is tried: the second edition also tries without distances.
-fn most_tries(rules: Rules) -> u8 {
-    match rules {
-        Rules::First => 3,
-        Rules::Second => 4,
-    }
-}
-
-// The distances of the first try.
-fn first_margins(entering: &Facts) -> Margins {
-    match entering.rules() {
-        Rules::First => Margins::nowhere(),
-        Rules::Second => entering.margins(),
-    }
-}
+// How often a choice is tried.
+const TRIES: u8 = 3;
 
 /// A try at the choice for the body of an iteration.
 #[derive(Drop)]
@@ -57,7 +43,6 @@ impl Attempt {
         let choice = Choice {
             held: entering.held(),
             kept: true,
-            margins: first_margins(&entering),
             texts: entering.texts(),
         };
         Attempt {
@@ -77,7 +62,7 @@ impl Attempt {
     fn with(mut self, choice: Option<Choice>) -> Attempt {
         if let Some(choice) = choice {
             self.choice = choice;
-            self.tries = most_tries(self.entering.rules());
+            self.tries = TRIES;
         }
         self
     }
@@ -106,31 +91,19 @@ impl Attempt {
         body_start(&self.choice, &self.changes, self.entering.copied()?)
     }
 
-    // The turns, where this is known at the `>`.
-    fn turns_by(&self, end: &Facts) -> Result<Poly, Refusal> {
-        match end.rank() {
-            Some(Rank::Held) if !self.entering.is_counted() => {
-                let held = self.entering.held();
-                held.add(&Poly::number(1)).ok_or(Refusal::Overflow)
-            }
-            _ => Ok(self.turns),
-        }
-    }
-
     // The choice for the next try, from what is known at the `>`.
-    fn next_choice(&self, turns: &Poly, end: &Facts) -> Result<Choice, Refusal> {
+    fn next_choice(&self, end: &Facts) -> Result<Choice, Refusal> {
         let growth = growth_of(&self.choice.held, &end.held())?;
         Ok(Choice {
-            held: held_last(&self.entering.held(), turns, &growth)?,
+            held: held_last(&self.entering.held(), &self.turns, &growth)?,
             kept: self.choice.kept && end.has_fallen(0),
-            margins: self.choice.margins.where_at_most(end.margins()),
             texts: joined_lengths(&self.choice.texts, &end.texts())?,
         })
     }
 
     // What is wrong for any choice.
     fn fault(&self, end: &Facts) -> Option<Refusal> {
-        if !self.entering.is_counted() && end.rank().is_none() {
+        if !self.entering.is_counted() && !end.has_fallen(1) {
             Some(Refusal::Fall)
         } else if end.pushed() != self.entering.pushed() {
             Some(Refusal::Pop)
@@ -140,20 +113,20 @@ impl Attempt {
     }
 
     // Whether the choice stands.
-    fn stands(&self, turns: &Poly, end: &Facts) -> bool {
+    fn stands(&self, end: &Facts) -> bool {
         self.choice
-            .stands(&self.changes, turns, &self.entering, Some(end))
+            .stands(&self.changes, &self.turns, &self.entering, Some(end))
     }
 
     // Whether the choice stands with this end of a turn. Where all pairs that were pushed lie at
     // the same place, they need not be compared.
-    fn stands_here(&mut self, turns: &Poly, end: &mut Facts) -> bool {
+    fn stands_here(&mut self, end: &mut Facts) -> bool {
         if !self.entering.has_pushes_of(end) {
-            return self.stands(turns, end);
+            return self.stands(end);
         }
         let entering = self.entering.take_pushes();
         let pushes = end.take_pushes();
-        let stands = self.stands(turns, end);
+        let stands = self.stands(end);
         self.entering.put_pushes(entering);
         end.put_pushes(pushes);
         stands
@@ -164,15 +137,14 @@ impl Attempt {
         if let Some(why) = self.fault(end) {
             return Err(why);
         }
-        let turns = self.turns_by(end)?;
-        if self.stands_here(&turns, end) {
+        if self.stands_here(end) {
             return Ok(Verdict::Stands);
         }
-        if self.tries >= most_tries(self.entering.rules()) {
+        if self.tries >= TRIES {
             return Err(Refusal::Bound);
         }
         self.tries += 1;
-        self.choice = self.next_choice(&turns, end)?;
+        self.choice = self.next_choice(end)?;
         Ok(Verdict::Again)
     }
 

@@ -2,9 +2,9 @@
 ghost use Rattle.std.specs.Prelude.{◌≡◌, IfOk, Ok};
 ghost use Rattle.std.specs.Result.{IfErr};
 ghost use Rattle.teco_verifier.specs.expansion.Expansion.{expansion};
+ghost use Rattle.teco_library.specs.Library.{argument_of};
 ghost use Rattle.teco_verify.specs.Certifying.{flaw_by, Certifies, IsFlawIn};
 ghost use Rattle.teco_verify.specs.Certified.{TakesDeclared};
-ghost use Rattle.teco_verify.specs.Given.{given_by};
 ghost use Rattle.teco_verify.specs.Telling.{Tells};
 ghost use Rattle.teco_verify.specs.declared.certifying.Flaw.TheVariants as flaw;
 
@@ -68,22 +68,20 @@ pub fn certified<'l>(
     ensures argument { IfOk result (λ verified. TakesDeclared asked.now.library.now
         verified.fields) }
     ensures entry { IfOk result (λ verified. verified.fields.entry ≡ asked.now.entry) }
-    ensures rules { IfOk result (λ verified. verified.fields.rules ≡ asked.now.rules) }
-    ensures value { Certifies (given_by asked.now.rules asked.now.library.now asked.now.entry)
-        nodes.now table.now asked.now.entry result }
-    ensures told { IfOk result (λ verified. Tells (given_by asked.now.rules asked.now.library.now
+    ensures value { Certifies (argument_of asked.now.library.now asked.now.entry) nodes.now
+        table.now asked.now.entry result }
+    ensures told { IfOk result (λ verified. Tells (argument_of asked.now.library.now
         asked.now.entry) nodes.now verified.fields table.now) }
     ensures numbered { IfErr result (IsFlawIn nodes.now) }
 {
-    let given = asked.given();
-    check(alloc, &given, nodes, table)?;
+    let argument = asked.argument();
+    check(alloc, argument, nodes, table)?;
     let certificate = Certificate {
         entry: asked.entry,
-        argument: given.argument,
-        rules: given.rules,
+        argument,
         needs: needs_in(nodes, table),
-        commands: commands(&given, nodes, table)?,
-        size: size(&given, nodes, table)?,
+        commands: commands(argument, nodes, table)?,
+        size: size(nodes, table)?,
         loops: loops_of(alloc, nodes, table)?,
     };
     Ok(Verified {

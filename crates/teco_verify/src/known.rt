@@ -1,7 +1,6 @@
 //! What is known before an element.
-ghost use Rattle.std.specs.Prelude.{◌≡◌, length, option_map, slice_get};
+ghost use Rattle.std.specs.Prelude.{◌≡◌, ℤ, length, Option, option_map, slice_get};
 ghost use Rattle.std.specs.Option.{option_and_then};
-ghost use Rattle.teco_verifier.specs.declared.falls.Falls.{Falls};
 ghost use Rattle.teco_verifier.specs.facts.Facts as rules;
 ghost use Rattle.teco_verifier.specs.facts.Values as values;
 
@@ -107,8 +106,8 @@ impl<'a> Known<'a> {
     /// How much less is ahead at the least since the turn of an open iteration began, from 0 for
     /// the innermost, if that is known.
     pub fn fall(&self, at: usize) -> Option<i64>
-        ensures { result ≡ option_and_then (λ (f : Falls). f.fall)
-            (slice_get self.now.position.falls at) }
+        ensures { result ≡ option_and_then (λ (f : Option ℤ). f) (slice_get
+            self.now.position.falls at) }
     {
         self.facts.fall(at)
     }

@@ -94,7 +94,6 @@ impl Body {
         let choice = Choice {
             held: entering.held(),
             kept: true,
-            margins: entering.margins(),
             texts,
         };
         let changes = Changes {
@@ -119,7 +118,6 @@ impl Body {
         Choice {
             held: choice.held,
             kept: choice.kept,
-            margins: choice.margins,
             texts,
         }
     }

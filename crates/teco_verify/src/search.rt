@@ -13,23 +13,19 @@ use crate::unfit::{Unfit, Unfound};
 use std::alloc::{AllocError, Global};
 use teco_check::are_kept;
 use teco_expansion::Nodes;
-use teco_facts::{Entry, Facts};
+use teco_facts::Facts;
+use teco_model::ArgumentRange;
 use teco_poly::Poly;
 use teco_transfer::{Edges, turns};
-use teco_verifier::{LoopLine, Refusal, Rules};
+use teco_verifier::{LoopLine, Refusal};
 
-// How often the body of the innermost of six iterations may be passed: as often for each of them
-// as its choice is tried.
-fn passes(rules: Rules) -> u64 {
-    match rules {
-        Rules::First => 729,
-        Rules::Second => 4096,
-    }
-}
+// How often the body of the innermost of six iterations may be passed: three times for each of
+// them.
+const PASSES: u64 = 729;
 
 /// How many nodes a search can pass, of so many.
-pub fn most_passed(rules: Rules, nodes: usize) -> u64 {
-    passes(rules).saturating_mul(nodes as u64)
+pub fn most_passed(nodes: usize) -> u64 {
+    PASSES.saturating_mul(nodes as u64)
 }
 
 // A pass over the nodes, in their order, with what is tried for the iterations that are open.
@@ -51,13 +47,13 @@ impl Search {
     /// their iterations.
     pub fn new(
         alloc: Global,
-        entry: &Entry,
+        argument: Option<ArgumentRange>,
         nodes: usize,
         given: Vec<LoopLine>,
     ) -> Result<Search, AllocError> {
         Ok(Search {
             alloc,
-            carried: Some(Facts::entry(alloc, entry)?),
+            carried: Some(Facts::entry(alloc, argument)?),
             pending: Pending::new(alloc, nodes)?,
             memo: Memo::new(alloc, nodes)?,
             attempts: Vec::new(alloc),
@@ -221,7 +217,7 @@ impl Search {
     {
         let here = course.here(number);
         let turns = if here.begins_iteration() {
-            Some(turns(None, &facts))
+            Some(turns(&facts))
         } else {
             None
         };
@@ -326,27 +322,23 @@ fn joined(alloc: Global, known: Option<Facts>, more: Facts, number: usize) -> Re
     }
 }
 
-/// Finds a choice for each iteration whose body is reached, by the numbers of their `<`, where no
-/// more than `most` nodes have to be passed, each as often as the search comes to it.
+/// Finds a choice for each iteration whose body is reached, by the numbers of their `<`.
 ///
-/// The body of each iteration is passed at most three times, by the second edition four, for each
-/// pass of the one round it.
+/// The body of each iteration is passed at most three times for each pass of the one round it.
 pub fn choose(
     alloc: Global,
-    entry: &Entry,
+    argument: Option<ArgumentRange>,
     nodes: &Nodes<'_>,
-    most: u64,
 ) -> Result<Vec<LoopLine>, Unfound>
     ensures { IfErr result (λ unfound. IsIn nodes.now unfound.why) }
 {
     let Ok(course) = Course::new(alloc, nodes) else {
         return Err(Unfound::memory(alloc));
     };
-    let Ok(mut search) = Search::new(alloc, entry, nodes.len(), Vec::new(alloc)) else {
+    let Ok(mut search) = Search::new(alloc, argument, nodes.len(), Vec::new(alloc)) else {
         return Err(Unfound::memory(alloc));
     };
-    let most = most.min(most_passed(entry.rules, nodes.len()));
-    match search.pass_all(&course, most) {
+    match search.pass_all(&course, most_passed(nodes.len())) {
         Ok(()) => Ok(search.found),
         Err(why) => Err(search.into_unfound(why)),
     }

@@ -5,15 +5,14 @@ ghost use Rattle.std.specs.Result.{IfErr};
 ghost use Rattle.teco_base.specs.declared.TheConstants.{LIMIT};
 ghost use Rattle.teco_certificate.specs.Reads.{IsTextOf};
 ghost use Rattle.teco_certificate.specs.Text.{certificate_text};
+ghost use Rattle.teco_library.specs.Library.{argument_of};
 ghost use Rattle.teco_verifier.specs.table.Loops.{begins};
 ghost use Rattle.teco_verifier.specs.expansion.Expansion.{expansion};
 ghost use Rattle.teco_verifier.specs.certificate.Fields.{Fields};
-ghost use Rattle.teco_verifier.specs.declared.rules.Rules.TheVariants.{First};
 ghost use Rattle.teco_verify.specs.Again.{AreMadeAgain, AreMadeBy, AreMadePlain, IsFoundAgain};
 ghost use Rattle.teco_verify.specs.Again.{PrintedIsAccepted};
 ghost use Rattle.teco_verify.specs.Accepting.{AcceptedIsChecked, AcceptedIsFound, ChoosesNothing, TextsAreWithin};
 ghost use Rattle.teco_verify.specs.Certified.{TakesDeclared};
-ghost use Rattle.teco_verify.specs.Given.{given_by};
 ghost use Rattle.teco_verify.specs.Refusing.{refusal_of_unfit, IsJudged, IsOfCertificate, PrintedIsFound};
 ghost use Rattle.teco_verify.specs.Refusing.{RefusedIsDerived, RefusedIsExpansions, RefusedIsOverflow};
 ghost use Rattle.teco_verify.specs.Refusing.{RefusedIsUnclosed};
@@ -34,10 +33,10 @@ use teco_certificate::laws::{one_entry, one_spelling};
 use teco_certificate::{Certificate, CertificateFault};
 use teco_check::{Table, derive, has_iterations};
 use teco_expansion::{Nodes, expand};
-use teco_facts::Entry;
 use teco_law_tables::straight::straight_texts_are_accepted;
 use teco_library::Library;
-use teco_verifier::{LoopLine, Rules};
+use teco_model::ArgumentRange;
+use teco_verifier::LoopLine;
 
 /// The texts of a library have no more than LIMIT characters.
 #[tactic(auto, using(crate::proofs::Accepted::within))]
@@ -55,8 +54,6 @@ pub struct Found<'l> {
     pub table: Option<Table>,
     pub stop: Option<usize>,
     pub chosen: Vec<LoopLine>,
-    /// Whether the search was given up, so that its refusal says nothing of the macro.
-    pub given_up: bool,
 }
 
 impl<'l> Found<'l> {
@@ -79,7 +76,6 @@ impl<'l> Found<'l> {
             table,
             stop,
             chosen,
-            given_up: matches!(why, Unfit::GivenUp { .. }),
         }
     }
 
@@ -92,7 +88,6 @@ impl<'l> Found<'l> {
             table: None,
             stop: None,
             chosen: Vec::new(alloc),
-            given_up: false,
         }
     }
 }
@@ -110,19 +105,17 @@ pub fn found_with<'l>(
     ensures argument { IfOk result.verdict (λ verified. TakesDeclared asked.now.library.now
         verified.fields) }
     ensures entry { IfOk result.verdict (λ verified. verified.fields.entry ≡ asked.now.entry) }
-    ensures rules { IfOk result.verdict (λ verified. verified.fields.rules ≡ asked.now.rules) }
-    ensures told { IfOk result.verdict (λ verified. IsSomeAnd result.table
-        (Tells (given_by asked.now.rules asked.now.library.now asked.now.entry) nodes.now
-        verified.fields)) }
-    ensures judged { chosen.now ≡ [] → IsJudged asked.now.rules asked.now.library.now
-        asked.now.entry result.verdict }
-    ensures made { IfOk result.verdict (λ verified. AreMadeBy (given_by asked.now.rules
-        asked.now.library.now asked.now.entry) nodes.now chosen.now asked.now.entry verified.fields) }
-    ensures again { (fields : Fields) → AreMadeBy (given_by asked.now.rules asked.now.library.now
-        asked.now.entry) nodes.now chosen.now asked.now.entry fields
-        → IsFound fields result.verdict }
+    ensures told { IfOk result.verdict (λ verified. IsSomeAnd result.table (Tells (argument_of
+        asked.now.library.now asked.now.entry) nodes.now verified.fields)) }
+    ensures judged { chosen.now ≡ [] → IsJudged asked.now.library.now asked.now.entry
+        result.verdict }
+    ensures made { IfOk result.verdict (λ verified. AreMadeBy (argument_of asked.now.library.now
+        asked.now.entry) nodes.now chosen.now asked.now.entry verified.fields) }
+    ensures again { (fields : Fields) → AreMadeBy (argument_of asked.now.library.now
+        asked.now.entry) nodes.now chosen.now asked.now.entry fields → IsFound fields
+        result.verdict }
 {
-    let table = match derive(alloc, &asked.given(), nodes, chosen) {
+    let table = match derive(alloc, asked.argument(), nodes, chosen) {
         Ok(table) => table,
         Err(why) => return Found::unfit(unfit_underived(why), nodes, None, Vec::new(alloc)),
     };
@@ -132,25 +125,22 @@ pub fn found_with<'l>(
             table: Some(table),
             stop: None,
             chosen: Vec::new(alloc),
-            given_up: false,
         },
         Err(flaw) => Found::unfit(unfit_flawed(flaw), nodes, Some(table), Vec::new(alloc)),
     }
 }
 
-// What is chosen for the iterations, if no more than `most` nodes have to be passed for it. Where
-// there are none it is nothing.
+// What is chosen for the iterations. Where there are none it is nothing.
 fn choices(
     alloc: Global,
-    given: &Entry,
+    argument: Option<ArgumentRange>,
     nodes: &Nodes<'_>,
-    most: u64,
 ) -> Result<Vec<LoopLine>, Unfound>
     ensures none { list_any begins nodes.now ≡ false → ChoosesNothing result }
     ensures numbered { IfErr result (λ unfound. IsIn nodes.now unfound.why) }
 {
     if has_iterations(nodes) {
-        choose(alloc, given, nodes, most)
+        choose(alloc, argument, nodes)
     } else {
         Ok(Vec::new(alloc))
     }
@@ -164,17 +154,14 @@ fn found_by_search<'l>(alloc: Global, asked: &Asked<'l>, nodes: &Nodes<'_>) -> F
     ensures argument { IfOk result.verdict (λ verified. TakesDeclared asked.now.library.now
         verified.fields) }
     ensures entry { IfOk result.verdict (λ verified. verified.fields.entry ≡ asked.now.entry) }
-    ensures rules { IfOk result.verdict (λ verified. verified.fields.rules ≡ asked.now.rules) }
-    ensures told { IfOk result.verdict (λ verified. IsSomeAnd result.table
-        (Tells (given_by asked.now.rules asked.now.library.now asked.now.entry) nodes.now
-        verified.fields)) }
-    ensures accepted { AcceptedIsFound asked.now.rules asked.now.library.now asked.now.entry
-        result.verdict }
-    ensures judged { IsJudged asked.now.rules asked.now.library.now asked.now.entry result.verdict }
-    ensures made { IfOk result.verdict (λ verified. AreMadePlain asked.now.rules
-        asked.now.library.now asked.now.entry verified.fields) }
+    ensures told { IfOk result.verdict (λ verified. IsSomeAnd result.table (Tells (argument_of
+        asked.now.library.now asked.now.entry) nodes.now verified.fields)) }
+    ensures accepted { AcceptedIsFound asked.now.library.now asked.now.entry result.verdict }
+    ensures judged { IsJudged asked.now.library.now asked.now.entry result.verdict }
+    ensures made { IfOk result.verdict (λ verified. AreMadePlain asked.now.library.now
+        asked.now.entry verified.fields) }
 {
-    match choices(alloc, &asked.given(), nodes, asked.most) {
+    match choices(alloc, asked.argument(), nodes) {
         Ok(choices) => found_with(alloc, asked, nodes, &choices),
         Err(unfound) => Found::unfit(unfound.why, nodes, None, unfound.chosen),
     }
@@ -196,15 +183,12 @@ fn found_from<'l>(
     ensures argument { IfOk result.verdict (λ verified. TakesDeclared asked.now.library.now
         verified.fields) }
     ensures entry { IfOk result.verdict (λ verified. verified.fields.entry ≡ asked.now.entry) }
-    ensures rules { IfOk result.verdict (λ verified. verified.fields.rules ≡ asked.now.rules) }
-    ensures told { IfOk result.verdict (λ verified. IsSomeAnd result.table
-        (Tells (given_by asked.now.rules asked.now.library.now asked.now.entry) nodes.now
-        verified.fields)) }
+    ensures told { IfOk result.verdict (λ verified. IsSomeAnd result.table (Tells (argument_of
+        asked.now.library.now asked.now.entry) nodes.now verified.fields)) }
     ensures text { IfOk result.verdict (λ verified. certificate_text verified.fields ≡ bytes.now) }
     ensures made { IfOk result.verdict (λ verified. AreMadeAgain asked.now.library.now
         verified.fields) }
-    ensures again { PrintedIsAccepted asked.now.rules asked.now.library.now bytes.now
-        result.verdict }
+    ensures again { PrintedIsAccepted asked.now.library.now bytes.now result.verdict }
 {
     one_spelling();
     let found = found_with(alloc, asked, nodes, &claimed.loops);
@@ -228,16 +212,13 @@ fn found_again<'l>(
 ) -> Found<'l>
     requires expanded { expansion asked.now.library.now.texts asked.now.entry ≡ Ok nodes.now }
     requires entry { first.now.fields.entry ≡ asked.now.entry }
-    requires rules { first.now.fields.rules ≡ asked.now.rules }
     ensures library { IfOk result.verdict (λ verified. verified.library
         ≡ asked.now.library.now.texts) }
     ensures argument { IfOk result.verdict (λ verified. TakesDeclared asked.now.library.now
         verified.fields) }
     ensures entry { IfOk result.verdict (λ verified. verified.fields.entry ≡ asked.now.entry) }
-    ensures rules { IfOk result.verdict (λ verified. verified.fields.rules ≡ asked.now.rules) }
-    ensures told { IfOk result.verdict (λ verified. IsSomeAnd result.table
-        (Tells (given_by asked.now.rules asked.now.library.now asked.now.entry) nodes.now
-        verified.fields)) }
+    ensures told { IfOk result.verdict (λ verified. IsSomeAnd result.table (Tells (argument_of
+        asked.now.library.now asked.now.entry) nodes.now verified.fields)) }
     ensures made { IfOk result.verdict (λ verified. AreMadeAgain asked.now.library.now
         verified.fields) }
     ensures again { IsFoundAgain asked.now.library.now first.now.fields
@@ -262,13 +243,10 @@ pub fn found_of<'l>(alloc: Global, asked: &Asked<'l>, nodes: &Nodes<'_>) -> Foun
     ensures argument { IfOk result.verdict (λ verified. TakesDeclared asked.now.library.now
         verified.fields) }
     ensures entry { IfOk result.verdict (λ verified. verified.fields.entry ≡ asked.now.entry) }
-    ensures rules { IfOk result.verdict (λ verified. verified.fields.rules ≡ asked.now.rules) }
-    ensures told { IfOk result.verdict (λ verified. IsSomeAnd result.table
-        (Tells (given_by asked.now.rules asked.now.library.now asked.now.entry) nodes.now
-        verified.fields)) }
-    ensures accepted { AcceptedIsFound asked.now.rules asked.now.library.now asked.now.entry
-        result.verdict }
-    ensures judged { IsJudged asked.now.rules asked.now.library.now asked.now.entry result.verdict }
+    ensures told { IfOk result.verdict (λ verified. IsSomeAnd result.table (Tells (argument_of
+        asked.now.library.now asked.now.entry) nodes.now verified.fields)) }
+    ensures accepted { AcceptedIsFound asked.now.library.now asked.now.entry result.verdict }
+    ensures judged { IsJudged asked.now.library.now asked.now.entry result.verdict }
     ensures made { IfOk result.verdict (λ verified. AreMadeAgain asked.now.library.now
         verified.fields) }
 {
@@ -285,11 +263,9 @@ fn verified<'l>(alloc: Global, asked: &Asked<'l>) -> Result<Verified<'l>, Refusa
     ensures argument { IfOk result (λ verified. TakesDeclared asked.now.library.now
         verified.fields) }
     ensures entry { IfOk result (λ verified. verified.fields.entry ≡ asked.now.entry) }
-    ensures rules { IfOk result (λ verified. verified.fields.rules ≡ asked.now.rules) }
-    ensures accepted { AcceptedIsFound asked.now.rules asked.now.library.now asked.now.entry
-        result }
+    ensures accepted { AcceptedIsFound asked.now.library.now asked.now.entry result }
     ensures unexpanded { RefusedIsExpansions asked.now.library.now asked.now.entry result }
-    ensures judged { IsJudged asked.now.rules asked.now.library.now asked.now.entry result }
+    ensures judged { IsJudged asked.now.library.now asked.now.entry result }
     ensures made { IfOk result (λ verified. AreMadeAgain asked.now.library.now
         verified.fields) }
 {
@@ -305,51 +281,23 @@ fn verified<'l>(alloc: Global, asked: &Asked<'l>) -> Result<Verified<'l>, Refusa
 /// where it is checked.
 ///
 /// Takes time by the elements of the texts that are called, and for each iteration up to four
-/// times those in its body, by the second edition five.
-pub fn verify_by<'l>(
-    alloc: Global,
-    library: &'l Library,
-    entry: Reg,
-    rules: Rules,
-) -> Result<Verified<'l>, Refusal>
-    ensures library { IfOk result (λ verified. verified.library ≡ library.now.texts) }
-    ensures argument { IfOk result (λ verified. TakesDeclared library.now verified.fields) }
-    ensures entry { IfOk result (λ verified. verified.fields.entry ≡ entry) }
-    ensures rules { IfOk result (λ verified. verified.fields.rules ≡ rules) }
-    ensures straight { StraightIsVerified rules library.now entry result }
-    ensures unexpanded { RefusedIsExpansions library.now entry result }
-    ensures underived { RefusedIsDerived rules library.now entry result }
-    ensures unclosed { RefusedIsUnclosed rules library.now entry result }
-    ensures overflow { RefusedIsOverflow rules library.now entry result }
-    ensures printed { PrintedIsFound rules library.now entry result }
-    ensures made { IfOk result (λ verified. AreMadeAgain library.now verified.fields) }
-{
-    straight_texts_are_accepted();
-    texts_are_within(library);
-    let asked = Asked {
-        library,
-        entry,
-        rules,
-        most: u64::MAX,
-    };
-    verified(alloc, &asked)
-}
-
-/// Verifies a macro of a library by the first edition of the rules.
+/// times those in its body.
 pub fn verify<'l>(alloc: Global, library: &'l Library, entry: Reg) -> Result<Verified<'l>, Refusal>
     ensures library { IfOk result (λ verified. verified.library ≡ library.now.texts) }
     ensures argument { IfOk result (λ verified. TakesDeclared library.now verified.fields) }
     ensures entry { IfOk result (λ verified. verified.fields.entry ≡ entry) }
-    ensures rules { IfOk result (λ verified. verified.fields.rules ≡ First) }
-    ensures straight { StraightIsVerified First library.now entry result }
+    ensures straight { StraightIsVerified library.now entry result }
     ensures unexpanded { RefusedIsExpansions library.now entry result }
-    ensures underived { RefusedIsDerived First library.now entry result }
-    ensures unclosed { RefusedIsUnclosed First library.now entry result }
-    ensures overflow { RefusedIsOverflow First library.now entry result }
-    ensures printed { PrintedIsFound First library.now entry result }
+    ensures underived { RefusedIsDerived library.now entry result }
+    ensures unclosed { RefusedIsUnclosed library.now entry result }
+    ensures overflow { RefusedIsOverflow library.now entry result }
+    ensures printed { PrintedIsFound library.now entry result }
     ensures made { IfOk result (λ verified. AreMadeAgain library.now verified.fields) }
 {
-    verify_by(alloc, library, entry, Rules::First)
+    straight_texts_are_accepted();
+    texts_are_within(library);
+    let asked = Asked { library, entry };
+    verified(alloc, &asked)
 }
 
 // Any refusal of a certificate, but want of memory, is the same.
@@ -368,13 +316,11 @@ fn certified_by<'l>(
     alloc: Global,
     library: &'l Library,
     bytes: &[u8],
-    rules: Rules,
 ) -> Result<Verified<'l>, Refusal>
     ensures library { IfOk result (λ verified. verified.library ≡ library.now.texts) }
     ensures argument { IfOk result (λ verified. TakesDeclared library.now verified.fields) }
-    ensures rules { IfOk result (λ verified. verified.fields.rules ≡ rules) }
     ensures text { IfOk result (λ verified. certificate_text verified.fields ≡ bytes.now) }
-    ensures again { PrintedIsAccepted rules library.now bytes.now result }
+    ensures again { PrintedIsAccepted library.now bytes.now result }
 {
     one_spelling();
     let claimed = match Certificate::read(alloc, bytes) {
@@ -386,54 +332,25 @@ fn certified_by<'l>(
     let asked = Asked {
         library,
         entry: claimed.entry,
-        rules,
-        most: u64::MAX,
     };
     found_from(alloc, &asked, &nodes, &claimed, bytes).verdict
 }
 
 // What is verified by a certificate; any other refusal is that of the certificate.
-fn checked<'l>(
-    alloc: Global,
-    library: &'l Library,
-    bytes: &[u8],
-    rules: Rules,
-) -> Result<Verified<'l>, Refusal>
+fn checked<'l>(alloc: Global, library: &'l Library, bytes: &[u8]) -> Result<Verified<'l>, Refusal>
     ensures library { IfOk result (λ verified. verified.library ≡ library.now.texts) }
     ensures argument { IfOk result (λ verified. TakesDeclared library.now verified.fields) }
-    ensures rules { IfOk result (λ verified. verified.fields.rules ≡ rules) }
     ensures text { IfOk result (λ verified. certificate_text verified.fields ≡ bytes.now) }
-    ensures accepted { AcceptedIsChecked rules library.now bytes.now result }
+    ensures accepted { AcceptedIsChecked library.now bytes.now result }
     ensures refused { IfErr result IsOfCertificate }
-    ensures again { PrintedIsAccepted rules library.now bytes.now result }
+    ensures again { PrintedIsAccepted library.now bytes.now result }
 {
-    certified_by(alloc, library, bytes, rules).map_err(refused)
+    certified_by(alloc, library, bytes).map_err(refused)
 }
 
-/// Checks a certificate of an edition of the rules for a library: its choices make a table that is
-/// closed for the argument that the library declares, and it is the text of that table's
-/// certificate. That of straight text is not refused.
-pub fn check_certificate_by<'l>(
-    alloc: Global,
-    library: &'l Library,
-    bytes: &[u8],
-    rules: Rules,
-) -> Result<Verified<'l>, Refusal>
-    requires { length bytes.now ≤ LIMIT }
-    ensures library { IfOk result (λ verified. verified.library ≡ library.now.texts) }
-    ensures argument { IfOk result (λ verified. TakesDeclared library.now verified.fields) }
-    ensures rules { IfOk result (λ verified. verified.fields.rules ≡ rules) }
-    ensures text { IfOk result (λ verified. certificate_text verified.fields ≡ bytes.now) }
-    ensures straight { StraightIsChecked rules library.now bytes.now result }
-    ensures refused { IfErr result IsOfCertificate }
-    ensures again { PrintedIsAccepted rules library.now bytes.now result }
-{
-    straight_texts_are_accepted();
-    texts_are_within(library);
-    checked(alloc, library, bytes, rules)
-}
-
-/// Checks a certificate of the first edition of the rules for a library.
+/// Checks a certificate for a library: its choices make a table that is closed for the argument that
+/// the library declares, and it is the text of that table's certificate. That of straight text is
+/// not refused.
 pub fn check_certificate<'l>(
     alloc: Global,
     library: &'l Library,
@@ -442,11 +359,12 @@ pub fn check_certificate<'l>(
     requires { length bytes.now ≤ LIMIT }
     ensures library { IfOk result (λ verified. verified.library ≡ library.now.texts) }
     ensures argument { IfOk result (λ verified. TakesDeclared library.now verified.fields) }
-    ensures rules { IfOk result (λ verified. verified.fields.rules ≡ First) }
     ensures text { IfOk result (λ verified. certificate_text verified.fields ≡ bytes.now) }
-    ensures straight { StraightIsChecked First library.now bytes.now result }
+    ensures straight { StraightIsChecked library.now bytes.now result }
     ensures refused { IfErr result IsOfCertificate }
-    ensures again { PrintedIsAccepted First library.now bytes.now result }
+    ensures again { PrintedIsAccepted library.now bytes.now result }
 {
-    check_certificate_by(alloc, library, bytes, Rules::First)
+    straight_texts_are_accepted();
+    texts_are_within(library);
+    checked(alloc, library, bytes)
 }

@@ -16,7 +16,6 @@ use teco_library::Library;
 use teco_model::Needs;
 use teco_poly::Poly;
 use teco_promise::{Promise, Statement};
-use teco_verifier::Rules;
 
 /// A macro of a library that was verified: what its certificate says is so. It is seen as the
 /// library's texts, and what that certificate says.
@@ -76,13 +75,6 @@ impl<'l> Verified<'l> {
     {
         let range = self.certificate.argument?;
         Some((range.low() as i32, range.high() as i32))
-    }
-
-    /// The edition of the rules.
-    pub fn rules(&self) -> Rules
-        ensures { result ≡ self.now.fields.rules }
-    {
-        self.certificate.rules
     }
 
     /// The library.

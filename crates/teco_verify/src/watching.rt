@@ -7,8 +7,9 @@ use crate::unfit::Unfit;
 use std::alloc::{AllocError, Global};
 use teco_check::{Row, Table, are_kept, choice_for};
 use teco_expansion::Nodes;
-use teco_facts::{Entry, Facts};
-use teco_verifier::{LoopLine, Rules};
+use teco_facts::Facts;
+use teco_model::ArgumentRange;
+use teco_verifier::LoopLine;
 
 // What was known at each node that was passed, in the order of their numbers.
 #[derive(Drop)]
@@ -77,15 +78,10 @@ impl Search {
     }
 
     // Passes the nodes up to the end or the first refusal, and keeps what is known.
-    fn follow(
-        &mut self,
-        course: &Course<'_, '_>,
-        rules: Rules,
-        trail: &mut Trail,
-    ) -> Result<(), Unfit> {
+    fn follow(&mut self, course: &Course<'_, '_>, trail: &mut Trail) -> Result<(), Unfit> {
         let count = course.nodes.len();
         let mut number = 1;
-        for _ in 0..most_passed(rules, count) {
+        for _ in 0..most_passed(count) {
             if number > count {
                 return Ok(());
             }
@@ -98,16 +94,16 @@ impl Search {
 // Follows the pass to its end, or to the refusal that ends it.
 fn followed(
     alloc: Global,
-    entry: &Entry,
+    argument: Option<ArgumentRange>,
     nodes: &Nodes<'_>,
     given: Vec<LoopLine>,
 ) -> Result<Table, Unfit> {
     let course = Course::new(alloc, nodes)?;
-    let mut search = Search::new(alloc, entry, nodes.len(), given)?;
+    let mut search = Search::new(alloc, argument, nodes.len(), given)?;
     let mut trail = Trail {
         known: Vec::new(alloc),
     };
-    if let Err(Unfit::Memory) = search.follow(&course, entry.rules, &mut trail) {
+    if let Err(Unfit::Memory) = search.follow(&course, &mut trail) {
         return Err(Unfit::Memory);
     }
     let chosen = search.into_chosen()?;
@@ -119,11 +115,11 @@ fn followed(
 /// with which an earlier search ended, each node is passed once.
 pub fn watch(
     alloc: Global,
-    entry: &Entry,
+    argument: Option<ArgumentRange>,
     nodes: &Nodes<'_>,
     given: Vec<LoopLine>,
 ) -> Result<Table, AllocError> {
-    match followed(alloc, entry, nodes, given) {
+    match followed(alloc, argument, nodes, given) {
         Ok(table) => Ok(table),
         Err(_) => Err(AllocError),
     }

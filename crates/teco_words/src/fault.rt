@@ -50,8 +50,8 @@ pub enum WordsFault {
     /// Which pages are edited is none of the three words for that.
     #[error("--pages takes first, each or whole")]
     Pages,
-    /// The edition of the rules is none of the three.
-    #[error("--rules takes 1, 2 or 3")]
+    /// The edition of the rules is neither of the two.
+    #[error("--rules takes 1 or 2")]
     Rules,
     /// A text of a register is none.
     #[error("--set takes a register and its text, as B=TEXT, and --set-file a register and a file, as B=PATH")]

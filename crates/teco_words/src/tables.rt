@@ -506,7 +506,7 @@ const ANY_CASE: Row = Row {
 const RULES: Row = Row {
     id: "rules",
     kind: Kind::Value("N", Values::Text),
-    help: "The edition of the rules that macros are verified by: 1, 2 or 3",
+    help: "The edition of the rules that macros are verified by: 1 or 2",
 };
 
 const ESCAPE: Row = Row {

@@ -12,7 +12,7 @@ use teco_base::bytes::ESC;
 use teco_edits::{Change, Choice, Keeping, Look, Naming};
 use teco_source::{Form, Shown};
 use teco_tools::{Case, INPUT, OUTPUT, Script};
-use teco_verdicts::{Editions, Escape, Method, Origin, Rules, STREAM, Setting};
+use teco_verdicts::{Edition, Escape, Method, Origin, STREAM, Setting};
 
 /// The register of the macro where an option names the library, and none the register.
 const DEFAULT_ENTRY: &str = "A";
@@ -154,9 +154,8 @@ pub fn escape_of(words: &ArgMatches<'_>) -> Result<Escape, WordsFault> {
 pub fn method_of(words: &ArgMatches<'_>) -> Result<Option<Method>, WordsFault> {
     match words.get_str("rules") {
         None => Ok(None),
-        Some("1") => Ok(Some(Method::Tables(Editions::Only(Rules::First)))),
-        Some("2") => Ok(Some(Method::Tables(Editions::Only(Rules::Second)))),
-        Some("3") => Ok(Some(Method::Claims)),
+        Some("1") => Ok(Some(Method::Only(Edition::First))),
+        Some("2" | "3") => Ok(Some(Method::Only(Edition::Second))),
         Some(_) => Err(WordsFault::Rules),
     }
 }

@@ -1,7 +1,6 @@
 -- Straight text is accepted.
-use Rattle.std.proofs.Common.{ℕ, ◌+◌, List, [], ◌∷◌, refl, None}
+use Rattle.std.proofs.Common.{ℕ, ◌+◌, List, [], ◌∷◌, refl}
 use Rattle.std.specs.List.{AllByRecursion}
-use Rattle.teco_verifier.specs.facts.Facts.{Entry, entry_of}
 use Rattle.teco_model.specs.Element.{Element}
 use Rattle.teco_law_tables.specs.straight_text.Accepted.{RowIsOutside, StraightTextsAreAccepted}
 use Rattle.teco_law_tables.specs.straight_text.Facts.{rows_in_text, straight_table}
@@ -12,18 +11,17 @@ use Rattle.teco_law_tables.proofs.straight_text.Deriving.{straight_tables_are_de
 use Rattle.teco_law_tables.proofs.straight_text.Expanding.{straight_texts_are_expanded}
 use Rattle.teco_law_tables.proofs.straight_text.Printing.{straight_tables_print}
 
-rows_outside : (known : Entry) (count : ℕ) (elements : List Element)
-    → AllByRecursion RowIsOutside (rows_in_text known count elements)
-rows_outside known count [] = ((refl, refl), tt)
-rows_outside known count (e ∷ elements) = ((refl, refl), rows_outside known (count + inserted_by e) elements)
+rows_outside : (count : ℕ) (elements : List Element) → AllByRecursion RowIsOutside (rows_in_text count elements)
+rows_outside count [] = ((refl, refl), tt)
+rows_outside count (e ∷ elements) = ((refl, refl), rows_outside (count + inserted_by e) elements)
 
 pub straight_texts_are_accepted : StraightTextsAreAccepted
-straight_texts_are_accepted rules library entry text elements is l = record {
+straight_texts_are_accepted library entry text elements is l = record {
   nodes = straight_nodes entry text elements;
-  table = straight_table (entry_of rules library None) elements;
+  table = straight_table elements;
   expanded = straight_texts_are_expanded library entry text elements is;
-  derived = straight_tables_are_derived rules library entry text elements is l;
-  closed = straight_tables_are_closed rules library entry text elements is l;
-  prints = straight_tables_print rules library entry text elements is l;
-  outside = ((refl, refl), rows_outside (entry_of rules library None) 0 elements);
+  derived = straight_tables_are_derived library entry text elements is l;
+  closed = straight_tables_are_closed library entry text elements is l;
+  prints = straight_tables_print library entry text elements is l;
+  outside = ((refl, refl), rows_outside 0 elements);
 }

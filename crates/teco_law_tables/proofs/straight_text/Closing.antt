@@ -1,14 +1,9 @@
 -- The table of a straight text is closed.
-use Rattle.std.proofs.Common.{◌≡◌, ℕ, suc, ◌+◌, ◌≤◌, min, nat_le, nat_lt, List, [], ◌∷◌, drop, length, Bool, true}
-use Rattle.std.proofs.Common.{false, Some, None, Ok, refl, rules, arith}
+use Rattle.std.proofs.Common.{◌≡◌, ℕ, suc, ◌+◌, ◌≤◌, min, nat_le, nat_lt, List, [], ◌∷◌, drop, length, true, false}
+use Rattle.std.proofs.Common.{Some, None, Ok, refl, rules, arith, ◌<◌}
 use Rattle.std.specs.List.{AllByRecursion}
-use Rattle.teco_model.specs.Macros.{Library}
-use Rattle.teco_verifier.specs.declared.rules.Rules.{Rules}
-use Rattle.teco_verifier.specs.facts.Falls.{is_second}
-use Rattle.teco_poly.proofs.Lawful.{comparison_orders}
-use Rattle.teco_poly.specs.Polynomial.{Polynomial}
-use Rattle.teco_verifier.specs.facts.Facts.{Entry, entry_of, Facts, texts_at_entry}
-use Rattle.teco_base.specs.declared.TheConstants.{LIMIT, REGISTERS}
+use Rattle.teco_verifier.specs.facts.Facts.{Facts}
+use Rattle.teco_base.specs.declared.TheConstants.{LIMIT}
 use Rattle.teco_model.specs.declared.kind.Argument.TheVariants.{DropAll}
 use Rattle.teco_model.specs.declared.kind.Command.TheVariants as command
 use Rattle.teco_model.specs.declared.kind.Flow.TheVariants as flow
@@ -17,11 +12,11 @@ use Rattle.teco_model.specs.declared.kind.Kind.{Kind}
 use Rattle.teco_model.specs.declared.kind.Kind.TheVariants as kind
 use Rattle.teco_model.specs.Element.{Element}
 use Rattle.teco_verifier.specs.expansion.Node.{Node, beginning}
-use Rattle.teco_verifier.specs.facts.Covers.{is_same_truth, each_covers, covers_length, covers}
+use Rattle.teco_verifier.specs.facts.Covers.{covers}
 use Rattle.teco_verifier.specs.facts.Flows.{Edges, goes_on}
 use Rattle.teco_verifier.specs.facts.Transfer.{transfer}
 use Rattle.teco_verifier.specs.table.Behind.{placed, begins_turn, along}
-use Rattle.teco_verifier.specs.table.Closed.{is_entry, arrives, enters_at, closed_at, check_from, check_nodes, check}
+use Rattle.teco_verifier.specs.table.Closed.{arrives, enters_at, closed_at, check_from, check_nodes, check}
 use Rattle.teco_verifier.specs.table.Table.{Table, facts_at}
 use Rattle.teco_law_tables.specs.straight_text.Straight.{IsStraightKind, IsStraightElement, inserted_by, inserted}
 use Rattle.teco_law_tables.specs.straight_text.Nodes.{call_element, stand_in_text, node_going_on, nodes_in_text}
@@ -33,21 +28,10 @@ use Rattle.teco_law_tables.proofs.straight_text.Edging.{edges_of_element}
 use Rattle.teco_law_tables.proofs.straight_text.Lookup.{facts_there, length-nodes}
 use Rattle.teco_law_tables.proofs.straight_text.Within.{inserted_within}
 
-same_truth : (b : Bool) → is_same_truth b b ≡ true
-same_truth true = refl
-same_truth false = refl
-
-texts_cover : (texts : List Polynomial) → each_covers covers_length texts texts ≡ true
-texts_cover [] = refl
-texts_cover (p ∷ texts) = rw (comparison_orders.reflexive p) (texts_cover texts)
-
-covers_itself : (known : Entry) (count : ℕ)
-    → covers (facts_behind_insertions known count) (facts_behind_insertions known count) ≡ true
-covers_itself known count =
+covers_itself : (count : ℕ) → covers (facts_behind_insertions count) (facts_behind_insertions count) ≡ true
+covers_itself count =
     let back : nat_le (min count LIMIT) (min count LIMIT) ≡ true = search rules in
-    let held : nat_le count count ≡ true = search rules in
-    rw (same_truth (is_second known.rules))
-    (rw (back, held, texts_cover (texts_at_entry known.rules known.lengths REGISTERS)) refl)
+    let held : nat_le count count ≡ true = search rules in rw (back, held) refl
 
 -- an element enters no body, and begins no turn
 record GoesOn (nodes : List Node) (table : Table) (number : ℕ) (facts : Facts) (e : Element) (edges : Edges) :
@@ -67,66 +51,61 @@ kind_goes_on nodes table number facts (kind.Command (command.Insertion Text)) e 
 kind_goes_on nodes table number facts k e edges s = absurd s
 
 -- an edge to the next node is covered
-arrives_next : (known : Entry) (nodes : List Node) (table : Table) (e : Element) (target count : ℕ)
-    → target ≤ length nodes → facts_at table target ≡ Some (facts_behind_insertions known count) →
-    arrives nodes table (Some e) target (Some (facts_behind_insertions known count)) ≡ true
-arrives_next known nodes table e target count l f =
-    let inside : nat_lt (length nodes) target ≡ false = search rules in rw (inside, f) (covers_itself known count)
+arrives_next : (nodes : List Node) (table : Table) (e : Element) (target count : ℕ) → target ≤ length nodes
+    → facts_at table target ≡ Some (facts_behind_insertions count) →
+    arrives nodes table (Some e) target (Some (facts_behind_insertions count)) ≡ true
+arrives_next nodes table e target count l f =
+    let inside : nat_lt (length nodes) target ≡ false = search rules in rw (inside, f) (covers_itself count)
 
-call_closed : (known : Entry) (nodes : List Node) (table : Table) (entry : ℕ) → 2 ≤ length nodes
-    → facts_at table 1 ≡ Some (facts_behind_insertions known 0)
-    → facts_at table 2 ≡ Some (facts_behind_insertions known 0) →
+call_closed : (nodes : List Node) (table : Table) (entry : ℕ) → 2 ≤ length nodes
+    → facts_at table 1 ≡ Some (facts_behind_insertions 0) → facts_at table 2 ≡ Some (facts_behind_insertions 0) →
     closed_at nodes table 1 (node_going_on entry 1 (beginning entry) (Some (call_element entry)) true) ≡ true
 unfolding transfer
-call_closed known nodes table entry l here next =
-    rw here (rw (arrives_next known nodes table (call_element entry) 2 0 l next) refl)
+call_closed nodes table entry l here next =
+    rw here (rw (arrives_next nodes table (call_element entry) 2 0 l next) refl)
 
-element_closed : (known : Entry) (nodes : List Node) (table : Table) (entry m place : ℕ) (text : List ℕ) (count : ℕ)
-    (e : Element) → IsStraightElement e → count + inserted_by e ≤ LIMIT → suc (suc m) ≤ length nodes →
-    facts_at table (suc m) ≡ Some (facts_behind_insertions known count)
-    → facts_at table (suc (suc m)) ≡ Some (facts_behind_insertions known (count + inserted_by e)) →
+element_closed : (nodes : List Node) (table : Table) (entry m place : ℕ) (text : List ℕ) (count : ℕ) (e : Element)
+    → IsStraightElement e → count + inserted_by e ≤ LIMIT → suc (suc m) ≤ length nodes →
+    facts_at table (suc m) ≡ Some (facts_behind_insertions count)
+    → facts_at table (suc (suc m)) ≡ Some (facts_behind_insertions (count + inserted_by e)) →
     closed_at nodes table (suc m) (node_going_on entry (suc m) (stand_in_text entry text place) (Some e) false) ≡ true
-element_closed known nodes table entry m place text count e s i l here next =
+element_closed nodes table entry m place text count e s i l here next =
     let node = node_going_on entry (suc m) (stand_in_text entry text place) (Some e) false in
-    let more = facts_behind_insertions known (count + inserted_by e) in
-    let is = kind_goes_on nodes table (suc m) (facts_behind_insertions known count) e.kind e (goes_on more) s in
-    rw (here, edges_of_element known (placed nodes node e) count s i)
+    let more = facts_behind_insertions (count + inserted_by e) in
+    let is = kind_goes_on nodes table (suc m) (facts_behind_insertions count) e.kind e (goes_on more) s in
+    rw (here, edges_of_element (placed nodes node e) count s i)
     (rw (is.enters, is.turns, is.goes)
-    (rw (arrives_next known nodes table e (suc (suc m)) (count + inserted_by e) l next) refl))
+    (rw (arrives_next nodes table e (suc (suc m)) (count + inserted_by e) l next) refl))
 
-end_closed : (known : Entry) (nodes : List Node) (table : Table) (entry m place : ℕ) (text : List ℕ) (count : ℕ)
-    → suc m ≡ length nodes → facts_at table (suc m) ≡ Some (facts_behind_insertions known count) →
+end_closed : (nodes : List Node) (table : Table) (entry m place : ℕ) (text : List ℕ) (count : ℕ) → suc m ≡ length nodes
+    → facts_at table (suc m) ≡ Some (facts_behind_insertions count) →
     closed_at nodes table (suc m) (node_going_on entry (suc m) (stand_in_text entry text place) None false) ≡ true
-end_closed known nodes table entry m place text count l here = search arith
+end_closed nodes table entry m place text count l here =
+    let behind : nat_lt (length nodes) (suc (suc m)) ≡ true =
+    (let small : length nodes < suc (suc m) = omega (arith, l) in search rules) in
+    rw (here, behind) refl
 
-rows_closed : (known : Entry) (nodes : List Node) (table : Table) (entry m place : ℕ) (text : List ℕ) (count : ℕ)
+rows_closed : (nodes : List Node) (table : Table) (entry m place : ℕ) (text : List ℕ) (count : ℕ)
     (elements : List Element) → AllByRecursion IsStraightElement elements → count + inserted elements ≤ LIMIT
-    → suc m + length elements ≡ length nodes → drop m table ≡ rows_in_text known count elements →
+    → suc m + length elements ≡ length nodes → drop m table ≡ rows_in_text count elements →
     check_from nodes table (suc m) (nodes_in_text entry text (suc m) place elements) ≡ Ok tt
-rows_closed known nodes table entry m place text count [] s i l d =
-    rw (end_closed known nodes table entry m place text count (omega (arith, l)) (facts_there known table m count [] d))
-    refl
-rows_closed known nodes table entry m place text count (e ∷ elements) s i l d =
-    let behind : drop (suc m) table ≡ rows_in_text known (count + inserted_by e) elements =
-    drop-behind m table (rows_in_text known (count + inserted_by e) elements) _ d in
-    rw (element_closed known nodes table entry m place text count e s.0 (omega (arith, i)) (omega (arith, l))
-    (facts_there known table m count (e ∷ elements) d)
-    (facts_there known table (suc m) (count + inserted_by e) elements behind))
-    (rows_closed known nodes table entry (suc m) e.next text (count + inserted_by e) elements s.1 (omega (arith, i))
+rows_closed nodes table entry m place text count [] s i l d =
+    rw (end_closed nodes table entry m place text count (omega (arith, l)) (facts_there table m count [] d)) refl
+rows_closed nodes table entry m place text count (e ∷ elements) s i l d =
+    let behind : drop (suc m) table ≡ rows_in_text (count + inserted_by e) elements =
+    drop-behind m table (rows_in_text (count + inserted_by e) elements) _ d in
+    rw (element_closed nodes table entry m place text count e s.0 (omega (arith, i)) (omega (arith, l))
+    (facts_there table m count (e ∷ elements) d)
+    (facts_there table (suc m) (count + inserted_by e) elements behind))
+    (rows_closed nodes table entry (suc m) e.next text (count + inserted_by e) elements s.1 (omega (arith, i))
     (omega (arith, l)) behind)
-
-entry_is : (rules : Rules) (library : Library)
-    → is_entry (entry_of rules library None) (Some (facts_behind_insertions (entry_of rules library None) 0)) ≡ true
-entry_is rules library = rw (covers_itself (entry_of rules library None) 0) refl
 
 pub straight_tables_are_closed : StraightTablesAreClosed
 unfolding check_nodes check
-straight_tables_are_closed rules library entry text elements is l =
-    let known = entry_of rules library None in
+straight_tables_are_closed library entry text elements is l =
     let nodes = straight_nodes entry text elements in
-    let table = straight_table known elements in
+    let table = straight_table elements in
     let few = length-nodes entry 2 0 text elements in
-    rw (entry_is rules library)
-    (rw (call_closed known nodes table entry (omega (arith, few)) refl (facts_there known table 1 0 elements refl))
-    (rows_closed known nodes table entry 1 0 text 0 elements is.straight
-    (omega (arith, l, inserted_within text elements is.read)) (omega (arith, few)) refl))
+    rw (call_closed nodes table entry (omega (arith, few)) refl (facts_there table 1 0 elements refl))
+    (rows_closed nodes table entry 1 0 text 0 elements is.straight
+    (omega (arith, l, inserted_within text elements is.read)) (omega (arith, few)) refl)

@@ -2,7 +2,7 @@
 use Rattle.std.proofs.Common.{◌≡◌, ℕ, suc, ◌+◌, ◌<◌, ◌≤◌, ◌==◌, List, [], ◌∷◌, ◌++◌, true, false, Some, None, Ok}
 use Rattle.std.proofs.Common.{refl, rules, arith}
 use Rattle.std.specs.List.{AllByRecursion}
-use Rattle.teco_verifier.specs.facts.Facts.{Entry, entry_of, Facts}
+use Rattle.teco_verifier.specs.facts.Facts.{Facts}
 use Rattle.teco_base.specs.declared.TheConstants.{LIMIT}
 use Rattle.teco_model.specs.Element.{Element}
 use Rattle.teco_verifier.specs.expansion.Node.{Stand, Node, beginning}
@@ -16,6 +16,9 @@ use Rattle.teco_law_tables.specs.straight_text.Facts.{StraightTablesAreDerived}
 use Rattle.teco_law_tables.proofs.straight_text.Within.{inserted_within}
 use Rattle.teco_law_tables.proofs.straight_text.Alike.{same_number}
 use Rattle.teco_law_tables.proofs.straight_text.Edging.{edges_of_element, arriving_by_element}
+use Rattle.teco_verifier.specs.facts.Flows.{goes_on}
+use Rattle.teco_verifier.specs.table.Behind.{placed}
+use Rattle.teco_verifier.specs.table.Written.{changes_in}
 
 -- Edges arrive one at each number.
 abbrev arrival_at : ℕ → Facts → Arrival
@@ -37,46 +40,43 @@ below_next : (number : ℕ) (before : List Arrival) (facts : Facts) → AreBelow
 below_next number [] facts b = (omega arith, tt)
 below_next number (arrival ∷ before) facts b = (omega (arith, b.0), below_next number before facts b.1)
 
-call_derived : (known : Entry) (nodes : List Node) (entry : ℕ) →
+call_derived : (nodes : List Node) (entry : ℕ) →
     derived_at nodes [] 1 (node_going_on entry 1 (beginning entry) (Some (call_element entry)) true)
-    (Some (facts_behind_insertions known 0))
-    ≡ Ok (record {
-      row = row_behind_insertions known 0;
-      arrivals = arrival_at 2 (facts_behind_insertions known 0) ∷ [];
-    })
+    (Some (facts_behind_insertions 0))
+    ≡ Ok (record { row = row_behind_insertions 0; arrivals = arrival_at 2 (facts_behind_insertions 0) ∷ [] })
 unfolding transfer
-call_derived known nodes entry = refl
+call_derived nodes entry = refl
 
-element_derived : (known : Entry) (nodes : List Node) (entry number : ℕ) (stand : Stand) (e : Element) (count : ℕ)
-    → IsStraightElement e → count + inserted_by e ≤ LIMIT →
-    derived_at nodes [] number (node_going_on entry number stand (Some e) false)
-    (Some (facts_behind_insertions known count))
+element_derived : (nodes : List Node) (entry number : ℕ) (stand : Stand) (e : Element) (count : ℕ) → IsStraightElement e
+    → count + inserted_by e ≤ LIMIT →
+    derived_at nodes [] number (node_going_on entry number stand (Some e) false) (Some (facts_behind_insertions count))
     ≡ Ok (record {
-      row = row_behind_insertions known count;
-      arrivals = arrival_at (suc number) (facts_behind_insertions known (count + inserted_by e)) ∷ [];
+      row = row_behind_insertions count;
+      arrivals = arrival_at (suc number) (facts_behind_insertions (count + inserted_by e)) ∷ [];
     })
-element_derived known nodes entry number stand e count s l = search (edges_of_element, arriving_by_element)
+element_derived nodes entry number stand e count s l =
+    rw (edges_of_element (placed nodes (node_going_on entry number stand (Some e) false) e) count s l)
+    (rw (arriving_by_element (changes_in nodes number) e (goes_on (facts_behind_insertions (count + inserted_by e))) s)
+    refl)
 
-rows_derived : (known : Entry) (nodes : List Node) (entry number place : ℕ) (text : List ℕ) (count : ℕ)
-    (before : List Arrival) (elements : List Element) → AllByRecursion IsStraightElement elements
-    → count + inserted elements ≤ LIMIT → AreBelow number before →
+rows_derived : (nodes : List Node) (entry number place : ℕ) (text : List ℕ) (count : ℕ) (before : List Arrival)
+    (elements : List Element) → AllByRecursion IsStraightElement elements → count + inserted elements ≤ LIMIT
+    → AreBelow number before →
     derive_from nodes [] number (nodes_in_text entry text number place elements)
-    (before ++ arrival_at number (facts_behind_insertions known count) ∷ []) ≡ Ok
-    (rows_in_text known count elements)
-rows_derived known nodes entry number place text count before [] s l b =
-    rw (met_here number before (facts_behind_insertions known count) b) refl
-rows_derived known nodes entry number place text count before (e ∷ elements) s l b =
-    rw (met_here number before (facts_behind_insertions known count) b)
-    (rw (element_derived known nodes entry number (stand_in_text entry text place) e count s.0 (omega (arith, l)))
-    (rw (rows_derived known nodes entry (suc number) e.next text (count + inserted_by e)
-    (before ++ arrival_at number (facts_behind_insertions known count) ∷ []) elements s.1 (omega (arith, l))
-    (below_next number before (facts_behind_insertions known count) b)) refl))
+    (before ++ arrival_at number (facts_behind_insertions count) ∷ []) ≡ Ok (rows_in_text count elements)
+rows_derived nodes entry number place text count before [] s l b =
+    rw (met_here number before (facts_behind_insertions count) b) refl
+rows_derived nodes entry number place text count before (e ∷ elements) s l b =
+    rw (met_here number before (facts_behind_insertions count) b)
+    (rw (element_derived nodes entry number (stand_in_text entry text place) e count s.0 (omega (arith, l)))
+    (rw (rows_derived nodes entry (suc number) e.next text (count + inserted_by e)
+    (before ++ arrival_at number (facts_behind_insertions count) ∷ []) elements s.1 (omega (arith, l))
+    (below_next number before (facts_behind_insertions count) b)) refl))
 
 pub straight_tables_are_derived : StraightTablesAreDerived
 unfolding derive
-straight_tables_are_derived rules library entry text elements is l =
-    let known = entry_of rules library None in
+straight_tables_are_derived library entry text elements is l =
     let nodes = straight_nodes entry text elements in
-    rw (call_derived known nodes entry)
-    (rw (rows_derived known nodes entry 2 0 text 0 (arrival_at 1 (facts_behind_insertions known 0) ∷ []) elements
-    is.straight (omega (arith, l, inserted_within text elements is.read)) (omega arith, tt)) refl)
+    rw (call_derived nodes entry)
+    (rw (rows_derived nodes entry 2 0 text 0 (arrival_at 1 (facts_behind_insertions 0) ∷ []) elements is.straight
+    (omega (arith, l, inserted_within text elements is.read)) (omega arith, tt)) refl)

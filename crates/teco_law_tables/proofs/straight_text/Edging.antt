@@ -1,6 +1,6 @@
 -- What is known behind an element of a straight text.
-use Rattle.std.proofs.Common.{◌≡◌, ℕ, ◌+◌, ◌^◌, ◌<◌, ◌≤◌, min, nat_lt, true, length, Some, None, Ok, refl, rules, arith}
-use Rattle.teco_verifier.specs.facts.Facts.{Entry}
+use Rattle.std.proofs.Common.{◌≡◌, ℕ, ◌+◌, ◌^◌, ◌<◌, ◌≤◌, min, nat_lt, true, length, Some, None, Ok, refl, rules}
+use Rattle.std.proofs.Common.{arith}
 use Rattle.teco_base.specs.declared.TheConstants.{LIMIT}
 use Rattle.teco_model.specs.declared.kind.Argument.TheVariants.{DropAll}
 use Rattle.teco_model.specs.declared.kind.Command.TheVariants as command
@@ -26,22 +26,20 @@ fits_64 n h = let l : n < 2 ^ 64 = omega arith in search rules
 capped_twice : (n m : ℕ) → min (min n LIMIT + m) LIMIT ≡ min (n + m) LIMIT
 capped_twice n m = omega arith
 
-edges_of_kind : (known : Entry) (k : Kind) (x : Placed) (count : ℕ) → IsStraightKind k
+edges_of_kind : (k : Kind) (x : Placed) (count : ℕ) → IsStraightKind k
     → count + inserted_by_kind k x.element.text ≤ LIMIT →
-    transfer (record x { element = record x.element { kind = k } }) (facts_behind_insertions known count) ≡ Ok
-    (goes_on (facts_behind_insertions known (count + inserted_by_kind k x.element.text)))
+    transfer (record x { element = record x.element { kind = k } }) (facts_behind_insertions count) ≡ Ok
+    (goes_on (facts_behind_insertions (count + inserted_by_kind k x.element.text)))
 unfolding transfer
-edges_of_kind known (kind.Argument DropAll) x count s l = rw (plus_none count) refl
-edges_of_kind known (kind.Flow flow.Comment) x count s l = rw (plus_none count) refl
-edges_of_kind known (kind.Command (command.Insertion Text)) x count s l =
+edges_of_kind (kind.Argument DropAll) x count s l = rw (plus_none count) refl
+edges_of_kind (kind.Flow flow.Comment) x count s l = rw (plus_none count) refl
+edges_of_kind (kind.Command (command.Insertion Text)) x count s l =
     rw (fits_64 (count + length x.element.text) l, capped_twice count (length x.element.text)) refl
-edges_of_kind known k x count s l = absurd s
+edges_of_kind k x count s l = absurd s
 
-pub edges_of_element : (known : Entry) (x : Placed) (count : ℕ) → IsStraightElement x.element
-    → count + inserted_by x.element ≤ LIMIT →
-    transfer x (facts_behind_insertions known count) ≡ Ok
-    (goes_on (facts_behind_insertions known (count + inserted_by x.element)))
-edges_of_element known x count s l = edges_of_kind known x.element.kind x count s l
+pub edges_of_element : (x : Placed) (count : ℕ) → IsStraightElement x.element → count + inserted_by x.element ≤ LIMIT →
+    transfer x (facts_behind_insertions count) ≡ Ok (goes_on (facts_behind_insertions (count + inserted_by x.element)))
+edges_of_element x count s l = edges_of_kind x.element.kind x count s l
 
 arriving_by_a_kind : (changes : Changes) (k : Kind) (e : Element) (edges : Edges) → IsStraightKind k
     → arriving changes None (Some (record e { kind = k })) 0 edges ≡ edges.on

@@ -1,6 +1,5 @@
 -- What the table of a straight text says at a number.
 use Rattle.std.proofs.Common.{◌≡◌, ℕ, zero, suc, ◌+◌, List, [], ◌∷◌, drop, length, Some, slice_get, refl, ap, arith}
-use Rattle.teco_verifier.specs.facts.Facts.{Entry}
 use Rattle.teco_model.specs.Element.{Element}
 use Rattle.teco_verifier.specs.table.Table.{Table, facts_at}
 use Rattle.teco_law_tables.specs.straight_text.Nodes.{nodes_in_text}
@@ -12,12 +11,11 @@ first_behind zero (y ∷ xs) rest x h = cc
 first_behind (suc n) (y ∷ xs) rest x h = first_behind n xs rest x h
 first_behind n xs rest x h = absurd (grind arith)
 
-pub facts_there : (known : Entry) (table : Table) (m count : ℕ) (elements : List Element)
-    → drop m table ≡ rows_in_text known count elements
-    → facts_at table (suc m) ≡ Some (facts_behind_insertions known count)
-facts_there known table m count [] h = rw (first_behind m table [] _ h) refl
-facts_there known table m count (e ∷ elements) h =
-    rw (first_behind m table (rows_in_text known (count + inserted_by e) elements) _ h) refl
+pub facts_there : (table : Table) (m count : ℕ) (elements : List Element) → drop m table ≡ rows_in_text count elements
+    → facts_at table (suc m) ≡ Some (facts_behind_insertions count)
+facts_there table m count [] h = rw (first_behind m table [] _ h) refl
+facts_there table m count (e ∷ elements) h =
+    rw (first_behind m table (rows_in_text (count + inserted_by e) elements) _ h) refl
 
 pub length-nodes : (entry number place : ℕ) (text : List ℕ) (elements : List Element)
     → length (nodes_in_text entry text number place elements) ≡ suc (length elements)

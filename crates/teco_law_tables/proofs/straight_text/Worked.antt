@@ -4,7 +4,6 @@ use Rattle.std.specs.Fmt.{digits}
 use Rattle.std.specs.Int.{int_wrap}
 use Rattle.teco_model.specs.Element.{blank_len, element_from, element_at}
 use Rattle.teco_model.specs.Letters.{letters}
-use Rattle.teco_verifier.specs.declared.rules.Rules.TheVariants.{First}
 use Rattle.teco_law_expansion.specs.Rows.{only}
 use Rattle.teco_law_tables.specs.straight_text.Rows.{letters_put_in, elements_put_in, WorkedStraightText}
 use Rattle.teco_law_tables.specs.straight_text.Straight.{IsStraight}
@@ -18,7 +17,7 @@ pub worked_straight_text : WorkedStraightText
 unfolding digits int_wrap
 worked_straight_text = record {
   straight = is_straight;
-  accepted = straight_texts_are_accepted First (only letters_put_in) 0 letters_put_in elements_put_in is_straight
+  accepted = straight_texts_are_accepted (only letters_put_in) 0 letters_put_in elements_put_in is_straight
       (omega arith);
   commands_text = refl;
   size_text = refl;

@@ -8,8 +8,7 @@ use Rattle.teco_model.specs.Macros.{Library}
 use Rattle.teco_verifier.specs.expansion.Node.{Node}
 use Rattle.teco_poly.specs.Polynomial.{Polynomial, number}
 use Rattle.teco_poly.specs.Reading.{IsPoly}
-use Rattle.teco_verifier.specs.declared.rules.Rules.{Rules}
-use Rattle.teco_verifier.specs.facts.Facts.{Facts, Entry, entry_of}
+use Rattle.teco_verifier.specs.facts.Facts.{Facts}
 use Rattle.teco_verifier.specs.facts.Printed.{no_needs}
 use Rattle.teco_verifier.specs.table.Closed.{begins_iteration, check}
 use Rattle.teco_verifier.specs.table.Deriving.{derive}
@@ -22,20 +21,18 @@ use Rattle.teco_law_tables.specs.straight_text.Straight.{inserted, IsStraight}
 -- The table that is derived is closed.
 abbrev pub StraightTablesAreClosed : Type 0
 StraightTablesAreClosed =
-    (rules : Rules) (library : Library) (entry : ℕ) (text : List ℕ) (elements : List Element)
+    (library : Library) (entry : ℕ) (text : List ℕ) (elements : List Element)
     → IsStraight library entry text elements → length text ≤ LIMIT
-    → check (entry_of rules library None) (straight_nodes entry text elements)
-    (straight_table (entry_of rules library None) elements)
-    ≡ Ok tt
+    → check None (straight_nodes entry text elements) (straight_table elements) ≡ Ok tt
 
 -- no iteration begins at a node
 abbrev pub BeginsNoIteration : Node → Type 0
 BeginsNoIteration node = begins_iteration node.element ≡ false
 
 -- These two numbers are printed of a table, and nothing else: no file is needed, and no iteration has a line.
-pub record Prints (known : Entry) (nodes : List Node) (table : Table) (steps most : Polynomial) : Type 0 where
-  pub commands_are : commands known nodes table ≡ Ok steps
-  pub size_is : size known nodes table ≡ Ok most
+pub record Prints (nodes : List Node) (table : Table) (steps most : Polynomial) : Type 0 where
+  pub commands_are : commands None nodes table ≡ Ok steps
+  pub size_is : size nodes table ≡ Ok most
   pub needs_nothing : needs_in nodes table ≡ no_needs
   pub has_no_lines : AllByRecursion BeginsNoIteration nodes
   -- both are polynomials that a `Poly` may be
@@ -45,10 +42,9 @@ pub record Prints (known : Entry) (nodes : List Node) (table : Table) (steps mos
 -- The call, the elements and the return take a step each, and what is inserted is held beside what was there.
 abbrev pub StraightTablesPrint : Type 0
 StraightTablesPrint =
-    (rules : Rules) (library : Library) (entry : ℕ) (text : List ℕ) (elements : List Element)
+    (library : Library) (entry : ℕ) (text : List ℕ) (elements : List Element)
     → IsStraight library entry text elements → length text ≤ LIMIT
-    → Prints (entry_of rules library None) (straight_nodes entry text elements)
-    (straight_table (entry_of rules library None) elements)
+    → Prints (straight_nodes entry text elements) (straight_table elements)
     (number (2 + length elements)) (and_more (inserted elements))
 
 -- no iteration is known to be open
@@ -59,19 +55,19 @@ IsOutside (Some facts) = (facts.position.falls ≡ []) × (facts.iterations ≡ 
 abbrev pub RowIsOutside : Row → Type 0
 RowIsOutside row = IsOutside row.facts
 
--- A library is expanded from an entry, its table is derived with nothing chosen and is closed, and so much is
--- printed. No row knows of an iteration.
-pub record IsAccepted (rules : Rules) (library : Library) (entry : ℕ) (steps most : Polynomial) : Type 0 where
+-- A library is expanded from an entry, its table is derived with nothing chosen and is closed, and so much is printed.
+-- No row knows of an iteration.
+pub record IsAccepted (library : Library) (entry : ℕ) (steps most : Polynomial) : Type 0 where
   pub nodes : List Node
   pub table : Table
   pub expanded : expansion library entry ≡ Ok nodes
-  pub derived : derive (entry_of rules library None) nodes [] ≡ Ok table
-  pub closed : check (entry_of rules library None) nodes table ≡ Ok tt
-  pub prints : Prints (entry_of rules library None) nodes table steps most
+  pub derived : derive None nodes [] ≡ Ok table
+  pub closed : check None nodes table ≡ Ok tt
+  pub prints : Prints nodes table steps most
   pub outside : AllByRecursion RowIsOutside table
 
 abbrev pub StraightTextsAreAccepted : Type 0
 StraightTextsAreAccepted =
-    (rules : Rules) (library : Library) (entry : ℕ) (text : List ℕ) (elements : List Element)
+    (library : Library) (entry : ℕ) (text : List ℕ) (elements : List Element)
     → IsStraight library entry text elements → length text ≤ LIMIT
-    → IsAccepted rules library entry (number (2 + length elements)) (and_more (inserted elements))
+    → IsAccepted library entry (number (2 + length elements)) (and_more (inserted elements))

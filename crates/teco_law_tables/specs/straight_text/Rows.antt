@@ -11,7 +11,6 @@ use Rattle.teco_model.specs.Element.{Element}
 use Rattle.teco_law_expansion.specs.Rows.{only}
 use Rattle.teco_poly.specs.Polynomial.{number}
 use Rattle.teco_poly.specs.Text.{text}
-use Rattle.teco_verifier.specs.declared.rules.Rules.TheVariants.{First}
 use Rattle.teco_law_tables.specs.straight_text.Accepted.{IsAccepted}
 use Rattle.teco_law_tables.specs.straight_text.Facts.{and_more}
 use Rattle.teco_law_tables.specs.straight_text.Straight.{IsStraight}
@@ -41,6 +40,6 @@ elements_put_in =
 
 pub record WorkedStraightText : Type 0 where
   pub straight : IsStraight (only letters_put_in) 0 letters_put_in elements_put_in
-  pub accepted : IsAccepted First (only letters_put_in) 0 (number 6) (and_more 3)
+  pub accepted : IsAccepted (only letters_put_in) 0 (number 6) (and_more 3)
   pub commands_text : text (number 6) ≡ codes "6"
   pub size_text : text (and_more 3) ≡ codes "3 + N"

@@ -1,9 +1,9 @@
--- What is known at an entry, and of the argument that it may be declared to take.
+-- The argument that the entry of a library may be declared to take.
 use Rattle.std.specs.Prelude.{ℕ, pos, Option, Some, None, option_map}
 use Rattle.teco_model.specs.Arguments.{Arguments, levels_after_answer, no_arguments as nothing}
 use Rattle.teco_model.specs.Macros.{ArgumentRange}
 use Rattle.teco_verifier.specs.facts.Arguments.{KnownArguments, no_arguments, empty_level}
-use Rattle.teco_verifier.specs.facts.Facts.{Facts, Entry, entry_facts, with_arguments}
+use Rattle.teco_verifier.specs.facts.Facts.{Facts, entry_facts, with_arguments}
 use Rattle.teco_verifier.specs.facts.Values.{value_in}
 
 -- what is pending where it is given
@@ -17,9 +17,6 @@ known_in range = record no_arguments {
 }
 
 -- what is known before the first element, where it is given
-abbrev pub facts_with : Option ArgumentRange → Facts → Facts
-facts_with None facts = facts
-facts_with (Some range) facts = with_arguments (known_in range) facts
-
-abbrev pub facts_given : Entry → Facts
-facts_given entry = facts_with entry.argument (entry_facts entry.rules entry.lengths)
+abbrev pub facts_given : Option ArgumentRange → Facts
+facts_given None = entry_facts
+facts_given (Some range) = with_arguments (known_in range) entry_facts

@@ -1,31 +1,22 @@
 -- The body of an iteration: what is chosen for its start, and when a choice stands.
-use Rattle.std.specs.Prelude.{◌&&◌, ◌||◌, List, [], ◌∷◌, map, Bool, true, false, not, is_some, Option, Some, None}
+use Rattle.std.specs.Prelude.{ℕ, ℤ, pos, int_le, ◌&&◌, ◌||◌, List, [], ◌∷◌, map, Bool, false, not, Option, Some, None}
 use Rattle.std.specs.Prelude.{Result, Ok, Err, if◌then◌else◌}
-use Rattle.std.specs.Option.{ok_or}
+use Rattle.std.specs.Option.{option_map_or, ok_or}
 use Rattle.teco_poly.specs.Polynomial.{Polynomial, mul, sub, one_less, is_at_most}
-use Rattle.teco_verifier.specs.declared.falls.Falls.{Falls}
-use Rattle.teco_verifier.specs.declared.rules.Rules.{Rules}
-use Rattle.teco_verifier.specs.declared.rules.Rules.TheVariants.{First, Second}
-use Rattle.teco_verifier.specs.declared.values.Distances.{Distances}
 use Rattle.teco_verifier.specs.declared.values.Interval.{Interval}
 use Rattle.teco_verifier.specs.declared.refusal.Refusal.{Refusal}
 use Rattle.teco_verifier.specs.declared.refusal.Refusal.TheVariants as refusal
 use Rattle.teco_verifier.specs.facts.Attempt.{◌>>=◌}
-use Rattle.teco_verifier.specs.facts.Covers.{each_covers, covers_distances, covers_interval, covers_length}
-use Rattle.teco_verifier.specs.facts.Covers.{covers_pushed, covers_saved}
+use Rattle.teco_verifier.specs.facts.Covers.{each_covers, covers_interval, covers_length, covers_pushed, covers_saved}
 use Rattle.teco_verifier.specs.facts.Facts.{Position, Facts, nowhere, sum_of}
-use Rattle.teco_verifier.specs.facts.Falls.{falls_at_turn, falls_outside, in_order}
-use Rattle.teco_verifier.specs.facts.Ranks.{has_own_fall, rank_of}
 use Rattle.teco_verifier.specs.facts.Shifts.{saved_after}
 use Rattle.teco_verifier.specs.facts.Values.{any_number}
 
--- What is chosen: how much is held at most at the start of each turn, the least distances of the pointer there, how
--- long the texts are at most, and whether the iteration is kept: what is ahead, and the falls of those outside, are
--- then those at its <.
+-- What is chosen: how much is held at most at the start of each turn, how long the texts are at most, and whether the
+-- iteration is kept: what is ahead, and the falls of those outside, are then those at its <.
 pub record Choice : Type 0 where
   pub held : Polynomial
   pub kept : Bool
-  pub distances : Distances
   pub texts : List Polynomial
 
 -- What a body changes, called texts included, whether its elements are reached or not: the numbers of which
@@ -47,44 +38,48 @@ unsaved_where (written ∷ others) (s ∷ saved) = (if written then false else s
 unsaved_where [] saved = saved
 unsaved_where (written ∷ others) [] = []
 
--- own falls 0 and those outside
-abbrev pub falls_at_start : Rules → Bool → List Falls → List Falls
-falls_at_start rules kept [] = []
-falls_at_start rules kept (own ∷ outer) = falls_at_turn rules ∷ map (falls_outside kept) outer
+-- an outer fall is that at the <, or unknown
+abbrev pub fall_if : Bool → Option ℤ → Option ℤ
+fall_if kept fall = if kept then fall else None
 
-abbrev pub position_at_start : Rules → Choice → Changes → Position → Position
-position_at_start rules choice changes position = record {
-  distances = choice.distances;
-  falls = map (in_order rules choice.distances) (falls_at_start rules choice.kept position.falls);
+-- own fall 0 and the falls outside
+abbrev pub falls_at_start : Bool → List (Option ℤ) → List (Option ℤ)
+falls_at_start kept [] = []
+falls_at_start kept (own ∷ outer) = Some (pos 0) ∷ map (fall_if kept) outer
+
+abbrev pub position_at_start : Choice → Changes → Position → Position
+position_at_start choice changes position = record {
+  distances = nowhere;
+  falls = falls_at_start choice.kept position.falls;
   ahead = if choice.kept then position.ahead else choice.held;
   saved = saved_after changes.ends (unsaved_where changes.written position.saved);
-  digit = None;
 }
 
 -- The facts at the start of a body, from those that enter it.
 abbrev pub body_start : Choice → Changes → Facts → Facts
 body_start choice changes entering = record entering {
-  position = position_at_start entering.rules choice changes entering.position;
+  position = position_at_start choice changes entering.position;
   held = choice.held;
   numbers = unknown_where changes.written entering.numbers;
   texts = choice.texts;
 }
 
--- the first edition chooses no distances
-abbrev pub may_choose : Rules → Distances → Bool
-may_choose First distances = covers_distances distances nowhere
-may_choose Second distances = true
-
--- A choice is enough to begin with: it holds what the < does, at distances that are not greater.
+-- A choice is enough to begin with: it holds what the < does.
 abbrev pub begins : Choice → Facts → Bool
 begins choice entering =
     is_at_most entering.held choice.held && each_covers covers_length choice.texts entering.texts
-    && covers_distances choice.distances entering.position.distances && may_choose entering.rules
-    choice.distances
+
+-- the fall of the innermost iteration is known to be n at least
+abbrev pub own_fall : List (Option ℤ) → Option ℤ
+own_fall [] = None
+own_fall (own ∷ outer) = own
+
+abbrev pub has_own_fall : ℕ → Position → Bool
+has_own_fall n position = option_map_or (λ fall. int_le (pos n) fall) (own_fall position.falls) false
 
 -- without a count something falls in each turn
 abbrev pub counts : Bool → Position → Bool
-counts counted position = counted || is_some (rank_of position)
+counts counted position = counted || has_own_fall 1 position
 
 -- a kept iteration lets no more be ahead from turn to turn
 abbrev pub keeps : Bool → Position → Bool
@@ -108,15 +103,14 @@ abbrev pub has_room : Choice → Polynomial → Facts → Facts → Bool
 has_room choice turns entering end =
     is_within choice.held (growth_of choice.held end.held >>= held_last entering.held turns)
 
--- A turn that ends leaves what the next one may begin with: numbers, texts, pushes, saved registers and distances that
--- those at the start cover.
+-- A turn that ends leaves what the next one may begin with: numbers, texts, pushes and saved registers that those at
+-- the start cover.
 abbrev pub begins_again : Facts → Facts → Bool
 begins_again start end =
     each_covers covers_interval start.numbers end.numbers
     && each_covers covers_length start.texts end.texts
     && each_covers covers_pushed start.pushes end.pushes
     && each_covers covers_saved start.position.saved end.position.saved
-    && covers_distances start.position.distances end.position.distances
 
 abbrev pub returns : Choice → Changes → Bool → Polynomial → Facts → Facts → Bool
 returns choice changes counted turns entering end =

@@ -1,20 +1,15 @@
 -- When the facts at the end of an edge are covered by those at its target: what these say is no more than those.
-use Rattle.std.specs.Prelude.{ℤ, int_le, nat_le, nat_eq, ◌&&◌, is_none, List, [], ◌∷◌, Bool, true, false, not, Option}
+use Rattle.std.specs.Prelude.{ℤ, int_le, nat_le, nat_eq, ◌&&◌, List, [], ◌∷◌, Bool, true, false, not, pos, Option}
 use Rattle.std.specs.Prelude.{Some, None, if◌then◌else◌}
 use Rattle.teco_model.specs.declared.arguments.Operator.{Operator}
 use Rattle.teco_model.specs.declared.arguments.Operator.TheVariants.{Plus, Minus, Times, Over, And, Or}
 use Rattle.teco_poly.specs.Polynomial.{Polynomial, is_at_most}
-use Rattle.teco_verifier.specs.declared.falls.DigitMark.{DigitMark}
-use Rattle.teco_verifier.specs.declared.falls.Falls.{Falls}
-use Rattle.teco_verifier.specs.declared.values.CharacterCode.{CharacterCode}
 use Rattle.teco_verifier.specs.declared.values.Value.{Value}
 use Rattle.teco_verifier.specs.declared.values.Interval.{Interval}
 use Rattle.teco_verifier.specs.declared.values.Distances.{Distances}
 use Rattle.teco_verifier.specs.facts.Arguments.{KnownLevel, KnownArguments}
 use Rattle.teco_verifier.specs.facts.Facts.{Position, Answer, Iteration, Pushed, Facts}
-use Rattle.teco_verifier.specs.facts.Falls.{is_second}
-use Rattle.teco_verifier.specs.facts.Joins.{is_same_mark}
-use Rattle.teco_verifier.specs.facts.Values.{interval_of, are_equal, has_no_distance}
+use Rattle.teco_verifier.specs.facts.Values.{interval_of}
 
 -- of each of two lists, which are as long
 abbrev pub each_covers : {X : Type 0} → (X → X → Bool) → List X → List X → Bool
@@ -30,11 +25,6 @@ both_cover covers (Some x) (Some y) = covers x y
 both_cover covers None (Some y) = false
 both_cover covers (Some x) None = false
 
--- both are true, or neither
-abbrev pub is_same_truth : Bool → Bool → Bool
-is_same_truth true b = b
-is_same_truth false b = not b
-
 -- an interval is wider or the same
 abbrev pub covers_interval : Interval → Interval → Bool
 covers_interval i j = int_le i.lo j.lo && int_le j.hi i.hi
@@ -44,17 +34,15 @@ abbrev pub covers_saved : Bool → Bool → Bool
 covers_saved true edge = edge
 covers_saved false edge = true
 
--- A linear value or a code covers itself alone; an interval covers each value whose numbers it has.
-abbrev pub is_interval : Value → Bool
-is_interval s = has_no_distance s && is_none s.code
+-- A linear value covers itself alone; an interval covers each value whose numbers it has.
+abbrev pub are_equal : ℤ → ℤ → Bool
+are_equal v w = int_le v w && int_le w v
 
-abbrev pub is_same_code : CharacterCode → CharacterCode → Bool
-is_same_code c d = are_equal c.offset d.offset && is_same_truth c.negated d.negated
+abbrev pub is_interval : Value → Bool
+is_interval s = are_equal s.ahead (pos 0) && are_equal s.behind (pos 0)
 
 abbrev pub is_same : Value → Value → Bool
-is_same s t =
-    are_equal s.ahead t.ahead && are_equal s.behind t.behind && both_cover is_same_code s.code t.code
-    && are_equal s.lo t.lo && are_equal s.hi t.hi
+is_same s t = are_equal s.ahead t.ahead && are_equal s.behind t.behind && are_equal s.lo t.lo && are_equal s.hi t.hi
 
 abbrev pub covers_number : Distances → Value → Value → Bool
 covers_number distances s t =
@@ -94,25 +82,12 @@ covers_fall None edge = true
 covers_fall (Some v) (Some w) = int_le v w
 covers_fall (Some v) None = false
 
-abbrev pub covers_falls : Falls → Falls → Bool
-covers_falls falls edge =
-    covers_fall falls.fall edge.fall && covers_fall falls.far edge.far
-    && covers_fall falls.line edge.line && covers_fall falls.far_line edge.far_line
-    && covers_fall falls.held edge.held && covers_fall falls.rest edge.rest
-
--- a digit that stands at the target stands on the edge
-abbrev pub covers_mark : Option DigitMark → Option DigitMark → Bool
-covers_mark None edge = true
-covers_mark (Some m) (Some n) = is_same_mark m n
-covers_mark (Some m) None = false
-
 abbrev pub covers_position : Position → Position → Bool
 covers_position position edge =
     covers_distances position.distances edge.distances
-    && each_covers covers_falls position.falls edge.falls
+    && each_covers covers_fall position.falls edge.falls
     && is_at_most edge.ahead position.ahead
     && each_covers covers_saved position.saved edge.saved
-    && covers_mark position.digit edge.digit
 
 -- an answer is there only where the edge has one, whose outcomes are covered
 abbrev pub covers_answer : Option Answer → Option Answer → Bool
@@ -122,6 +97,10 @@ covers_answer (Some answer) (Some edge) =
 covers_answer (Some answer) None = false
 
 -- Both have the same iterations open: with a count at the same ones, and as many pushes at each <.
+abbrev pub is_same_truth : Bool → Bool → Bool
+is_same_truth true b = b
+is_same_truth false b = not b
+
 abbrev pub is_same_iteration : Iteration → Iteration → Bool
 is_same_iteration i j = is_same_truth i.counted j.counted && nat_eq i.pushes j.pushes
 
@@ -132,11 +111,9 @@ covers_length length edge = is_at_most edge length
 abbrev pub covers_pushed : Pushed → Pushed → Bool
 covers_pushed pair edge = covers_interval pair.number edge.number && is_at_most edge.text pair.text
 
--- Facts of an edition cover those of the same one.
 abbrev pub covers : Facts → Facts → Bool
 covers facts edge =
-    is_same_truth (is_second facts.rules) (is_second edge.rules)
-    && covers_arguments edge.position.distances facts.arguments edge.arguments
+    covers_arguments edge.position.distances facts.arguments edge.arguments
     && covers_answer facts.answer edge.answer
     && covers_position facts.position edge.position
     && each_covers is_same_iteration facts.iterations edge.iterations

@@ -1,12 +1,9 @@
 -- Iterations, conditionals and tags: the two edges behind an element, and how many turns an iteration takes.
-use Rattle.std.specs.Prelude.{ℕ, zero, suc, ℤ, pos, int_le, ◌&&◌, List, [], ◌∷◌, drop, length, is_some, Bool, true}
-use Rattle.std.specs.Prelude.{false, Option, Some, None, Result, Ok, Err, option_map, if◌then◌else◌}
+use Rattle.std.specs.Prelude.{ℕ, zero, suc, ℤ, pos, int_le, ◌&&◌, List, [], ◌∷◌, drop, length, Bool, true, false}
+use Rattle.std.specs.Prelude.{Option, Some, None, Result, Ok, Err, option_map, if◌then◌else◌}
 use Rattle.teco_model.specs.declared.kind.Flow.{Flow}
 use Rattle.teco_model.specs.declared.kind.Flow.TheVariants as flow
 use Rattle.teco_poly.specs.Polynomial.{Polynomial, number}
-use Rattle.teco_verifier.specs.declared.falls.Falls.{Falls}
-use Rattle.teco_verifier.specs.declared.falls.Rank.{Rank}
-use Rattle.teco_verifier.specs.declared.rules.Rules.{Rules}
 use Rattle.teco_verifier.specs.declared.values.Value.{Value}
 use Rattle.teco_verifier.specs.declared.refusal.Refusal.{Refusal}
 use Rattle.teco_verifier.specs.declared.refusal.Refusal.TheVariants as refusal
@@ -15,9 +12,7 @@ use Rattle.teco_verifier.specs.facts.Attempt.{◌>>=◌}
 use Rattle.teco_verifier.specs.facts.Deletions.{positive}
 use Rattle.teco_verifier.specs.facts.Facts.{Position, Answer, Iteration, Facts, sum_of, with_arguments}
 use Rattle.teco_verifier.specs.facts.Facts.{without_arguments, at_position}
-use Rattle.teco_verifier.specs.facts.Falls.{falls_at_turn}
 use Rattle.teco_verifier.specs.facts.Joins.{none_pending}
-use Rattle.teco_verifier.specs.facts.Ranks.{measure_of}
 use Rattle.teco_verifier.specs.facts.Values.{interval_of}
 use Rattle.teco_verifier.specs.facts.Ways.{Numbers, Negative, NotNegative, holding, other, may_take, Positive}
 use Rattle.teco_verifier.specs.facts.Ways.{NotPositive, way}
@@ -49,9 +44,9 @@ needed_taken facts = do
   taken ← arguments_of facts.arguments.level
   needed_value taken.value
 
--- The most that a value is, as a polynomial: of Z, of the pointer and of both together by what is held, of Z-. by
--- what is ahead, of a value in which neither distance counts positively by its constant, and of any other, as of a
--- code, by its interval; 0 at the least.
+-- The most that a value is, as a polynomial: of Z, of the pointer and of both together by what is held, of Z-. by what
+-- is ahead, of a value in which neither distance counts positively by its constant, and of any other by its interval;
+-- 0 at the least.
 abbrev pub bound_by : ℤ → ℤ → ℕ → ℕ → Facts → Result Polynomial Refusal
 bound_by (pos (suc zero)) (pos (suc zero)) k most facts = sum_of facts.held (number k)
 bound_by (pos zero) (pos (suc zero)) k most facts = sum_of facts.held (number k)
@@ -65,25 +60,25 @@ bound_by ahead behind k most facts =
 abbrev pub bound_of : Value → Facts → Result Polynomial Refusal
 bound_of s facts =
     let most = positive (interval_of facts.position.distances s).hi in
-    if is_some s.code then Ok (number most) else bound_by s.ahead s.behind (positive s.hi) most facts
+    bound_by s.ahead s.behind (positive s.hi) most facts
 
--- The turns of an iteration: at most its count, or without one what there is of what falls, and one more.
-abbrev pub turns_of : Option Rank → Option Value → Facts → Result Polynomial Refusal
-turns_of rank (Some n) facts = bound_of n facts
-turns_of rank None facts = sum_of (measure_of rank facts) (number 1)
+-- The turns of an iteration: at most its count, or without one what is ahead and one more.
+abbrev pub turns_of : Option Value → Facts → Result Polynomial Refusal
+turns_of (Some n) facts = bound_of n facts
+turns_of None facts = sum_of facts.position.ahead (number 1)
 
-abbrev pub turns : Option Rank → Facts → Result Polynomial Refusal
-turns rank facts = do
+abbrev pub turns : Facts → Result Polynomial Refusal
+turns facts = do
   taken ← arguments_of facts.arguments.level
-  turns_of rank taken.value facts
+  turns_of taken.value facts
 
 -- a turn begins: nothing has fallen in it
-abbrev pub begun : Rules → List Falls → Position → Position
-begun rules falls position = record position { falls = falls_at_turn rules ∷ falls }
+abbrev pub begun : List (Option ℤ) → Position → Position
+begun falls position = record position { falls = Some (pos 0) ∷ falls }
 
 abbrev pub entering : Bool → Facts → Facts
 entering counted facts = record facts {
-  position = begun facts.rules facts.position.falls facts.position;
+  position = begun facts.position.falls facts.position;
   iterations = record { counted = counted; pushes = length facts.pushes } ∷ facts.iterations;
 }
 
@@ -100,7 +95,7 @@ abbrev pub iterate : Facts → Result Edges Refusal
 iterate facts = do
   taken ← arguments_of facts.arguments.level
   alone ← none_pending (levels_after_taking facts.arguments)
-  most ← turns_of None taken.value facts
+  most ← turns_of taken.value facts
   Ok (iteration taken.value (without_arguments facts))
 
 -- > goes back to the begin of the body, and where turns are counted on, too
@@ -109,7 +104,7 @@ turn_end [] facts = Err refusal.Partner
 turn_end (i ∷ outer) facts =
     let after = without_arguments facts in Ok (record {
       on = if i.counted then Some (leaving 1 facts) else None;
-      away = Some (at_position (begun facts.rules (drop 1 facts.position.falls) facts.position) after);
+      away = Some (at_position (begun (drop 1 facts.position.falls) facts.position) after);
     })
 
 -- ; and :; leave their iteration where the number is not negative, or where it is

@@ -10,13 +10,12 @@ use Rattle.teco_verifier.specs.declared.refusal.Refusal.{Refusal}
 use Rattle.teco_verifier.specs.declared.refusal.Refusal.TheVariants as refusal
 use Rattle.teco_verifier.specs.facts.Arguments.{KnownTaken}
 use Rattle.teco_verifier.specs.facts.Facts.{Facts}
-use Rattle.teco_verifier.specs.facts.Falls.{By}
 use Rattle.teco_verifier.specs.facts.Shifts.{Shift, moving, Foreseen, silent_behind}
 
 -- an insertion before the pointer of m characters at least, and at most as many as a polynomial says
 abbrev pub insertion_of : ℕ → Polynomial → Distances → Shift
 insertion_of m growth distances =
-    record (moving (record distances { back = distances.back + m }) (By (Some (pos 0)))) { growth = growth }
+    record (moving (record distances { back = distances.back + m }) (Some (pos 0))) { growth = growth }
 
 -- of exactly n
 abbrev pub insertion_of_length : ℕ → Facts → Result Foreseen Refusal

@@ -1,18 +1,14 @@
 -- Where ways meet: what is known on both.
-use Rattle.std.specs.Prelude.{min, List, [], ◌∷◌, Bool, true, false, is_none, ◌&&◌, if◌then◌else◌, Option, Some, None}
-use Rattle.std.specs.Prelude.{Result, Ok, Err}
+use Rattle.std.specs.Prelude.{ℤ, min, List, [], ◌∷◌, Bool, true, false, is_none, ◌&&◌, if◌then◌else◌, Option, Some}
+use Rattle.std.specs.Prelude.{None, Result, Ok, Err}
 use Rattle.std.specs.Int.{int_min, int_max}
 use Rattle.teco_poly.specs.Polynomial.{Polynomial}
-use Rattle.teco_verifier.specs.declared.falls.DigitMark.{DigitMark}
-use Rattle.teco_verifier.specs.declared.falls.DigitMark.TheVariants.{Before, At}
-use Rattle.teco_verifier.specs.declared.falls.Falls.{Falls}
 use Rattle.teco_verifier.specs.declared.values.Interval.{Interval}
 use Rattle.teco_verifier.specs.declared.values.Distances.{Distances}
 use Rattle.teco_verifier.specs.declared.refusal.Refusal.{Refusal}
 use Rattle.teco_verifier.specs.declared.refusal.Refusal.TheVariants as refusal
 use Rattle.teco_verifier.specs.facts.Arguments.{KnownLevel, KnownArguments}
 use Rattle.teco_verifier.specs.facts.Attempt.{◌>>=◌}
-use Rattle.teco_verifier.specs.facts.Falls.{smaller_falls}
 use Rattle.teco_verifier.specs.facts.Facts.{Position, Pushed, Facts, join_of, without_arguments}
 
 -- the smaller distances, the hull of intervals
@@ -22,22 +18,16 @@ nearer_of d e = record { back = min d.back e.back; fore = min d.fore e.fore }
 abbrev pub hull : Interval → Interval → Interval
 hull i j = record { lo = int_min i.lo j.lo; hi = int_max i.hi j.hi }
 
--- of each iteration the smaller falls
-abbrev pub joined_falls : List Falls → List Falls → List Falls
-joined_falls (v ∷ falls) (w ∷ others) = smaller_falls v w ∷ joined_falls falls others
-joined_falls [] others = []
-joined_falls (v ∷ falls) [] = []
+-- the smaller fall, of which an unknown one is the smallest
+abbrev pub smaller_fall : Option ℤ → Option ℤ → Option ℤ
+smaller_fall (Some v) (Some w) = Some (int_min v w)
+smaller_fall None fall = None
+smaller_fall (Some v) None = None
 
--- a digit that stands at the same place on both
-abbrev pub is_same_mark : DigitMark → DigitMark → Bool
-is_same_mark Before Before = true
-is_same_mark At At = true
-is_same_mark m n = false
-
-abbrev pub joined_mark : Option DigitMark → Option DigitMark → Option DigitMark
-joined_mark (Some m) (Some n) = if is_same_mark m n then Some m else None
-joined_mark None mark = None
-joined_mark (Some m) None = None
+abbrev pub smaller_falls : List (Option ℤ) → List (Option ℤ) → List (Option ℤ)
+smaller_falls (v ∷ falls) (w ∷ others) = smaller_fall v w ∷ smaller_falls falls others
+smaller_falls [] others = []
+smaller_falls (v ∷ falls) [] = []
 
 -- a register that is saved on both
 abbrev pub joined_saved : List Bool → List Bool → List Bool
@@ -51,10 +41,9 @@ joined_position p q = do
   ahead ← join_of p.ahead q.ahead
   Ok (record {
     distances = nearer_of p.distances q.distances;
-    falls = joined_falls p.falls q.falls;
+    falls = smaller_falls p.falls q.falls;
     ahead = ahead;
     saved = joined_saved p.saved q.saved;
-    digit = joined_mark p.digit q.digit;
   })
 
 -- of each register

@@ -1,11 +1,8 @@
 -- C, R, J and L.
-use Rattle.std.specs.Prelude.{ℕ, zero, suc, ◌+◌, ℤ, pos, negsuc, int_le, min, ◌&&◌, Bool, false, Option, Some, None}
-use Rattle.std.specs.Prelude.{Result, Ok, unwrap_or, if◌then◌else◌}
+use Rattle.std.specs.Prelude.{ℕ, zero, suc, ℤ, pos, negsuc, int_le, Bool, false, Option, Some, None, Result, Ok, Err}
+use Rattle.std.specs.Prelude.{unwrap_or, if◌then◌else◌}
 use Rattle.teco_model.specs.declared.kind.Motion.{Motion}
 use Rattle.teco_model.specs.declared.kind.Motion.TheVariants.{Forward, Backward, To, Lines}
-use Rattle.teco_verifier.specs.declared.falls.DigitMark.{DigitMark}
-use Rattle.teco_verifier.specs.declared.falls.DigitMark.TheVariants.{Before, At}
-use Rattle.teco_verifier.specs.declared.rules.Rules.{Rules}
 use Rattle.teco_verifier.specs.declared.values.Value.{Value}
 use Rattle.teco_verifier.specs.declared.values.Interval.{Interval}
 use Rattle.teco_verifier.specs.declared.values.Distances.{Distances}
@@ -13,10 +10,8 @@ use Rattle.teco_verifier.specs.declared.refusal.Refusal.{Refusal}
 use Rattle.teco_verifier.specs.facts.Arguments.{KnownTaken}
 use Rattle.teco_verifier.specs.facts.Attempt.{◌>>=◌}
 use Rattle.teco_verifier.specs.facts.Facts.{Facts, nowhere}
-use Rattle.teco_verifier.specs.facts.Falls.{By, PastLine, InLine, is_second}
-use Rattle.teco_verifier.specs.facts.Shifts.{Shift, shifted, moving, place_of, place_or_saved, shift_to, Foreseen}
-use Rattle.teco_verifier.specs.facts.Shifts.{answering, silent_behind}
-use Rattle.teco_verifier.specs.facts.Values.{single, pointer, plus, minus, interval_of, are_equal}
+use Rattle.teco_verifier.specs.facts.Shifts.{Shift, shifted, moving, shift_to, Foreseen, answering, silent_behind}
+use Rattle.teco_verifier.specs.facts.Values.{single, pointer, plus, minus, interval_of}
 
 -- the argument, 1 where there is none, and the interval of that
 abbrev pub or_one : Option Value → Value
@@ -44,58 +39,34 @@ success = record { lo = negsuc 0; hi = pos 0 }
 
 -- with a colon the pointer may be anywhere
 abbrev pub perhaps_forward : Bool → Shift
-perhaps_forward forward = moving nowhere (By (if forward then Some (pos 0) else None))
+perhaps_forward forward = moving nowhere (if forward then Some (pos 0) else None)
 
--- Past the end of the line: in the second edition the pointer is farther from the begin where a character stood at it.
-abbrev pub distances_past_line : Rules → Distances → Distances
-distances_past_line rules distances =
-    record {
-      back = if is_second rules then distances.back + min distances.fore 1
-          else distances.back;
-      fore = 0;
-    }
-
--- every number of an interval is one
-abbrev pub is_exactly : ℤ → Interval → Bool
-is_exactly v n = are_equal n.lo v && are_equal n.hi v
-
--- nL: where n is at least 1 past the end of the line, where it is 0 to its begin, and where it is less before that
-abbrev pub shift_by_lines : Rules → Distances → Interval → Shift
-shift_by_lines rules distances n =
-    if int_le (pos 1) n.lo then moving (distances_past_line rules distances) PastLine
-    else if is_exactly (pos 0) n then moving (record distances { back = 0 }) InLine
-    else if int_le n.hi (pos 0) then moving (record distances { back = 0 }) (By None)
-    else moving nowhere (By None)
+-- nL: where n is at least 1, what is ahead is not more; where it is at most 0, what is behind is not more
+abbrev pub shift_by_lines : Option ℤ → Distances → Interval → Shift
+shift_by_lines back distances n =
+    if int_le (pos 1) n.lo then moving (record distances { fore = 0 }) (Some (pos 0))
+    else if int_le n.hi (pos 0) then moving (record distances { back = 0 }) back
+    else moving nowhere back
 
 -- J alone goes to a saved place
 abbrev pub goes_to_saved : Motion → Option Value → Bool
 goes_to_saved To (Some n) = n.saved
 goes_to_saved m n = false
 
--- One step back from behind a digit leads to it.
-abbrev pub is_step_back : Motion → Interval → Bool
-is_step_back Forward n = is_exactly (negsuc 0) n
-is_step_back Backward n = is_exactly (pos 1) n
-is_step_back m n = false
-
-abbrev pub digit_after : Bool → Option DigitMark → Option DigitMark
-digit_after step_back (Some Before) = if step_back then Some At else None
-digit_after step_back mark = None
+-- To a place that is known to lie in the buffer; a saved one is somewhere in it.
+abbrev pub shift_or_saved : Bool → Result Shift Refusal → Result Shift Refusal
+shift_or_saved saved (Ok shift) = Ok shift
+shift_or_saved saved (Err why) = if saved then Ok (moving nowhere None) else Err why
 
 abbrev pub motion_to : Motion → ℕ → Option Value → Facts → Result Foreseen Refusal
 motion_to m zero n facts = do
-  place ← place_or_saved (goes_to_saved m n) (place_of (target m n) facts.position.distances)
-  silent_behind
-      (record (shift_to place) {
-        digit = digit_after (is_step_back m (count_of n facts.position.distances)) facts.position.digit;
-      })
-      facts
+  shift ← shift_or_saved (goes_to_saved m n) (shift_to (target m n) facts.position.distances)
+  silent_behind shift facts
 motion_to m (suc colons) n facts = do
   known ← shifted (perhaps_forward (goes_forward m (count_of n facts.position.distances))) facts
   Ok (answering success known)
 
 abbrev pub motion : Motion → ℕ → KnownTaken → Facts → Result Foreseen Refusal
 motion Lines colons taken facts =
-    let distances = facts.position.distances in
-    silent_behind (shift_by_lines facts.rules distances (count_of taken.value distances)) facts
+    silent_behind (shift_by_lines None facts.position.distances (count_of taken.value facts.position.distances)) facts
 motion m colons taken facts = motion_to m colons taken.value facts

@@ -1,5 +1,5 @@
 -- What is printed of an element: how many steps it takes at most, and which files it needs.
-use Rattle.std.specs.Prelude.{Bool, true, false, not, ◌&&◌, if◌then◌else◌, Option, Some, None, Result, Ok}
+use Rattle.std.specs.Prelude.{true, false, Option, Some, None, Result, Ok}
 use Rattle.teco_model.specs.declared.kind.Kind.{Kind}
 use Rattle.teco_model.specs.declared.kind.Kind.TheVariants as kind
 use Rattle.teco_model.specs.declared.kind.Page.{Page}
@@ -13,7 +13,6 @@ use Rattle.teco_verifier.specs.declared.refusal.Refusal.{Refusal}
 use Rattle.teco_verifier.specs.facts.Arguments.{KnownTaken, arguments_of}
 use Rattle.teco_verifier.specs.facts.Attempt.{◌>>=◌}
 use Rattle.teco_verifier.specs.facts.Facts.{Facts, sum_of}
-use Rattle.teco_verifier.specs.facts.Falls.{is_second}
 use Rattle.teco_verifier.specs.facts.Flows.{bound_of}
 use Rattle.teco_verifier.specs.facts.Motions.{or_one}
 
@@ -27,17 +26,11 @@ steps_of_page page.Next taken facts = steps_of_pages taken.first taken.value fac
 steps_of_page page.Write taken facts = steps_of_pages taken.first taken.value facts
 steps_of_page p taken facts = Ok (number 1)
 
--- N and FN look through pages
-abbrev pub is_in_pages : Search → Bool
-is_in_pages search.FindInPages = true
-is_in_pages search.ReplaceInPages = true
-is_in_pages s = false
-
--- They take one for each page that is ahead, and one more; in the second edition the pages count once in a whole run.
+-- N and FN take one for each page that is ahead, and one more
 abbrev pub steps_of_search : Search → Facts → Result Polynomial Refusal
-steps_of_search s facts =
-    if is_in_pages s && not (is_second facts.rules)
-    then sum_of facts.position.ahead (number 1) else Ok (number 1)
+steps_of_search search.FindInPages facts = sum_of facts.position.ahead (number 1)
+steps_of_search search.ReplaceInPages facts = sum_of facts.position.ahead (number 1)
+steps_of_search s facts = Ok (number 1)
 
 -- the most steps that an element takes
 abbrev pub steps : Kind → Facts → Result Polynomial Refusal

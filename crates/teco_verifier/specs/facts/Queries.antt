@@ -1,12 +1,10 @@
 -- Q, ^X and \.
-use Rattle.std.specs.Prelude.{ℕ, zero, suc, ◌+◌, pos, Option, Some, None, Result, Ok, if◌then◌else◌}
+use Rattle.std.specs.Prelude.{ℕ, zero, suc, pos, negsuc, Option, Some, None, Result, Ok, if◌then◌else◌}
 use Rattle.teco_base.specs.declared.TheConstants.{LIMIT}
 use Rattle.teco_model.specs.declared.kind.Query.{Query}
 use Rattle.teco_model.specs.declared.kind.Query.TheVariants.{Number, Mode, Conversion}
 use Rattle.teco_model.specs.Step.{takes}
 use Rattle.teco_poly.specs.Polynomial.{number}
-use Rattle.teco_verifier.specs.declared.falls.DigitMark.{DigitMark}
-use Rattle.teco_verifier.specs.declared.falls.DigitMark.TheVariants.{At}
 use Rattle.teco_verifier.specs.declared.values.Value.{Value}
 use Rattle.teco_verifier.specs.declared.values.Interval.{Interval}
 use Rattle.teco_verifier.specs.declared.values.Distances.{Distances}
@@ -14,11 +12,14 @@ use Rattle.teco_verifier.specs.declared.refusal.Refusal.{Refusal}
 use Rattle.teco_verifier.specs.facts.Arguments.{KnownLevel, level_with, with_level, levels_after_taking, standing_value}
 use Rattle.teco_verifier.specs.facts.Attempt.{◌>>=◌}
 use Rattle.teco_verifier.specs.facts.Facts.{Facts, number_of, is_saved, with_arguments}
-use Rattle.teco_verifier.specs.facts.Falls.{By}
 use Rattle.teco_verifier.specs.facts.Insertions.{insertion_of}
 use Rattle.teco_verifier.specs.facts.Shifts.{Shift, moving, shifted, Foreseen, silent, answering, silent_behind}
 use Rattle.teco_verifier.specs.facts.Shifts.{facts_answered}
-use Rattle.teco_verifier.specs.facts.Values.{value_in, any_number, character}
+use Rattle.teco_verifier.specs.facts.Values.{value_in, any_number}
+
+-- the code of a character, -1 where there is none
+abbrev pub character : Interval
+character = record { lo = negsuc 0; hi = pos 255 }
 
 -- the length of a text
 abbrev pub text_length : Interval
@@ -30,16 +31,12 @@ query (Number r) zero facts = record (value_in (number_of r facts)) { saved = is
 query (Number r) (suc colons) facts = value_in text_length
 query q colons facts = value_in any_number
 
--- \ goes on past the number that it reads, of which a digit that is known to stand at the pointer is one
-abbrev pub past_digits : ℕ → Distances → Shift
-past_digits n distances = moving (record { back = distances.back + n; fore = 0 }) (By (Some (pos n)))
-
-abbrev pub past_number : Option DigitMark → Distances → Shift
-past_number (Some At) distances = past_digits 1 distances
-past_number mark distances = past_digits 0 distances
+-- \ goes on past the number that it reads
+abbrev pub past_number : Distances → Shift
+past_number distances = moving (record distances { fore = 0 }) (Some (pos 0))
 
 abbrev pub facts_at_query : Query → Facts → Result Facts Refusal
-facts_at_query Conversion facts = shifted (past_number facts.position.digit facts.position.distances) facts
+facts_at_query Conversion facts = shifted (past_number facts.position.distances) facts
 facts_at_query q facts = Ok facts
 
 -- what is done with the value that stands: n\ inserts 1 to 11 characters

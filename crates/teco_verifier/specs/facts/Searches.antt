@@ -1,22 +1,12 @@
 -- S, FS, N and FN: what is known where they found, and where they failed.
-use Rattle.std.specs.Prelude.{ℕ, suc, pos, int_le, int_lt, ◌+◌, ◌&&◌, List, [], ◌∷◌, length, Bool, true, false}
-use Rattle.std.specs.Prelude.{Option, Some, None, Result, Ok, Err, if◌then◌else◌}
-use Rattle.teco_base.specs.Bytes.{is_digit}
+use Rattle.std.specs.Prelude.{ℕ, suc, pos, int_le, int_lt, ◌+◌, ◌&&◌, List, [], ◌∷◌, length, true, Option, Some, None}
+use Rattle.std.specs.Prelude.{Result, Ok, Err, if◌then◌else◌}
 use Rattle.teco_base.specs.declared.code.Code.{Code}
 use Rattle.teco_model.specs.declared.kind.Search.{Search}
 use Rattle.teco_model.specs.declared.kind.Search.TheVariants.{Find, Replace, FindInPages, ReplaceInPages}
 use Rattle.teco_model.specs.Element.{Element}
-use Rattle.teco_model.specs.Pattern.{parts, minimum}
-use Rattle.teco_model.specs.declared.pattern.Class.{Class}
-use Rattle.teco_model.specs.declared.pattern.Class.TheVariants as class
-use Rattle.teco_model.specs.declared.pattern.Item.{Item}
-use Rattle.teco_model.specs.declared.pattern.Item.TheVariants as item
-use Rattle.teco_model.specs.declared.pattern.Part.{Part}
-use Rattle.teco_model.specs.declared.pattern.Part.TheVariants as part
+use Rattle.teco_model.specs.Pattern.{minimum}
 use Rattle.teco_poly.specs.Polynomial.{number}
-use Rattle.teco_verifier.specs.declared.falls.DigitMark.{DigitMark}
-use Rattle.teco_verifier.specs.declared.falls.DigitMark.TheVariants.{Before}
-use Rattle.teco_verifier.specs.declared.rules.Rules.{Rules}
 use Rattle.teco_verifier.specs.declared.values.Value.{Value}
 use Rattle.teco_verifier.specs.declared.values.Interval.{Interval}
 use Rattle.teco_verifier.specs.declared.values.Distances.{Distances}
@@ -25,7 +15,6 @@ use Rattle.teco_verifier.specs.declared.refusal.Refusal.TheVariants as refusal
 use Rattle.teco_verifier.specs.facts.Arguments.{arguments_of, levels_after_taking, levels_after_answer}
 use Rattle.teco_verifier.specs.facts.Attempt.{◌>>=◌}
 use Rattle.teco_verifier.specs.facts.Facts.{Position, Facts, nowhere, with_arguments, at_position}
-use Rattle.teco_verifier.specs.facts.Falls.{By, Refilled, is_second}
 use Rattle.teco_verifier.specs.facts.Joins.{joined_position}
 use Rattle.teco_verifier.specs.facts.Motions.{count_of, success}
 use Rattle.teco_verifier.specs.facts.Shifts.{Shift, moving, ending, shifted, position_after}
@@ -63,81 +52,44 @@ abbrev pub minimum_of : List ℕ → Result ℕ Refusal
 minimum_of [] = Err refusal.Unverified
 minimum_of (c ∷ text) = known_minimum (minimum (c ∷ text))
 
--- What is found is as long as the minimum, and lies ahead; the pointer goes behind it, or behind what replaces it.
--- A shorter buffer, and another page, end all that is saved.
-abbrev pub replacing : ℕ → ℕ → Shift → Shift
-replacing least new shift = record shift { loss = least; growth = number new; ends = true }
-
+-- What is found is as long as the minimum, and lies ahead; the pointer goes behind it, or behind what replaces it. A
+-- shorter buffer, and another page, end all that is saved.
 abbrev pub shift_found : Search → ℕ → ℕ → Distances → Shift
 shift_found Find least new distances =
-    moving (record { back = distances.back + least; fore = 0 }) (By (Some (pos least)))
-shift_found Replace least new distances =
-    replacing least new (moving (record { back = distances.back + new; fore = 0 }) (By (Some (pos least))))
-shift_found FindInPages least new distances =
-    ending (moving (record { back = least; fore = 0 }) (Refilled least))
+    moving (record { back = distances.back + least; fore = 0 }) (Some (pos least))
+shift_found Replace least new distances = record {
+  distances = record { back = distances.back + new; fore = 0 };
+  fall = Some (pos least);
+  growth = number new;
+  ends = true;
+}
+shift_found FindInPages least new distances = ending (moving (record { back = least; fore = 0 }) (Some (pos least)))
 shift_found ReplaceInPages least new distances =
-    replacing least new (moving (record { back = new; fore = 0 }) (Refilled least))
+    record { distances = record { back = new; fore = 0 }; fall = Some (pos least); growth = number new; ends = true }
 
 -- A failure goes to the begin of the buffer; of N and FN that is empty then. With two colons nothing moves.
 abbrev pub shift_to_begin : Distances → Shift
-shift_to_begin distances = moving (record { back = 0; fore = distances.back + distances.fore }) (By None)
+shift_to_begin distances = moving (record { back = 0; fore = distances.back + distances.fore }) None
 
 abbrev pub position_failed_in : ℕ → Facts → Position
 position_failed_in (suc (suc colons)) facts = facts.position
 position_failed_in colons facts =
-    position_after facts.rules (shift_to_begin facts.position.distances) facts.held facts.position
+    position_after (shift_to_begin facts.position.distances) facts.held facts.position
 
 abbrev pub position_failed : Search → ℕ → Facts → Position
-position_failed FindInPages colons facts =
-    position_after facts.rules (ending (moving nowhere (By None))) facts.held facts.position
-position_failed ReplaceInPages colons facts =
-    position_after facts.rules (ending (moving nowhere (By None))) facts.held facts.position
+position_failed FindInPages colons facts = position_after (ending (moving nowhere None)) facts.held facts.position
+position_failed ReplaceInPages colons facts = position_after (ending (moving nowhere None)) facts.held facts.position
 position_failed s colons facts = position_failed_in colons facts
 
 -- the facts where it failed: nothing was put in
 abbrev pub facts_failed : Search → ℕ → Facts → Facts
 facts_failed s colons facts = at_position (position_failed s colons facts) facts
 
--- A digit stands before the pointer where the last element of what S and N sought is one, in the second edition.
-abbrev pub is_digit_class : Class → Bool
-is_digit_class class.Digit = true
-is_digit_class (class.Literal b) = is_digit b
-is_digit_class c = false
-
-abbrev pub is_digit_item : Item → Bool
-is_digit_item (item.Is c) = is_digit_class c
-is_digit_item i = false
-
-abbrev pub is_digit_part : Part → Bool
-is_digit_part (part.Item i) = is_digit_item i
-is_digit_part (part.Register r) = false
-
-abbrev pub ends_in_digit : List Part → Bool
-ends_in_digit [] = false
-ends_in_digit (p ∷ []) = is_digit_part p
-ends_in_digit (p ∷ q ∷ others) = ends_in_digit (q ∷ others)
-
-abbrev pub end_in_digit : Result (List Part) Code → Bool
-end_in_digit (Ok found) = ends_in_digit found
-end_in_digit (Err c) = false
-
-abbrev pub seeks_digit : Search → List ℕ → Bool
-seeks_digit Find text = end_in_digit (parts text)
-seeks_digit FindInPages text = end_in_digit (parts text)
-seeks_digit s text = false
-
-abbrev pub digit_found : Rules → Search → List ℕ → Option DigitMark
-digit_found rules s text = if is_second rules && seeks_digit s text then Some Before else None
-
 -- the facts where it found
 abbrev pub facts_found : Search → Element → Facts → Result Facts Refusal
 facts_found s e facts = do
   least ← minimum_of e.text
-  shifted
-      (record (shift_found s least (length e.second) facts.position.distances) {
-        digit = digit_found facts.rules s e.text;
-      })
-      facts
+  shifted (shift_found s least (length e.second) facts.position.distances) facts
 
 -- An answer tells the outcomes apart; how much is held is known of both.
 abbrev pub facts_of_answer : Facts → Facts → Result Facts Refusal

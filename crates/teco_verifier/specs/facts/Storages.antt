@@ -13,7 +13,7 @@ use Rattle.teco_verifier.specs.declared.refusal.Refusal.{Refusal}
 use Rattle.teco_verifier.specs.declared.refusal.Refusal.TheVariants as refusal
 use Rattle.teco_verifier.specs.facts.Arguments.{KnownTaken, needed_value}
 use Rattle.teco_verifier.specs.facts.Attempt.{◌>>=◌}
-use Rattle.teco_verifier.specs.facts.Facts.{Iteration, Pushed, Facts, number_of, text_of, sum_of, without_digit}
+use Rattle.teco_verifier.specs.facts.Facts.{Iteration, Pushed, Facts, number_of, text_of, sum_of}
 use Rattle.teco_verifier.specs.facts.Insertions.{insertion_of}
 use Rattle.teco_verifier.specs.facts.Motions.{count_of}
 use Rattle.teco_verifier.specs.facts.Shifts.{is_place, Foreseen, silent, answering, silent_behind}
@@ -51,7 +51,7 @@ text_storage (suc colons) r length facts = do
 -- X copies a part of the buffer, which is no longer than what is held
 abbrev pub copy : Bool → ℕ → ℕ → KnownTaken → Facts → Result Foreseen Refusal
 copy library colons r taken facts = do
-  named ← part_named facts.rules taken.first taken.value facts.position.distances
+  named ← part_named taken.first taken.value facts.position.distances
   free ← not_of_library library
   text_storage colons r facts.held facts
 
@@ -65,7 +65,7 @@ own_text_storage library colons r text (Some n) facts = Err refusal.Argument
 -- G inserts the text, or with a colon types it
 abbrev pub retrieval : ℕ → ℕ → Facts → Result Foreseen Refusal
 retrieval zero r facts = silent_behind (insertion_of 0 (text_of r facts) facts.position.distances) facts
-retrieval (suc colons) r facts = Ok (silent (without_digit facts))
+retrieval (suc colons) r facts = Ok (silent facts)
 
 -- nUq saves n where that is a place of the buffer.
 abbrev pub storage : Storage → Bool → ℕ → List ℕ → KnownTaken → Facts → Result Foreseen Refusal

@@ -25,7 +25,7 @@ use Rattle.teco_verifier.specs.facts.Arguments.{levels_after_open, levels_closed
 use Rattle.teco_verifier.specs.facts.Arguments.{levels_after_taking}
 use Rattle.teco_verifier.specs.facts.Attempt.{◌>>=◌}
 use Rattle.teco_verifier.specs.facts.Deletions.{deletion}
-use Rattle.teco_verifier.specs.facts.Facts.{Answer, Facts, with_arguments, without_digit}
+use Rattle.teco_verifier.specs.facts.Facts.{Answer, Facts, with_arguments}
 use Rattle.teco_verifier.specs.facts.Flows.{Edges, goes_on, leaving, flow_edges}
 use Rattle.teco_verifier.specs.facts.Insertions.{insertion}
 use Rattle.teco_verifier.specs.facts.Motions.{motion}
@@ -150,7 +150,7 @@ edges_of (kind.Value v) x answer facts = on (facts_after_value v facts)
 edges_of (kind.Query q) x answer facts =
     on (facts_after_query q x.element.colons (value_for q x.element.colons facts.arguments.level) facts)
 edges_of (kind.Stack s) x answer facts = on (stack s x.library facts)
-edges_of (kind.Call c) x answer facts = Ok (goes_on (without_digit facts))
+edges_of (kind.Call c) x answer facts = Ok (goes_on facts)
 edges_of (kind.Flow f) x answer facts = flow_edges f x.element.colons x.leaves answer facts
 edges_of (kind.Command c) x answer facts = on (facts_after_command c x facts)
 edges_of (kind.Page p) x answer facts = on (facts_after_page p facts)
@@ -162,4 +162,4 @@ transfer x facts = edges_of x.element.kind x (answer_for x.element.kind facts) (
 
 -- the end of a called text goes back, and leaves the arguments
 abbrev pub transfer_return : Facts → Edges
-transfer_return facts = goes_on (without_digit (without_answer facts))
+transfer_return facts = goes_on (without_answer facts)

@@ -11,12 +11,12 @@ use Rattle.teco_verifier.specs.expansion.Ends.{end_of}
 use Rattle.teco_verifier.specs.expansion.Node.{Node}
 use Rattle.teco_poly.specs.Polynomial.{Polynomial}
 use Rattle.teco_verifier.specs.declared.refusal.Refusal.{Refusal}
+use Rattle.teco_model.specs.Macros.{ArgumentRange}
 use Rattle.teco_verifier.specs.facts.Argument.{facts_given}
 use Rattle.teco_verifier.specs.facts.Bodies.{Choice, Changes, body_start, stands}
 use Rattle.teco_verifier.specs.facts.Covers.{covers, each_covers, is_same_iteration}
-use Rattle.teco_verifier.specs.facts.Facts.{Iteration, Facts, Entry}
+use Rattle.teco_verifier.specs.facts.Facts.{Iteration, Facts}
 use Rattle.teco_verifier.specs.facts.Flows.{Edges, turns}
-use Rattle.teco_verifier.specs.facts.Ranks.{rank_at}
 use Rattle.teco_verifier.specs.table.Behind.{edges_at, along, begins_turn}
 use Rattle.teco_verifier.specs.table.Table.{Table, facts_at, choice_at}
 use Rattle.teco_verifier.specs.table.Written.{changes_in}
@@ -26,9 +26,9 @@ abbrev pub say_same : Facts → Facts → Bool
 say_same facts others = covers facts others && covers others facts
 
 -- nothing but what is always known is known at the entry, and of the argument that is declared for it
-abbrev pub is_entry : Entry → Option Facts → Bool
-is_entry entry None = false
-is_entry entry (Some facts) = say_same facts (facts_given entry)
+abbrev pub is_entry : Option ArgumentRange → Option Facts → Bool
+is_entry argument None = false
+is_entry argument (Some facts) = say_same facts (facts_given argument)
 
 -- An edge that begins no turn is covered where it leads. Behind all nodes nothing is known; the return of the entry
 -- alone leads there.
@@ -68,9 +68,8 @@ body_stands changes end entering start choice most = false
 abbrev pub is_entered : List Node → Table → ℕ → Facts → Option Facts → Bool
 is_entered nodes table begin facts None = is_none (facts_at table (suc begin))
 is_entered nodes table begin facts (Some entering) =
-    body_stands (changes_in nodes begin) (facts_at table (end_of nodes begin)) entering
-    (facts_at table (suc begin))
-    (choice_at table begin) (turns (rank_at (facts_at table (end_of nodes begin))) facts)
+    body_stands (changes_in nodes begin) (facts_at table (end_of nodes begin)) entering (facts_at table (suc begin))
+    (choice_at table begin) (turns facts)
 
 abbrev pub enters : List Node → Table → ℕ → Facts → Edges → Flow → Bool
 enters nodes table number facts edges flow.Iterate = is_entered nodes table number facts edges.on
@@ -130,5 +129,5 @@ unfoldable pub check_nodes : List Node → Table → Result (Unit {0}) ℕ
 check_nodes nodes table = check_from nodes table 1 nodes
 
 -- what is known of the entry is judged before that
-unfoldable pub check : Entry → List Node → Table → Result (Unit {0}) ℕ
-check entry nodes table = if is_entry entry (facts_at table 1) then check_nodes nodes table else Err 1
+unfoldable pub check : Option ArgumentRange → List Node → Table → Result (Unit {0}) ℕ
+check argument nodes table = if is_entry argument (facts_at table 1) then check_nodes nodes table else Err 1

@@ -1,6 +1,6 @@
 -- A table that is derived in one pass over the nodes, where what is chosen for the iterations is given.
-use Rattle.std.specs.Prelude.{ℕ, zero, suc, ◌==◌, List, [], ◌∷◌, ◌++◌, slice_set, if◌then◌else◌, Option, Some, None}
-use Rattle.std.specs.Prelude.{option_map, Result, Ok}
+use Rattle.std.specs.Prelude.{ℕ, zero, suc, ◌==◌, List, [], ◌∷◌, ◌++◌, slice_set, if◌then◌else◌, Option, Some}
+use Rattle.std.specs.Prelude.{None, option_map, Result, Ok}
 use Rattle.std.specs.Option.{option_and_then}
 use Rattle.teco_model.specs.declared.kind.Kind.TheVariants as kind
 use Rattle.teco_model.specs.declared.kind.Flow.{Flow}
@@ -9,13 +9,13 @@ use Rattle.teco_model.specs.Element.{Element}
 use Rattle.teco_verifier.specs.expansion.Node.{Node}
 use Rattle.teco_poly.specs.Polynomial.{Polynomial}
 use Rattle.teco_verifier.specs.declared.refusal.Refusal.{Refusal}
+use Rattle.teco_model.specs.Macros.{ArgumentRange}
 use Rattle.teco_verifier.specs.facts.Argument.{facts_given}
 use Rattle.teco_verifier.specs.facts.Attempt.{◌>>=◌}
 use Rattle.teco_verifier.specs.facts.Bodies.{Choice, Changes, body_start}
-use Rattle.teco_verifier.specs.facts.Facts.{Facts, Entry}
+use Rattle.teco_verifier.specs.facts.Facts.{Facts}
 use Rattle.teco_verifier.specs.facts.Flows.{Edges}
 use Rattle.teco_verifier.specs.facts.Joins.{joined}
-use Rattle.teco_verifier.specs.facts.Shifts.{capped}
 use Rattle.teco_verifier.specs.table.Behind.{edges_at, along, along_flow}
 use Rattle.teco_verifier.specs.table.Choices.{LongerText, Chosen}
 use Rattle.teco_verifier.specs.table.Table.{Row, Table}
@@ -26,12 +26,8 @@ with_longer [] texts = texts
 with_longer (change ∷ changes) texts = with_longer changes (slice_set texts change.register change.text)
 
 abbrev pub choice_of : Facts → Chosen → Choice
-choice_of facts chosen = record {
-  held = chosen.held;
-  kept = chosen.kept;
-  distances = capped chosen.distances;
-  texts = with_longer chosen.longer facts.texts;
-}
+choice_of facts chosen =
+    record { held = chosen.held; kept = chosen.kept; texts = with_longer chosen.longer facts.texts }
 
 abbrev pub chosen_for : ℕ → List Chosen → Option Chosen
 chosen_for number [] = None
@@ -108,6 +104,6 @@ derive_from nodes chosen number (node ∷ rest) arrivals = do
   rows ← derive_from nodes chosen (suc number) rest (arrivals ++ here.arrivals)
   Ok (here.row ∷ rows)
 
-unfoldable pub derive : Entry → List Node → List Chosen → Result Table Refusal
-derive entry nodes chosen =
-    derive_from nodes chosen 1 nodes (record { target = 1; facts = facts_given entry } ∷ [])
+unfoldable pub derive : Option ArgumentRange → List Node → List Chosen → Result Table Refusal
+derive argument nodes chosen =
+    derive_from nodes chosen 1 nodes (record { target = 1; facts = facts_given argument } ∷ [])

@@ -22,7 +22,6 @@ line_of number facts choice = record {
   begin = number;
   held = choice.held;
   kept = choice.kept;
-  distances = choice.distances;
   longer = longer_from 0 facts.texts choice.texts;
 }
 

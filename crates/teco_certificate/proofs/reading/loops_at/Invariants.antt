@@ -2,30 +2,27 @@ use Rattle.std.proofs.Common.{◌≡◌, ◌++◌, ℕ, List, length, flat_map}
 use Rattle.std.specs.List.{AllByRecursion}
 use Rattle.std.specs.Prelude.{codes}
 use Rattle.teco_certificate.specs.Text.{line, chosen_text, loop_line}
-use Rattle.teco_certificate.specs.WellFormed.{IsChosen, RegistersRise, HasDistancesOf}
-use Rattle.teco_verifier.specs.declared.rules.Rules.{Rules}
+use Rattle.teco_certificate.specs.WellFormed.{IsChosen, RegistersRise}
 use Rattle.teco_verifier.specs.table.Choices.{Chosen}
 use Rattle.teco_certificate.proofs.Items.{AreLeft}
 use Rattle.teco_certificate.proofs.reading.loops_at.Given as goal
 
-abbrev pub loop_rest : Rules → Chosen → List ℕ
-loop_rest rules c = line (chosen_text rules c)
+abbrev pub loop_rest : Chosen → List ℕ
+loop_rest c = line (chosen_text c)
 
--- such a line has a text, its registers rise, and its distances are those of an edition
-pub record IsLine (rules : Rules) (line : Chosen) : Type 0 where
+-- such a line has a text, and its registers rise
+pub record IsLine (line : Chosen) : Type 0 where
   pub chosen : IsChosen line
   pub rises : RegistersRise line
-  pub distances : HasDistancesOf rules line
 
 -- of whatever loops there are, those that are read and those that are left are all; the registers of each that is read
 -- rise
 abbrev pub invariant-loop-words : goal.invariant-loop-words
 invariant-loop-words l = record {
   rise : AllByRecursion RegistersRise l.loops.items;
-  distances : AllByRecursion (HasDistancesOf l.rules) l.loops.items;
   left : (cs : List Chosen) → AllByRecursion IsChosen cs → AllByRecursion RegistersRise cs
-      → AllByRecursion (HasDistancesOf l.rules) cs → l.fn.text ≡ flat_map (loop_line l.rules) cs ++ line (codes "end")
-      → AreLeft (codes "loop ") (loop_rest l.rules) (IsLine l.rules) (line (codes "end")) cs l.loops.items l.rest;
+      → l.fn.text ≡ flat_map loop_line cs ++ line (codes "end")
+      → AreLeft (codes "loop ") loop_rest IsLine (line (codes "end")) cs l.loops.items l.rest;
 }
 
 abbrev pub decreases-loop-words : goal.decreases-loop-words

@@ -14,8 +14,8 @@ loop-at-init c = search rules
 pub returns-in_err-check_at-clause-value : goal.returns-in_err-check_at-clause-value
 returns-in_err-check_at-clause-value c =
     let within : c.loop-at.at < length c.args.nodes.now = omega (arith, c.len-at-end.ensures) in
-    let said = says_of c.args.entry.now c.args.nodes.now c.args.table.now c.loop-at.at c.in_err-check_at.field-0.0
-    within c.loop-at.invariant (rw c.in_err-check_at.was at c.check_at.ensures) in
+    let said = says_of c.args.argument c.args.nodes.now c.args.table.now c.loop-at.at c.in_err-check_at.field-0.0 within
+    c.loop-at.invariant (rw c.in_err-check_at.was at c.check_at.ensures) in
     let is : c.from_residual.result ≡ Err c.in_err-check_at.field-0.0 = search rules in
     rw is said
 

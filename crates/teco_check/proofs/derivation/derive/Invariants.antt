@@ -5,4 +5,5 @@ use Rattle.teco_check.proofs.derivation.derive.Given as goal
 
 -- the rows of the nodes before this one are derived, and none has facts that are too large
 abbrev pub invariant-loop-at : goal.invariant-loop-at
-invariant-loop-at l = AreDerived l.fn.entry l.nodes l.chosen l.at l.arrived l.table × AllByRecursion RowIsKept l.table
+invariant-loop-at l =
+    AreDerived l.fn.argument l.nodes l.chosen l.at l.arrived l.table × AllByRecursion RowIsKept l.table

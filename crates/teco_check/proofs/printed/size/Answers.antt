@@ -10,11 +10,11 @@ loop-at-init c = rw c.number-most.ensures refl
 pub returns-in-Err-clause-value : goal.returns-in-Err-clause-value
 returns-in-Err-clause-value c =
     let within : c.loop-at.at < length c.args.nodes.now = omega (arith, c.len-at-end.ensures) in
-    c.loop-at.invariant ∙ size_fails c.args.entry.now c.args.nodes.now c.args.table.now c.loop-at.at c.loop-at.most
-    c.in-Err.field-0 within (rw c.facts_behind.ensures.value at (sym c.sized_with.ensures ∙ c.in-Err.is))
+    c.loop-at.invariant ∙ size_fails c.args.nodes.now c.args.table.now c.loop-at.at c.loop-at.most c.in-Err.field-0
+    within (rw c.facts_behind.ensures.value at (sym c.sized_with.ensures ∙ c.in-Err.is))
 
 pub loop-at-preserved : goal.loop-at-preserved
 loop-at-preserved c =
     let within : c.loop-at.at < length c.args.nodes.now = omega (arith, c.len-at-end.ensures) in
-    c.loop-at.invariant ∙ size_more c.args.entry.now c.args.nodes.now c.args.table.now c.loop-at.at c.loop-at.most
-    c.in-Ok.more within (rw c.facts_behind.ensures.value at (sym c.sized_with.ensures ∙ c.in-Ok.is))
+    c.loop-at.invariant ∙ size_more c.args.nodes.now c.args.table.now c.loop-at.at c.loop-at.most c.in-Ok.more within
+    (rw c.facts_behind.ensures.value at (sym c.sized_with.ensures ∙ c.in-Ok.is))

@@ -1,5 +1,7 @@
-use Rattle.std.proofs.Common.{false}
-use Rattle.teco_flow_outcomes.proofs.Ranging.{in_only, negative_fails, not_zero_fails, positive_fails, zero_fails}
+use Rattle.std.proofs.Common.{false, pos, refl}
+use Rattle.teco_flow_outcomes.specs.declared.ranges.Range.TheVariants.{From, UpTo}
+use Rattle.teco_flow_outcomes.proofs.Ranging.{in_both, in_only, digit_fails, negative_fails, not_zero_fails}
+use Rattle.teco_flow_outcomes.proofs.Ranging.{positive_fails, zero_fails}
 use Rattle.teco_flow_outcomes.proofs.ranges.where_it_fails.Goals as goal
 
 pub returns-in-Zero : goal.returns-in-Zero
@@ -15,3 +17,6 @@ returns-in-Negative c = in_only c.args.test _ _ false c.only.result c.in-Negativ
 pub returns-in-Positive : goal.returns-in-Positive
 returns-in-Positive c =
     in_only c.args.test _ _ false c.only-in-Positive.result c.in-Positive.is c.only-in-Positive.ensures positive_fails
+
+pub returns-in-Digit : goal.returns-in-Digit
+returns-in-Digit c = in_both c.args.test _ (UpTo (pos 47)) (From (pos 58)) false _ c.in-Digit.is refl digit_fails

@@ -1,5 +1,3 @@
-use Rattle.std.proofs.Common.{◌∙◌, ap}
-use Rattle.teco_verifier.specs.facts.Values.{code_of_one}
 use Rattle.teco_known.proofs.Places.{subtracted}
 use Rattle.teco_known.proofs.Wholes.{place_whole, difference_whole}
 use Rattle.teco_known.proofs.place.apart.Goals as goal
@@ -8,9 +6,8 @@ pub returns : goal.returns
 returns c =
     let s = place_whole _ _ _ _ c.requires.one in
     let t = place_whole _ _ _ _ c.requires.two in
-    subtracted c.args.s c.args.t _ _ _ _ _
+    subtracted c.args.s c.args.t _ _ _ _
     (difference_whole s.ahead t.ahead (record { sfits = c.sub.type_inv }) c.sub.ensures)
     (difference_whole s.behind t.behind (record { sfits = c.sub-2.type_inv }) c.sub-2.ensures)
-    (c.code_of_one.ensures ∙ ap (code_of_one c.args.s.code) c.opposite_code.ensures)
     (difference_whole s.lo t.hi (record { sfits = c.sub-3.type_inv }) c.sub-3.ensures)
     (difference_whole s.hi t.lo (record { sfits = c.sub-4.type_inv }) c.sub-4.ensures)

@@ -3,38 +3,14 @@ use Rattle.std.proofs.lemmas.Int.{ints, to_z-of_z}
 use Rattle.teco_known.proofs.place.least.Goals as goal
 
 pub add-requires : goal.add-requires
-add-requires c =
-    omega (arith, ints, c.add-shares.ensures, c.share.ensures, c.share-2.ensures, c.least_code.invariant)
-
-pub add-requires-2 : goal.add-requires-2
-add-requires-2 c =
-    omega (arith, ints, c.add.ensures, c.add-shares.ensures, c.share.ensures, c.share-2.ensures, c.least_code.invariant)
+add-requires c = omega (arith, ints, c.add-shares.ensures, c.share.ensures, c.share-2.ensures)
 
 pub returns-clause-near : goal.returns-clause-near
-returns-clause-near c = record {
-  low =
-      omega (
-        arith,
-        ints,
-        c.add-2.ensures,
-        c.add.ensures,
-        c.add-shares.ensures,
-        c.share.ensures,
-        c.share-2.ensures,
-        c.least_code.invariant,
-      );
-  high =
-      omega (
-        arith,
-        ints,
-        c.add-2.ensures,
-        c.add.ensures,
-        c.add-shares.ensures,
-        c.share.ensures,
-        c.share-2.ensures,
-        c.least_code.invariant,
-      );
-}
+returns-clause-near c =
+    record {
+      low = omega (arith, ints, c.add.ensures, c.add-shares.ensures, c.share.ensures, c.share-2.ensures);
+      high = omega (arith, ints, c.add.ensures, c.add-shares.ensures, c.share.ensures, c.share-2.ensures);
+    }
 
 pub returns-clause-value : goal.returns-clause-value
 returns-clause-value c = grind (arith, to_z-of_z)

@@ -3,4 +3,4 @@ use Rattle.teco_known.proofs.place.minus.Goals as goal
 
 pub returns-clause-place : goal.returns-clause-place
 returns-clause-place c =
-    rw c.apart.ensures (difference_is_place _ _ _ _ _ _ _ _ c.s.invariant.0 c.t.invariant.0)
+    rw c.apart.ensures (difference_is_place _ _ _ _ _ _ _ _ c.s.invariant c.t.invariant)

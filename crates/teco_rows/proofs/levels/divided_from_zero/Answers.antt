@@ -1,0 +1,13 @@
+use Rattle.std.proofs.Common.{arith, refl}
+use Rattle.std.proofs.lemmas.Int.{ints}
+use Rattle.std.proofs.lemmas.Result.{IfOk-weaker}
+use Rattle.teco_rows.proofs.Giving.{is_from_zero}
+use Rattle.teco_rows.proofs.levels.divided_from_zero.Goals as goal
+
+pub returns : goal.returns
+returns c =
+    IfOk-weaker c.led.result _ _
+    (λ after led.
+    is_from_zero c.args.case.now after _ c.args.by _ _ _ led refl (omega (arith, ints)) (omega (arith, ints))
+    (omega (arith, ints)) c.requires c.in_ok-at_level.ensures)
+    c.led.ensures
