@@ -13,9 +13,8 @@ use Rattle.teco_verifier.specs.facts.Attempt.{◌>>=◌}
 use Rattle.teco_model.specs.Macros.{ArgumentRange}
 use Rattle.teco_verifier.specs.facts.Argument.{facts_given}
 use Rattle.teco_verifier.specs.facts.Facts.{Facts}
-use Rattle.teco_verifier.specs.table.Behind.{edges_at}
 use Rattle.teco_verifier.specs.table.Choices.{Chosen}
-use Rattle.teco_verifier.specs.table.Deriving.{Arrival, Derived, met, met_with, derived_at, derive, derive_from}
+use Rattle.teco_verifier.specs.table.Deriving.{Arrival, met, met_with, derived_at, derive, derive_from}
 use Rattle.teco_verifier.specs.table.Table.{Row, Table, facts_in, facts_at}
 use Rattle.teco_check.specs.declared.derivation.NotDerived.{NotDerived}
 use Rattle.teco_check.specs.declared.derivation.NotDerived.TheVariants as fault
@@ -23,8 +22,7 @@ use Rattle.teco_check.specs.Derived.{AreLarge, HasLarge, Derives, DerivesFrom, D
 use Rattle.teco_check.specs.Derived.{met_more, arrived_at, arrived_all, arrivals_of, derived_from, table_up_to}
 use Rattle.teco_check.specs.Derived.{DerivesTo}
 use Rattle.teco_check.specs.Here.{IsNumberOf, node_at}
-use Rattle.teco_check.specs.Kept.{AreKept}
-use Rattle.teco_check.proofs.Steps.{nodes_from}
+use Rattle.teco_check.proofs.Further.{nodes_from}
 
 -- steps one after another
 ok_of : {A B : Type 0} (r : Result A Refusal) (f : A → Result B Refusal) (b : B) → (r >>= f) ≡ Ok b
@@ -318,21 +316,6 @@ pub all_derived : (argument : Option ArgumentRange) (nodes : List Node) (chosen 
     → derive argument nodes chosen ≡ Ok table
 all_derived argument nodes chosen k slots table h a = derived_so argument nodes chosen k slots table a
     ∙ rw (drop_all k nodes h, append-nil) refl
-
--- what the row of a node that is reached says
-facts_of : Result Derived Refusal → Option Facts
-facts_of (Ok derived) = derived.row.facts
-facts_of (Err why) = None
-
-pub large_here : (nodes : List Node) (chosen : List Chosen) (number : ℕ) (node : Node) (facts : Facts) → ¬ AreKept facts
-    → HasLarge (derived_at nodes chosen number node (Some facts)) number number
-unfolding facts_of ok_of
-large_here nodes chosen number node facts large = record {
-  here = refl;
-  large = λ derived e.
-      let edges = ok_of (edges_at nodes node facts) _ derived e in
-      subst AreLarge (ap facts_of edges.2) large;
-}
 
 row_there : (table : Table) (k : ℕ) (row : Row) (rest : Table) → length table ≡ k
     → slice_get (table ++ row ∷ rest) k ≡ Some row

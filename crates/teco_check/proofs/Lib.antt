@@ -1,8 +1,10 @@
 -- What the proofs of the functions share.
+pub mod Searched
+pub mod Deleted
 pub mod Numbered
 pub mod Ways
 mod Wholes
-pub mod Steps
+pub mod Further
 pub mod Writing
 pub mod Arriving
 pub mod Lines

@@ -31,8 +31,8 @@ use Rattle.teco_model.specs.declared.kind.Unit.{Unit as Counted}
 use Rattle.teco_model.specs.declared.kind.Unit.TheVariants as counted
 use Rattle.teco_model.specs.Element.{Element}
 use Rattle.teco_verifier.specs.expansion.Node.{Node}
-use Rattle.teco_known.specs.Numbers.{AreSmall, IsSmallFall}
-use Rattle.teco_known.specs.declared.few.TheConstants.{DEPTH}
+use Rattle.teco_facts.specs.Numbers.{AreSmall, IsSmallFall}
+use Rattle.teco_facts.specs.declared.few.TheConstants.{DEPTH}
 use Rattle.teco_poly.specs.Polynomial.{Polynomial, number}
 use Rattle.teco_verifier.specs.declared.refusal.Refusal.{Refusal}
 use Rattle.teco_verifier.specs.declared.refusal.Refusal.TheVariants as refusal

@@ -1,7 +1,7 @@
 -- Facts that a table may have.
 use Rattle.std.specs.Prelude.{IfSome}
 use Rattle.teco_verifier.specs.facts.Facts.{Facts}
-use Rattle.teco_known.specs.Numbers.{AreSmall}
+use Rattle.teco_facts.specs.Numbers.{AreSmall}
 use Rattle.teco_facts.specs.Room.{HasRoom}
 use Rattle.teco_verifier.specs.table.Table.{Row}
 

@@ -1,4 +1,9 @@
 -- The words of the contracts.
+pub mod Seen
+pub mod Searched
+pub mod Placed
+pub mod Allowed
+pub mod Shifts
 pub mod Here
 pub mod Kept
 pub mod Says

@@ -6,8 +6,7 @@ ghost use Rattle.teco_check.specs.Derived as derived;
 use std::alloc::{AllocError, Global};
 use std::marker::Model;
 use std::mem;
-use teco_facts::Facts;
-use teco_known::Fault;
+use teco_facts::{Facts, Fault};
 use teco_verifier::Refusal;
 
 /// For each node in the order of their numbers, what is known of all edges that arrived there, or

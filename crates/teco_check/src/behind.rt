@@ -10,12 +10,11 @@ ghost use Rattle.teco_check.specs.Ways as ways;
 
 use crate::here::Here;
 use crate::node::{depth, way};
+use crate::transfer::Edges;
 use teco_expansion::Nodes;
-use teco_facts::Facts;
-use teco_known::Fault;
+use teco_facts::{Facts, Fault};
 use teco_model::Element;
 use teco_model::kind::{Flow, Kind};
-use teco_transfer::Edges;
 
 // How many iterations are open at a number; behind all nodes there is none.
 #[tactic(auto, using(crate::proofs::Numbered::open_is, crate::proofs::Numbered::open_outside))]

@@ -6,13 +6,13 @@ ghost use Rattle.teco_verifier.specs.table.Closed as rules;
 use crate::iterations::{changes_in, end_of};
 use crate::same::say_same;
 use crate::table::Table;
+use crate::transfer::turns;
 use std::alloc::AllocError;
 use teco_expansion::Nodes;
 use teco_facts::{Changes, Choice, Facts, body_start};
 use teco_model::Element;
 use teco_model::kind::{Flow, Kind};
 use teco_poly::Poly;
-use teco_transfer::turns;
 use teco_verifier::Refusal;
 
 /// Whether an element is a <.

@@ -15,12 +15,11 @@ use crate::bodies::{begins_iteration, is_entered};
 use crate::node::{element, iteration, way, ways};
 use crate::same::{is_covered, is_entry};
 use crate::table::Table;
+use crate::transfer::Edges;
 use std::alloc::{AllocError, Global};
 use teco_expansion::Nodes;
-use teco_facts::Facts;
-use teco_known::Fault;
+use teco_facts::{Facts, Fault};
 use teco_model::{ArgumentRange, Element};
-use teco_transfer::Edges;
 
 // Whether an edge is covered where it leads. Behind all nodes nothing is known; the return of the
 // entry alone leads there.

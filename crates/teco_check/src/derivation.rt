@@ -20,12 +20,11 @@ use crate::chosen::choice_for;
 use crate::iterations::changes_in;
 use crate::node::{element, way, ways};
 use crate::table::{Row, Table, are_kept};
+use crate::transfer::Edges;
 use std::alloc::{AllocError, Global};
 use teco_expansion::Nodes;
-use teco_facts::{Choice, Facts, body_start};
-use teco_known::Fault;
+use teco_facts::{Choice, Facts, Fault, body_start};
 use teco_model::{ArgumentRange, Element};
-use teco_transfer::Edges;
 use teco_verifier::{LoopLine, Refusal};
 
 /// Why no table is derived.

@@ -9,12 +9,11 @@ ghost use Rattle.teco_check.specs.Kept.{AreKept};
 
 use crate::behind::{goes_on, left_by, turns};
 use crate::node::{colon, element, inside, names_macro};
+use crate::transfer::{Edges, Placed, return_from, transfer_from};
 use std::marker::Model;
 use teco_expansion::Nodes;
-use teco_facts::Facts;
-use teco_known::Fault;
+use teco_facts::{Facts, Fault};
 use teco_model::kind::{Flow, Kind};
-use teco_transfer::{Edges, Placed, return_from, transfer_from};
 
 /// What is read at a node, where it stands. Nothing but the nodes decides that, so that one who
 /// comes to a node many times reads it once.
@@ -28,7 +27,7 @@ impl<'a> Model for Here<'a> {
     ghost use Rattle.std.specs.Prelude.{◌≤◌, Option, option_map, length, IfSome};
     ghost use Rattle.teco_base.specs.declared.TheConstants.{LIMIT};
     ghost use Rattle.teco_verifier.specs.facts.Transfer as rules;
-    ghost use Rattle.teco_transfer.specs.Placed.{seen};
+    ghost use Rattle.teco_check.specs.Placed.{seen};
 
     ghost Value = { Option rules.Placed };
 

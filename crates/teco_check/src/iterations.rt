@@ -40,7 +40,7 @@ fn ends(nodes: &Nodes<'_>, number: usize, begin: usize) -> bool
 }
 
 /// The number of the > of an iteration, from the number of its <; where none ends it, that.
-#[tactic(auto, using(crate::proofs::Steps::first_end_more, crate::proofs::Steps::first_end_here, crate::proofs::Steps::first_end_none))]
+#[tactic(auto, using(crate::proofs::Further::first_end_more, crate::proofs::Further::first_end_here, crate::proofs::Further::first_end_none))]
 pub fn end_of(nodes: &Nodes<'_>, begin: usize) -> usize
     ensures value { result ≡ ends.end_of nodes.now begin }
     ensures from { begin ≤ result }

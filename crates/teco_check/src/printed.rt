@@ -4,7 +4,6 @@ ghost use Rattle.std.specs.Prelude.{◌≡◌, ◌<◌, ◌≤◌, length, optio
 ghost use Rattle.std.specs.Prelude.{option_copied};
 ghost use Rattle.std.specs.Option.{option_map_or};
 ghost use Rattle.teco_model.specs.Element as elements;
-ghost use Rattle.teco_verifier.specs.facts.Facts as facts;
 ghost use Rattle.teco_verifier.specs.facts.Printed as needs;
 ghost use Rattle.teco_verifier.specs.table.Printed as rules;
 ghost use Rattle.teco_verifier.specs.table.Table.{facts_at};
@@ -14,11 +13,11 @@ ghost use Rattle.teco_check.specs.Says.{OverflowsAt, Prints};
 
 use crate::node::{depth, element, iteration};
 use crate::table::Table;
+use crate::transfer::{needs_of, steps, turns};
 use teco_expansion::Nodes;
-use teco_facts::Facts;
+use teco_facts::{Facts, sum_of};
 use teco_model::{ArgumentRange, Element, Needs};
 use teco_poly::Poly;
-use teco_transfer::{needs_of, steps, turns};
 use teco_verifier::Refusal;
 
 /// A printed number overflows at the node of this number.
@@ -172,13 +171,6 @@ fn weight(
         Ok(rounds) => product_of(&own, rounds),
         Err(why) => Err(*why),
     }
-}
-
-// The sum, where it does not overflow.
-fn sum_of(one: &Poly, two: &Poly) -> Result<Poly, Refusal>
-    ensures { result ≡ facts.sum_of one.now two.now }
-{
-    one.add(two).ok_or(Refusal::Overflow)
 }
 
 // What is counted with a node.

@@ -14,4 +14,4 @@ pub use certificate::LinearCertificate;
 pub use check::check_linear;
 pub use claimed::Claimed;
 pub use refusal::{LinearRefusal, NodePlace};
-pub use verify::verify_linear;
+pub use verify::{Unshown, verify_linear, why_unshown};

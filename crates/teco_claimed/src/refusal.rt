@@ -144,8 +144,8 @@ fn number_unfound(why: Unfound) -> Option<usize> {
     }
 }
 
-// Where the element of a number stands, if there is one.
-fn place_at(nodes: &Nodes<'_>, number: Option<usize>) -> Option<NodePlace> {
+/// Where the element of a number stands, if there is one.
+pub(crate) fn place_at(nodes: &Nodes<'_>, number: Option<usize>) -> Option<NodePlace> {
     let number = number?;
     if number == 0 || number > nodes.len() {
         return None;

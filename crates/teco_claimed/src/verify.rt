@@ -5,11 +5,11 @@ ghost use Rattle.teco_claimed.specs.Claimed.{TakesDeclared};
 use crate::certificate::LinearCertificate;
 use crate::check::{check_linear, lengths_of};
 use crate::claimed::Claimed;
-use crate::refusal::LinearRefusal;
+use crate::refusal::{LinearRefusal, NodePlace, place_at};
 use std::alloc::Global;
 use teco_base::Reg;
 use teco_expansion::{Nodes, expand};
-use teco_infer::{ATTEMPTS, Refusal as Unfound, infer_by, is_worth_another};
+use teco_infer::{ATTEMPTS, Reason, Refusal as Unfound, infer_by, is_worth_another, reason_of};
 use teco_library::Library;
 use teco_model::kind::{Page, Search};
 use teco_model::{Kind, Needs};
@@ -74,11 +74,24 @@ fn attempt<'l>(
     }
 }
 
-// Is another way of looking worth its time behind this refusal?
-fn goes_on(refused: LinearRefusal) -> bool {
+// Why a way of looking found none, if that is the refusal.
+fn unfound(refused: LinearRefusal) -> Option<Unfound> {
     match refused {
-        LinearRefusal::NotFound { why, .. } => is_worth_another(why),
-        LinearRefusal::NotCertain { .. } => true,
+        LinearRefusal::NotFound { why, .. } => Some(why),
+        _ => None,
+    }
+}
+
+// Is the next way of looking worth its time behind this refusal, where the first way had another?
+fn goes_on(first: LinearRefusal, refused: LinearRefusal, next: usize) -> bool {
+    match refused {
+        LinearRefusal::NotFound { why, .. } => {
+            is_worth_another(unfound(first).unwrap_or(why), why, next)
+        }
+        LinearRefusal::NotCertain { .. } => match unfound(first) {
+            Some(first) => is_worth_another(first, first, next),
+            None => next.saturating_add(1) < ATTEMPTS,
+        },
         _ => false,
     }
 }
@@ -109,7 +122,7 @@ fn attempts<'l>(
             Ok(claimed) => return Ok(claimed),
             Err(refused) => {
                 first = first.or(Some(refused));
-                if !goes_on(refused) {
+                if !goes_on(first.unwrap_or(refused), refused, at.saturating_add(1)) {
                     break;
                 }
             }
@@ -152,4 +165,45 @@ pub fn verify_linear<'l>(
         }
         answer => answer,
     }
+}
+
+/// Why no claims of a macro are found, and where.
+#[derive(Drop)]
+pub struct Unshown {
+    /// Where the element stands at which that is told.
+    pub at: NodePlace,
+    pub reason: Reason,
+    /// Where the elements of its way stand.
+    pub way: Vec<NodePlace>,
+}
+
+// Where the elements of some numbers stand.
+fn places_of(nodes: &Nodes<'_>, numbers: &[usize], alloc: Global) -> Vec<NodePlace> {
+    let mut places = Vec::new(alloc);
+    for number in numbers {
+        let is_kept = match place_at(nodes, Some(*number)) {
+            Some(place) => places.push(place).is_ok(),
+            None => true,
+        };
+        if !is_kept {
+            break;
+        }
+    }
+    places
+}
+
+/// Why no claims of a macro of a library are found; `None` where that can't be told, or there are some.
+pub fn why_unshown(library: &Library, entry: Reg, alloc: Global) -> Option<Unshown> {
+    let nodes = expand(alloc, library, entry).ok()?;
+    let lengths = lengths_of(alloc, library).ok()?;
+    let called = Called {
+        nodes: &nodes,
+        lengths: &lengths,
+        argument: library.argument(entry),
+        needs: needs_of(&nodes),
+    };
+    let reason = reason_of(&called, alloc)?;
+    let at = place_at(&nodes, Some(reason.point))?;
+    let way = places_of(&nodes, &reason.way, alloc);
+    Some(Unshown { at, reason, way })
 }

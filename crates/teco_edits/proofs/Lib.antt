@@ -1,5 +1,3 @@
 mod Files
 mod Named
-mod Steps
-pub mod Strict
 mod Tasks

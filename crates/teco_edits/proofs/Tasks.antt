@@ -2,18 +2,15 @@
 use Rattle.std.proofs.Common.{◌≡◌, sym, subst, inl, inr, Option, List, [], Result, Ok, Err, IsErr, ℕ}
 use Rattle.std.specs.Prelude.{IfOk}
 use Rattle.std.proofs.KnownBytes.{Appends-nil}
+use Rattle.teco_applied.specs.Tasks.{IsAccepted, Prints}
+use Rattle.teco_applied.specs.declared.applying.Job.{Job}
+use Rattle.teco_applied.specs.declared.applying.Task.{Task}
 use Rattle.teco_edits.specs.Files.{EditsIfAny, EditsNone, EditsSubject}
-use Rattle.teco_edits.specs.Tasks.{IsAccepted, Prints, Refuses}
-use Rattle.teco_edits.specs.declared.applying.Job.{Job}
-use Rattle.teco_edits.specs.declared.applying.Task.{Task}
 use Rattle.teco_edits.specs.declared.editing.InPlace.{InPlace}
 use Rattle.teco_library.specs.Library.{LibraryFile}
 use Rattle.teco_tools.specs.declared.fault.ToolFault.{ToolFault}
-use Rattle.teco_verdicts.specs.Answers as answers
 use Rattle.teco_verdicts.specs.declared.outcome.Outcome.{Outcome}
 use Rattle.teco_verdicts.specs.declared.outcome.Outcome.TheVariants.{Refused}
-use Rattle.teco_verify.specs.declared.refusal.Refusal.{Refusal}
-use Rattle.teco_verify.specs.declared.refusal.Refusal.TheVariants.{No, Memory}
 
 -- the edits of a job are those of its task
 pub subject_edits : (given : InPlace) (task : Task) (library : LibraryFile) (job : Job) (old new : Option (List ℕ))
@@ -38,11 +35,3 @@ pub failed : (old new : Option (List ℕ)) (result : Result Outcome ToolFault) �
     → EditsNone old new result
 failed old new (Ok outcome) is_err = absurd (cc)
 failed old new (Err fault) is_err = tt
-
--- a refusal is written with its line
-pub refuses : {E : Type 0} (old new : Option (List ℕ)) (refusal : Refusal) (result : Result Outcome E)
-    → IfOk result (λ outcome. outcome ≡ Refused) → answers.Refuses old new refusal result → Refuses old new result
-refuses old new (No reason register place) (Ok outcome) is line = (is, (No reason register place, line))
-refuses old new Memory (Ok outcome) is (is_err, keeps) = absurd (cc)
-refuses old new (No reason register place) (Err fault) is line = tt
-refuses old new Memory (Err fault) is line = tt

@@ -3,13 +3,13 @@ use Rattle.std.specs.Prelude.{ℕ, ◌≡◌, ◌≢◌, ◌<◌, ◌+◌, ◌-�
 use Rattle.std.specs.Prelude.{false, not, ◌&&◌, nat_lt, if◌then◌else◌, Option, Some, None, Result, Ok, Err}
 use Rattle.std.specs.Io.KnownBytes.{Appends}
 use Rattle.std.specs.List.{Contains}
+use Rattle.teco_applied.specs.Edits.{RewritesBy, call_of}
+use Rattle.teco_applied.specs.Tasks.{IsAccepted, Prints}
+use Rattle.teco_applied.specs.declared.applying.Job.{Job}
+use Rattle.teco_applied.specs.declared.applying.Task.{Task}
 use Rattle.teco_apply.specs.declared.editing.TheConstants.{NAME}
 use Rattle.teco_base.specs.declared.bytes.TheConstants.{ESC, LF}
-use Rattle.teco_edits.specs.Edits.{RewritesBy, call_of}
-use Rattle.teco_edits.specs.Tasks.{IsAccepted, Prints}
 use Rattle.teco_edits.specs.Typed.{are_named, named_lines, without_code}
-use Rattle.teco_edits.specs.declared.applying.Job.{Job}
-use Rattle.teco_edits.specs.declared.applying.Task.{Task}
 use Rattle.teco_edits.specs.declared.choosing.Chosen.{Chosen}
 use Rattle.teco_edits.specs.declared.diff.Look.{Look}
 use Rattle.teco_edits.specs.declared.editing.Change.{Change}

@@ -10,17 +10,19 @@ ghost use Rattle.teco_edits.specs.Files.{tally_with};
 ghost use Rattle.teco_pages.specs.HostFiles.{Notes};
 ghost use Rattle.teco_verdicts.specs.declared.outcome.Outcome.TheVariants.{Refused};
 
-use crate::applying::{Job, OneWork, Replaced, Task, rewrite_by};
 use crate::backups::taken_backup;
 use crate::choosing::Chosen;
 use crate::diff::{Look, write_diff};
 use crate::folders::Folders;
 use crate::preview::{Texts, has_nul, new_text, read_whole};
 use crate::progress::{Place, Progress};
-use crate::subject::{Subject, read_subject, refuse_empty, refuse_subject, say_findings};
 use crate::typed::{Naming, named_lines, without_code};
 use std::alloc::{AllocError, Global};
 use std::io::{Input, Write};
+use teco_applied::{
+    Job, OneWork, Replaced, Subject, Task, read_subject, refuse_empty, refuse_subject, rewrite_by,
+    say_findings,
+};
 use teco_apply::{Drops, Ending, NAME, Pages, Replaces};
 use teco_base::bytes::{ESC, LF};
 use teco_pages::{Backup, Closed, Closing, FileHost, Handling, Host, ProcessFacts, System};

@@ -3,11 +3,10 @@ ghost use Rattle.std.specs.Prelude.{◌≡◌, ◌<◌, [], length};
 ghost use Rattle.teco_apply.specs.declared.editing.TheConstants.{NAME};
 ghost use Rattle.teco_pages.specs.HostFiles.{Notes};
 
-use crate::applying::{Job, Work, edit_by};
 use crate::diff::is_binary;
-use crate::names::Names;
 use std::alloc::{AllocError, Global};
 use std::io;
+use teco_applied::{Job, Names, Work, edit_by};
 use teco_pages::{Failed, FileHost, Host, System};
 use teco_tools::{OUTPUT, Streams, ToolFault};
 use teco_verdicts::{Outcome, Voice};

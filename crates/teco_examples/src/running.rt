@@ -1,9 +1,9 @@
 //! Runs of macros on texts in memory.
 use crate::example::Example;
 use std::alloc::{AllocError, Global};
+use teco_applied::{Names, call, open_pages};
 use teco_apply::Pages;
 use teco_base::{Code, Reg};
-use teco_edits::{Names, call, open_pages};
 use teco_library::Library;
 use teco_model::Needs;
 use teco_pages::MemHost;

@@ -5,8 +5,8 @@ use Rattle.teco_verifier.specs.declared.refusal.Refusal.{Refusal}
 use Rattle.teco_verifier.specs.facts.Attempt.{◌>>=◌}
 use Rattle.teco_verifier.specs.facts.Facts.{Facts, Position, Pushed, join_of, without_arguments}
 use Rattle.teco_verifier.specs.facts.Joins.{hulls, joined, joined_lengths, joined_position, joined_pushes, none_pending}
-use Rattle.teco_known.specs.declared.fault.Fault.{Fault}
-use Rattle.teco_known.specs.declared.fault.Fault.TheVariants as fault
+use Rattle.teco_facts.specs.declared.fault.Fault.{Fault}
+use Rattle.teco_facts.specs.declared.fault.Fault.TheVariants as fault
 use Rattle.teco_facts.specs.Does.{Gives, Leaves}
 use Rattle.teco_facts.specs.Joined.{joined_but_registers, with_registers_joined}
 use Rattle.teco_facts.proofs.Joins.{ok_of}

@@ -1,8 +1,8 @@
 -- What is known where two ways meet, but of the registers, and then of those.
 use Rattle.std.specs.Borrow.{Bor}
 use Rattle.std.specs.Prelude.{◌≡◌, ◌≤◌, ℕ, List, length, take, ◌++◌, Result, Ok, Err}
-use Rattle.teco_known.specs.declared.fault.Fault.{Fault}
-use Rattle.teco_known.specs.declared.fault.Fault.TheVariants as fault
+use Rattle.teco_facts.specs.declared.fault.Fault.{Fault}
+use Rattle.teco_facts.specs.declared.fault.Fault.TheVariants as fault
 use Rattle.teco_verifier.specs.declared.refusal.Refusal.{Refusal}
 use Rattle.teco_verifier.specs.facts.Attempt.{◌>>=◌}
 use Rattle.teco_verifier.specs.facts.Facts.{Facts, Pushed, join_of, without_arguments}

@@ -1,7 +1,7 @@
 -- Where one more iteration may be open.
 use Rattle.std.specs.Prelude.{◌<◌, List, [], ◌∷◌, length, Option, Some, None}
 use Rattle.teco_verifier.specs.facts.Facts.{Iteration, Facts}
-use Rattle.teco_known.specs.declared.few.TheConstants.{DEPTH}
+use Rattle.teco_facts.specs.declared.few.TheConstants.{DEPTH}
 
 pub record HasRoom (facts : Facts) : Type 0 where
   pub falls : length facts.position.falls < DEPTH

@@ -5,13 +5,12 @@ ghost use Rattle.teco_verifier.specs.facts.Bodies as bodies;
 ghost use Rattle.teco_verifier.specs.facts.Shifts as shifts;
 ghost use Rattle.teco_verifier.specs.table.Closed as closed;
 
-use crate::Facts;
 use crate::covering::covers_pairs;
 use crate::registers::Registers;
+use crate::{Facts, Margins, Position, Range, each_covers, falls_at_start, replace_where, sum_of};
 use std::alloc::AllocError;
 use std::marker::Model;
 use teco_base::REGISTERS;
-use teco_known::{Margins, Position, Range, each_covers, falls_at_start, replace_where, sum_of};
 use teco_poly::Poly;
 use teco_verifier::Refusal;
 

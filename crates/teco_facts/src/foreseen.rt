@@ -1,11 +1,10 @@
 //! What a command leaves and answers.
 ghost use Rattle.std.specs.Prelude.{◌≡◌};
 ghost use Rattle.teco_verifier.specs.facts.Shifts as shifts;
-ghost use Rattle.teco_known.specs.Numbers.{AreSmall};
+ghost use Rattle.teco_facts.specs.Numbers.{AreSmall};
 
-use crate::Facts;
+use crate::{Facts, Number, Range, Shift};
 use std::marker::Model;
-use teco_known::{Number, Range, Shift};
 use teco_verifier::Refusal;
 
 /// What a command leaves and answers, as far as it is known.

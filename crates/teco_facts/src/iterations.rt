@@ -3,12 +3,11 @@ ghost use Rattle.std.specs.Prelude.{◌≡◌, ◌<◌, drop, length, IsTrue};
 ghost use Rattle.teco_verifier.specs.facts.Facts as rules;
 ghost use Rattle.teco_verifier.specs.facts.Flows as flows;
 ghost use Rattle.teco_verifier.specs.table.Closed as closed;
-ghost use Rattle.teco_known.specs.Numbers.{AreSmall};
+ghost use Rattle.teco_facts.specs.Numbers.{AreSmall};
 ghost use Rattle.teco_facts.specs.Room.{HasRoom};
-ghost use Rattle.teco_known.specs.declared.few.TheConstants.{DEPTH};
+ghost use Rattle.teco_facts.specs.declared.few.TheConstants.{DEPTH};
 
-use crate::{Facts, Iteration};
-use teco_known::{DEPTH, Fall};
+use crate::{DEPTH, Facts, Fall, Iteration};
 
 impl Facts {
     /// The facts where so many iterations are left, with all arguments.

@@ -5,11 +5,10 @@ ghost use Rattle.teco_facts.specs.Does.{Gives, Leaves};
 ghost use Rattle.teco_facts.specs.Joined.{JoinsPairs, joined_but_registers, with_registers_joined};
 
 use crate::registers::Registers;
-use crate::{Facts, Pushed};
+use crate::{Facts, Fault, Meets, Pushed, join_of, meet_each};
 use std::alloc::{AllocError, Global};
 use std::rc::Rc;
 use teco_base::REGISTERS;
-use teco_known::{Fault, Meets, join_of, meet_each};
 use teco_poly::Poly;
 use teco_stack::{Chain, Stack};
 use teco_verifier::Refusal;

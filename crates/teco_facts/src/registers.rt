@@ -2,11 +2,10 @@
 ghost use Rattle.std.specs.Prelude.{◌≡◌, OnOk, length};
 ghost use Rattle.teco_base.specs.declared.TheConstants.{REGISTERS};
 
-use crate::Facts;
+use crate::{Facts, Range};
 use std::alloc::AllocError;
 use std::rc::Rc;
 use teco_base::REGISTERS;
-use teco_known::Range;
 use teco_poly::Poly;
 
 /// The range of each number, and how long each text is at most.

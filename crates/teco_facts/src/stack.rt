@@ -5,11 +5,10 @@ ghost use Rattle.teco_facts.specs.Does.{Gives, Pops};
 ghost use Rattle.teco_verifier.specs.facts.Facts as rules;
 ghost use Rattle.teco_verifier.specs.facts.Storages as storages;
 
-use crate::{Facts, Pushed};
+use crate::{Facts, Fault, Pushed};
 use std::alloc::AllocError;
 use std::mem;
 use teco_base::Reg;
-use teco_known::Fault;
 use teco_stack::Stack;
 use teco_verifier::Refusal;
 

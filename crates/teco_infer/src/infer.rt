@@ -1,91 +1,99 @@
 // From a macro to claims.
-ghost use Rattle.std.specs.Prelude.{IfOk};
-ghost use Rattle.teco_paths.specs.Sure.{IsCertain};
-
-use crate::fault::{Refusal, Stop};
-use crate::keys::Flag;
-use crate::measures::{NUMBER, family_of, place_of, spoken_of, used_of};
 use crate::promises::all_promises;
-use crate::search::Search;
+use crate::reason::{Reason, reason_for};
+use crate::written::claims_of;
 use std::alloc::Global;
 use teco_base::LIMIT;
+use teco_bounds::cuts::{Cuts, first_cuts, kind_at};
+use teco_bounds::fault::{Refusal, Stop};
+use teco_bounds::keys::Flag;
+use teco_bounds::measures::{NUMBER, family_of, place_of, spoken_of, used_of};
+use teco_bounds::pushes::check_pushes;
+use teco_bounds::search::Search;
 use teco_claims::Claims;
 use teco_expansion::Nodes;
-use teco_model::kind::{Argument, Command, Flow, Storage};
+use teco_model::kind::{Argument, Command, Query, Storage};
 use teco_model::{Kind, Operator};
-use teco_paths::claimed::{Called, check_claimed};
+use teco_paths::claimed::Called;
 use teco_paths::course::Course;
 use teco_paths::fault::PathFault;
 
-// How many steps the search may take.
+// What the search may take in a way: steps of paths, and rows that programs go through.
 const FUEL: usize = 80_000;
+
+const WORK: usize = 6_000_000;
 
 // A way to search.
 #[derive(Clone, Copy)]
 struct Way {
     // How many cases a node may have before it becomes a cut point.
     most_cases: usize,
-    // Whether paths are cut at the end of each body, so that they go through its first turn, and not
-    // at its start.
-    is_late: bool,
-    // Whether numbers are taken to be tame, and no more is taken of constraints than multipliers show.
+    cuts: Cuts,
+    // Whether numbers are taken to be tame.
     is_tame: bool,
+    // Whether no more is taken of constraints than multipliers show.
+    is_exact: bool,
+    // Whether steep bounds are taken, for which other ways often find better ones.
+    is_last: bool,
 }
 
 // The ways, one after the other.
 const WAYS: [Way; ATTEMPTS] = [
     Way {
         most_cases: 26,
-        is_late: false,
+        cuts: Cuts::Starts,
         is_tame: false,
+        is_exact: false,
+        is_last: false,
     },
     Way {
         most_cases: 26,
-        is_late: true,
+        cuts: Cuts::Ends,
         is_tame: false,
+        is_exact: false,
+        is_last: false,
     },
     Way {
         most_cases: 26,
-        is_late: false,
+        cuts: Cuts::Starts,
         is_tame: true,
+        is_exact: true,
+        is_last: false,
+    },
+    Way {
+        most_cases: 26,
+        cuts: Cuts::Answers,
+        is_tame: false,
+        is_exact: true,
+        is_last: false,
     },
     Way {
         most_cases: 10,
-        is_late: false,
+        cuts: Cuts::Starts,
         is_tame: false,
+        is_exact: false,
+        is_last: false,
+    },
+    Way {
+        most_cases: 26,
+        cuts: Cuts::Starts,
+        is_tame: false,
+        is_exact: false,
+        is_last: true,
     },
 ];
+
+// The most registers that tell cut points apart.
+const MOST_FLAGS: usize = 4;
 
 // How often facts are narrowed.
 const NARROWINGS: usize = 2;
 
+// A bound is steep where it passes 64 bits at this N: from the fifth power on.
+const STEEP_AT: u64 = 1 << 13;
+
 // How often it may begin again.
 const TRIES: usize = 40;
-
-// The node at which the body of a kind of element is cut, if it begins there, or if it ends there.
-fn cut_by(kind: Kind, number: usize, is_late: bool) -> Option<usize> {
-    match kind {
-        Kind::Flow(Flow::Iterate) if !is_late => number.checked_add(1),
-        Kind::Flow(Flow::EndTurn) if is_late => Some(number),
-        _ => None,
-    }
-}
-
-// Where paths are cut: at the start of each body, or at its end.
-fn first_cuts(nodes: &Nodes<'_>, is_late: bool, alloc: Global) -> Result<Vec<bool>, Stop> {
-    let mut is_cut = Vec::from_elem(alloc, false, nodes.len().saturating_add(2))?;
-    for at in 0..nodes.len() {
-        let Some(element) = nodes.element(at + 1) else {
-            continue;
-        };
-        if let Some(number) = cut_by(element.kind, at + 1, is_late) {
-            if let Some(mark) = is_cut.get_mut(number) {
-                *mark = true;
-            }
-        }
-    }
-    Ok(is_cut)
-}
 
 // The number that digits are, if it is small.
 fn number_of(digits: &[u8]) -> Option<i64> {
@@ -179,11 +187,57 @@ fn set_at(nodes: &Nodes<'_>, number: usize) -> Option<u32> {
     }
 }
 
-// The registers that are set to several numbers, or to one below 0.
+// The place of the number that an element asks for.
+fn asked_at(nodes: &Nodes<'_>, number: usize) -> Option<u32> {
+    match kind_at(nodes, number) {
+        Some(Kind::Query(query)) => match query {
+            Query::Number(register) => Some(place_of(NUMBER, register)),
+            _ => None,
+        },
+        _ => None,
+    }
+}
+
+// Whether an element divides.
+fn is_over(nodes: &Nodes<'_>, number: usize) -> bool {
+    matches!(
+        kind_at(nodes, number),
+        Some(Kind::Argument(Argument::Operate(Operator::Over)))
+    )
+}
+
+// Whether an element sets the number in this place to a part of itself, as `QN/8UN` does.
+fn is_divided(nodes: &Nodes<'_>, number: usize, place: u32) -> bool {
+    digits_at(nodes, number.saturating_sub(1)).is_some()
+        && is_over(nodes, number.saturating_sub(2))
+        && asked_at(nodes, number.saturating_sub(3)) == Some(place)
+}
+
+// Adds the registers that are set to parts of themselves.
+fn add_quotients(flags: &mut Vec<Flag>, nodes: &Nodes<'_>, alloc: Global) -> Result<(), Stop> {
+    for number in 1..nodes.len().saturating_add(1) {
+        let Some(place) = set_at(nodes, number) else {
+            continue;
+        };
+        let is_known = flags.iter().any(|flag| flag.place == place);
+        if !is_known && flags.len() < MOST_FLAGS && is_divided(nodes, number, place) {
+            flags.push(Flag {
+                place,
+                numbers: Vec::new(alloc),
+            })?;
+        }
+    }
+    Ok(())
+}
+
+// The registers that are set to several numbers, or to one below 0, or to parts of themselves.
 fn flags_of(nodes: &Nodes<'_>, alloc: Global) -> Result<Vec<Flag>, Stop> {
     let mut flags: Vec<Flag> = Vec::new(alloc);
     for at in 1..nodes.len() {
         if let (Some(place), Some(number)) = (set_at(nodes, at + 1), digits_at(nodes, at)) {
+            if is_divided(nodes, at + 1, place) {
+                continue;
+            }
             let is_below = is_minus(nodes, at.saturating_sub(1));
             let number = if is_below {
                 number.saturating_neg()
@@ -196,34 +250,45 @@ fn flags_of(nodes: &Nodes<'_>, alloc: Global) -> Result<Vec<Flag>, Stop> {
     let mut left = Vec::new(alloc);
     for flag in flags {
         let is_flag = flag.numbers.len() > 1 || flag.numbers.iter().any(|number| *number < 0);
-        if is_flag && left.len() < 4 {
+        if is_flag && left.len() < MOST_FLAGS {
             left.push(flag)?;
         }
     }
+    add_quotients(&mut left, nodes, alloc)?;
     Ok(left)
 }
 
-// A try with the cut points so far.
-fn try_once(search: &mut Search<'_>, narrows: bool) -> Result<Claims, Stop> {
-    let mut keys = search.settled()?;
-    let mut is_due = narrows;
+// A try with the cut points so far; where it stops for good, it notes why.
+fn try_once(
+    search: &mut Search<'_>,
+    narrows: bool,
+    reason: &mut Option<Reason>,
+) -> Result<Claims, Stop> {
+    let (mut keys, is_widened) = search.settled()?;
+    let mut is_due = narrows && is_widened;
     for _ in 0..NARROWINGS {
         if is_due {
             (keys, is_due) = search.narrowed(keys)?;
         }
     }
     let web = search.web(&keys)?;
-    let promises = all_promises(&web, &keys, &search.tame, search.alloc)?;
-    search.claims(&keys, &promises)
+    match all_promises(&web, &keys, &search.tame, &mut search.work, search.alloc) {
+        Ok(promises) => claims_of(search, &keys, &promises),
+        Err(stop) => {
+            *reason = reason_for(search, &web, &keys, stop)?;
+            Err(stop)
+        }
+    }
 }
 
 // Tries, with a cut point more where one is asked for.
-fn tried(search: &mut Search<'_>) -> Result<Claims, Refusal> {
+fn tried(search: &mut Search<'_>, reason: &mut Option<Reason>) -> Result<Claims, Refusal> {
     let mut narrows = true;
     for _ in 0..TRIES {
-        match try_once(search, narrows) {
+        match try_once(search, narrows, reason) {
             Ok(claims) => return Ok(claims),
             Err(Stop::Refused(refusal)) => return Err(refusal),
+            Err(Stop::Endless { number, .. }) => return Err(Refusal::Steps(number)),
             Err(Stop::CutAt(number)) => {
                 if let Some(mark) = search.is_cut.get_mut(number) {
                     *mark = true;
@@ -253,10 +318,20 @@ fn tame_of(spoken: &[bool], is_tame: bool, alloc: Global) -> Result<Vec<u32>, St
     Ok(tame)
 }
 
-// The search for claims of a macro, in a way.
-fn searched(called: &Called<'_>, way: Way, alloc: Global) -> Result<Claims, Stop> {
+// The search for claims of a macro, in a way, which tells why it stopped where that can be told. All
+// but the first and the last way may take half as much.
+fn searched(
+    called: &Called<'_>,
+    way: Way,
+    is_whole: bool,
+    reason: &mut Option<Reason>,
+    alloc: Global,
+) -> Result<Claims, Stop> {
+    check_pushes(called.nodes, alloc)?;
     let spoken = spoken_of(called.nodes, alloc)?;
     let used = used_of(&spoken, alloc)?;
+    let flags = flags_of(called.nodes, alloc)?;
+    let has_quotients = flags.iter().any(|flag| flag.numbers.is_empty());
     let mut search = Search {
         course: Course {
             nodes: called.nodes,
@@ -268,89 +343,63 @@ fn searched(called: &Called<'_>, way: Way, alloc: Global) -> Result<Claims, Stop
             size: &[],
         },
         argument: called.argument,
-        is_cut: first_cuts(called.nodes, way.is_late, alloc)?,
-        flags: flags_of(called.nodes, alloc)?,
+        is_cut: first_cuts(called.nodes, way.cuts, alloc)?,
+        flags,
         numbers: numbers_of(called.nodes, alloc)?,
         tame: tame_of(&spoken, way.is_tame, alloc)?,
-        is_exact: way.is_tame,
+        is_exact: way.is_exact || has_quotients,
         spoken,
         most_cases: way.most_cases,
-        fuel: FUEL,
+        fuel: if is_whole { FUEL } else { FUEL / 2 },
+        work: if is_whole { WORK } else { WORK / 2 },
         alloc,
     };
-    Ok(tried(&mut search)?)
+    Ok(tried(&mut search, reason)?)
 }
 
-// The claims that are found in a try.
-fn found(called: &Called<'_>, way: Way, alloc: Global) -> Result<Claims, Refusal> {
-    match searched(called, way, alloc) {
-        Ok(claims) => Ok(claims),
+/// How many ways there are to look for claims.
+pub const ATTEMPTS: usize = 6;
+
+/// Looks for claims of a macro in one of several ways, the quickest first: how many commands it takes,
+/// how much it holds, and what holds at its cut points. The same macro has the same claims each time.
+/// They are not checked here.
+pub fn infer_by(called: &Called<'_>, attempt: usize, alloc: Global) -> Result<Claims, Refusal> {
+    let Some(way) = WAYS.get(attempt) else {
+        return Err(Refusal::TooMuch);
+    };
+    let is_whole = attempt == 0 || way.is_last;
+    match searched(called, *way, is_whole, &mut None, alloc) {
+        Ok(claims) => {
+            let is_steep = claims.commands.at(STEEP_AT).is_none();
+            if is_steep && !way.is_last {
+                return Err(Refusal::NotAccepted(PathFault::TooLong));
+            }
+            Ok(claims)
+        }
         Err(Stop::Refused(refusal)) => Err(refusal),
         Err(_) => Err(Refusal::TooMuch),
     }
 }
 
-// Those that are accepted.
-fn found_and_checked(called: &Called<'_>, way: Way, alloc: Global) -> Result<Claims, Refusal>
-    ensures { IfOk result (λ claims. IsCertain called.now.nodes.now called.now.lengths.now called.now.argument
-        called.now.needs claims.commands claims.size) }
-{
-    let claims = found(called, way, alloc)?;
-    match check_claimed(called, &claims, alloc) {
-        Ok(()) => Ok(claims),
-        Err(PathFault::Memory) => Err(Refusal::Memory),
-        Err(fault) => Err(Refusal::NotAccepted(fault)),
+/// Why no claims of a macro are found in the quickest way, as far as that can be told.
+pub fn reason_of(called: &Called<'_>, alloc: Global) -> Option<Reason> {
+    let mut reason = None;
+    match searched(called, WAYS[0], true, &mut reason, alloc) {
+        Ok(_) => None,
+        Err(_) => reason,
     }
 }
 
-// Whether another try may find what this one did not.
-fn may_differ(refusal: Refusal) -> bool {
-    !matches!(
-        refusal,
-        Refusal::NotTold(_) | Refusal::NotOpen(_) | Refusal::TooMuch | Refusal::Memory
-    )
-}
-
-/// Looks for claims of a macro: how many commands it takes, how much it holds, and what holds at its
-/// cut points. The same macro has the same claims each time. They are not checked here.
-pub fn infer_claims(called: &Called<'_>, alloc: Global) -> Result<Claims, Refusal> {
-    found(called, WAYS[0], alloc)
-}
-
-/// Looks for claims of a macro, and answers those that are accepted by `check_claimed`. A refusal is
-/// that of the first try.
-pub fn infer_checked(called: &Called<'_>, alloc: Global) -> Result<Claims, Refusal>
-    ensures { IfOk result (λ claims. IsCertain called.now.nodes.now called.now.lengths.now called.now.argument
-        called.now.needs claims.commands claims.size) }
-{
-    let mut first = None;
-    for way in WAYS {
-        match found_and_checked(called, way, alloc) {
-            Ok(claims) => return Ok(claims),
-            Err(refusal) => {
-                if !may_differ(refusal) {
-                    return Err(first.unwrap_or(refusal));
-                }
-                first = first.or(Some(refusal));
-            }
-        }
+/// Whether the next way is worth its time behind this refusal, where the first way had another: the
+/// last way is for macros of which the first finds steep bounds.
+pub fn is_worth_another(first: Refusal, refusal: Refusal, next: usize) -> bool {
+    if first == Refusal::NotAccepted(PathFault::TooLong) {
+        return true;
     }
-    Err(first.unwrap_or(Refusal::TooMuch))
-}
-
-/// How many ways there are to look for claims.
-pub const ATTEMPTS: usize = 4;
-
-/// Looks for claims of a macro as `infer_claims` does, in one of several ways, the quickest first. They
-/// are not checked here.
-pub fn infer_by(called: &Called<'_>, attempt: usize, alloc: Global) -> Result<Claims, Refusal> {
-    match WAYS.get(attempt) {
-        Some(way) => found(called, *way, alloc),
-        None => Err(Refusal::TooMuch),
-    }
-}
-
-/// Whether another way may find what this one did not.
-pub fn is_worth_another(refusal: Refusal) -> bool {
-    may_differ(refusal)
+    let is_over = next.saturating_add(1) >= ATTEMPTS;
+    !is_over
+        && !matches!(
+            refusal,
+            Refusal::NotTold(_) | Refusal::NotOpen(_) | Refusal::TooMuch | Refusal::Memory
+        )
 }

@@ -1,11 +1,12 @@
 // Invariants that show conditions which bounds do not.
-use crate::fault::{Refusal, Stop};
-use crate::legs::Web;
 use crate::potentials::{Known, Sought, lowest};
-use crate::programs::{Entry, add_form};
-use crate::record::Open;
 use std::alloc::Global;
+use teco_bounds::fault::{Refusal, Stop};
+use teco_bounds::legs::Web;
+use teco_bounds::programs::{Entry, add_form};
+use teco_bounds::record::Open;
 use teco_linear::Form;
+use teco_simplex::Values;
 
 // The most pivots of a program.
 const PIVOTS: usize = 2000;
@@ -16,8 +17,9 @@ fn is_same(one: &Open, other: &Open, alloc: Global) -> Result<bool, Stop> {
     Ok(is_alike && one.wanted.sub(&other.wanted, alloc)?.terms().is_empty())
 }
 
-// That what is claimed is so where paths lead to.
-fn add_legs(sought: &mut Sought<'_>) -> Result<(), Stop> {
+// That what is claimed is so where paths lead to. By what is claimed where they begin that is shown for
+// those in a span of nodes alone, if there is one.
+fn add_legs(sought: &mut Sought<'_>, span: Option<(usize, usize)>) -> Result<(), Stop> {
     let web = sought.web;
     let alloc = sought.draft.alloc;
     for leg in &web.legs {
@@ -28,7 +30,9 @@ fn add_legs(sought: &mut Sought<'_>) -> Result<(), Stop> {
         sought
             .unknowns
             .add(&mut entries, target, &leg.forms, 1, alloc)?;
-        add_source(sought, &mut entries, leg.source)?;
+        if span.is_none_or(|span| web.is_within(leg, span)) {
+            add_source(sought, &mut entries, leg.source)?;
+        }
         sought.imply(leg.source, &leg.constraints, entries)?;
     }
     Ok(())
@@ -47,27 +51,75 @@ fn add_source(sought: &Sought<'_>, entries: &mut Vec<Entry>, source: usize) -> R
     }
 }
 
-// What is claimed at each key to show a condition, if that is found.
-fn invariant<'a>(
-    web: &'a Web,
-    known: &'a Known,
+// What values claim at each key.
+fn claims_of(sought: &Sought<'_>, values: &Values) -> Result<Vec<Form>, Stop> {
+    let alloc = sought.draft.alloc;
+    let mut claims = Vec::new(alloc);
+    for key in 0..sought.web.starts.len() {
+        claims.push(lowest(&sought.unknowns.form(key, values, alloc)?, alloc)?)?;
+    }
+    Ok(claims)
+}
+
+// What is claimed at each key to show a condition, if that is found, and the work that is spent on it.
+fn tried(
+    web: &Web,
+    known: &Known,
     open: &Open,
+    span: Option<(usize, usize)>,
     alloc: Global,
-) -> Result<Option<Vec<Form>>, Stop> {
+) -> Result<(Option<Vec<Form>>, usize), Stop> {
     let mut sought = Sought::of_measures(web, known, alloc)?;
-    add_legs(&mut sought)?;
+    add_legs(&mut sought, span)?;
     let mut entries = Vec::new(alloc);
     add_source(&sought, &mut entries, open.source)?;
     add_form(&mut entries, &open.wanted, 0, None, 1)?;
     sought.imply(open.source, &open.constraints, entries)?;
-    let Some(values) = sought.solved(PIVOTS)? else {
-        return Ok(None);
-    };
-    let mut claims = Vec::new(alloc);
-    for key in 0..web.starts.len() {
-        claims.push(lowest(&sought.unknowns.form(key, &values, alloc)?, alloc)?)?;
+    sought.settle()?;
+    let work = sought.draft.work(PIVOTS);
+    if work > known.work {
+        return Ok((None, work));
     }
-    Ok(Some(claims))
+    match sought.draft.solved(PIVOTS)? {
+        Some(values) => Ok((Some(claims_of(&sought, &values)?), work)),
+        None => Ok((None, work)),
+    }
+}
+
+// What is claimed at each key to show a condition, if that is found.
+fn invariant(
+    web: &Web,
+    known: &mut Known,
+    open: &Open,
+    span: Option<(usize, usize)>,
+    alloc: Global,
+) -> Result<Option<Vec<Form>>, Stop> {
+    let (found, work) = tried(web, known, open, span, alloc)?;
+    known.spend(work)?;
+    Ok(found)
+}
+
+// What is claimed to show a condition: at all keys, or in one of the iterations round it.
+fn any_invariant(
+    web: &Web,
+    known: &mut Known,
+    open: &Open,
+    alloc: Global,
+) -> Result<Option<Vec<Form>>, Stop> {
+    let found = invariant(web, known, open, None, alloc)?;
+    let Some(start) = web.starts.get(open.source) else {
+        return Ok(found);
+    };
+    if found.is_some() {
+        return Ok(found);
+    }
+    for span in &start.around {
+        let found = invariant(web, known, open, Some(*span), alloc)?;
+        if found.is_some() {
+            return Ok(found);
+        }
+    }
+    Ok(None)
 }
 
 // Adds to what is known what shows all open conditions.
@@ -83,7 +135,7 @@ pub fn add_invariants(web: &Web, known: &mut Known, alloc: Global) -> Result<(),
         if !is_new {
             continue;
         }
-        let Some(claims) = invariant(web, known, open, alloc)? else {
+        let Some(claims) = any_invariant(web, known, open, alloc)? else {
             return Err(Stop::Refused(Refusal::Condition(open.number)));
         };
         known.add(claims, &[], alloc)?;

@@ -2,25 +2,18 @@
 //! nothing is promised of what is not found.
 #![tactic(auto)]
 
-mod bounds;
-mod fault;
 mod infer;
 mod invariants;
-mod keys;
-mod legs;
-mod measures;
-mod numbers;
+mod levels;
+mod polynomials;
 mod potentials;
-mod programs;
 mod promises;
-mod record;
-mod reduced;
-mod rounds;
-mod search;
-mod steps;
-mod trail;
-mod units;
+mod reason;
+mod turns;
+mod wanted;
+mod worth;
 mod written;
 
-pub use fault::Refusal;
-pub use infer::{ATTEMPTS, infer_by, infer_checked, infer_claims, is_worth_another};
+pub use infer::{ATTEMPTS, infer_by, is_worth_another, reason_of};
+pub use reason::Reason;
+pub use teco_bounds::fault::Refusal;

@@ -1,14 +1,14 @@
 // Potentials: what is promised of a measure, or of the steps, by sums of measures at each key.
-use crate::fault::Stop;
-use crate::keys::{HELD, LINE_END, LINE_START, least_forms, power_of};
-use crate::legs::{Leg, Start, Web};
-use crate::measures::{TURNS, family_of};
-use crate::numbers::common;
-use crate::programs::{Draft, Entry, add_form};
-use crate::reduced::{Demand, bounded, is_large, reduced};
-use crate::rounds::at_forms;
-use crate::steps::constant;
+use crate::wanted::{Scope, Wanted};
 use std::alloc::Global;
+use teco_bounds::fault::{Refusal, Stop};
+use teco_bounds::keys::{least_forms, power_of};
+use teco_bounds::legs::{Leg, Start, Web};
+use teco_bounds::numbers::common;
+use teco_bounds::programs::{Draft, Entry, add_form};
+use teco_bounds::reduced::{Demand, Limits, bounded, reduced};
+use teco_bounds::rounds::at_forms;
+use teco_bounds::steps::constant;
 use teco_linear::{Form, Scale, Term};
 use teco_rows::applied::{copied, copied_constraints, form_at};
 use teco_simplex::{Relation, Sign, Values};
@@ -19,44 +19,6 @@ struct Unknown {
     form: Form,
     power: u32,
     variable: usize,
-}
-
-// What is promised: that the steps, or a measure, are no more than a polynomial, by coefficients of a
-// degree in N.
-#[derive(Clone, Copy)]
-pub struct Wanted {
-    // 0 are the steps.
-    pub place: u32,
-    // 1, or -1 where the measure is to be no less than the polynomial taken once less.
-    pub sign: i128,
-    pub degree: u32,
-    pub is_loose: bool,
-    pub scope: Scope,
-    // The most pivots of the program.
-    pub pivots: usize,
-    // The node whose turns alone count, if not all do.
-    pub only: Option<usize>,
-}
-
-// Of which measures there are coefficients.
-#[derive(Clone, Copy, PartialEq, Eq)]
-pub enum Scope {
-    // Of the pointer, of lengths of the buffer, and of turns.
-    Few,
-    // Of registers too.
-    More,
-    // Of all.
-    All,
-}
-
-impl Scope {
-    fn has(self, place: u32) -> bool {
-        match self {
-            Scope::Few => place <= HELD || family_of(place) == Some(TURNS),
-            Scope::More => place != LINE_END && place != LINE_START,
-            Scope::All => true,
-        }
-    }
 }
 
 // A promise: the coefficients of the polynomial and their divisor, and what is claimed at each key: a
@@ -73,12 +35,17 @@ pub struct Promise {
 // Claims with coefficients above this are not used to find others.
 const PLAIN: u128 = 100;
 
+// The most pivots of a program that is to make claims plain.
+const PLAIN_PIVOTS: usize = 200;
+
 // What is claimed at keys besides facts, and what of it is used to find more: forms over the places
 // of measures, by the key.
 #[derive(Drop)]
 pub struct Known {
     pub claims: Vec<(usize, Form)>,
     pub told: Vec<(usize, Form)>,
+    // How many rows programs may still go through.
+    pub work: usize,
 }
 
 // Whether all coefficients of a form are small.
@@ -88,6 +55,20 @@ fn is_plain(form: &Form) -> bool {
 }
 
 impl Known {
+    // Takes from the work that is left.
+    pub fn spend(&mut self, work: usize) -> Result<(), Stop> {
+        self.work = self
+            .work
+            .checked_sub(work)
+            .ok_or(Stop::Refused(Refusal::TooMuch))?;
+        Ok(())
+    }
+
+    // Whether this is claimed at a key already.
+    fn has(&self, key: usize, claim: &Form) -> bool {
+        self.claims.iter().any(|(place, known)| *place == key && known.terms() == claim.terms())
+    }
+
     // What is used at a key, where measures are given by forms.
     pub fn at(&self, key: usize, forms: &[Option<Form>], alloc: Global) -> Result<Vec<Form>, Stop> {
         let mut all = Vec::new(alloc);
@@ -103,7 +84,7 @@ impl Known {
     // used.
     pub fn add(&mut self, claims: Vec<Form>, bounds: &[Form], alloc: Global) -> Result<(), Stop> {
         for (key, claim) in claims.into_iter().enumerate() {
-            if key == 0 || claim.is_harmless() {
+            if key == 0 || claim.is_harmless() || self.has(key, &claim) {
                 continue;
             }
             if is_plain(&claim) {
@@ -156,9 +137,10 @@ fn generators(
     start: &Start,
     key: usize,
     known: &Known,
-    scope: Scope,
+    wanted: &Wanted,
     alloc: Global,
 ) -> Result<Vec<Form>, Stop> {
+    let scope = wanted.scope;
     let mut symbols: Vec<u32> = Vec::new(alloc);
     for place in &start.own {
         if scope.has(*place) {
@@ -167,7 +149,7 @@ fn generators(
     }
     let mut forms = Vec::new(alloc);
     for form in least_forms(&start.bounds.of_symbols(&symbols, alloc)?, alloc)? {
-        if !is_large(&form) {
+        if wanted.limits.take(&form) {
             forms.push(form)?;
         }
     }
@@ -221,11 +203,11 @@ impl Unknowns {
                 draft,
                 &one,
                 Sign::NonNegative,
-                degree.saturating_add(1),
+                wanted.highest.saturating_add(1),
             )?;
             if let Some(start) = web.starts.get(place) {
                 if place > 0 {
-                    for form in generators(start, place, known, wanted.scope, alloc)? {
+                    for form in generators(start, place, known, wanted, alloc)? {
                         add_unknowns(&mut unknowns, draft, &form, Sign::NonNegative, degree)?;
                     }
                 }
@@ -256,7 +238,7 @@ impl Unknowns {
 
     // The polynomial is to be least, its highest coefficient first, and then the sum of all others, so
     // that there are few; of a higher degree only the highest coefficient comes first.
-    fn minimise(&self, draft: &mut Draft, degree: u32) -> Result<(), Stop> {
+    pub fn minimise(&self, draft: &mut Draft, degree: u32) -> Result<(), Stop> {
         let Some(unknowns) = self.of.first() else {
             return Ok(());
         };
@@ -337,7 +319,7 @@ impl Unknowns {
     }
 
     // The numerators of the polynomial.
-    fn polynomial(&self, values: &Values, alloc: Global) -> Result<Vec<i128>, Stop> {
+    pub fn polynomial(&self, values: &Values, alloc: Global) -> Result<Vec<i128>, Stop> {
         let mut numerators = Vec::new(alloc);
         if let Some(unknowns) = self.of.first() {
             for unknown in unknowns {
@@ -363,6 +345,19 @@ pub fn rounded_up(numerator: i128, divisor: i128) -> i128 {
     } else {
         whole
     }
+}
+
+// A polynomial times a form.
+pub fn product(polynomial: &[u128], form: &Form, alloc: Global) -> Result<Form, Stop> {
+    let mut sum = Form::zero(alloc);
+    for (power, coefficient) in polynomial.iter().enumerate() {
+        let scale = Scale {
+            factor: i128::try_from(*coefficient).unwrap_or(i128::MAX),
+            power: u32::try_from(power).unwrap_or(0),
+        };
+        sum = sum.add(&form.scaled(&scale, alloc)?, alloc)?;
+    }
+    Ok(sum)
 }
 
 // A form divided by what divides all its coefficients.
@@ -394,7 +389,7 @@ fn is_below(form: &Form, above: &Option<Form>, leg: &Leg, alloc: Global) -> Resu
     if more.is_harmless() {
         return Ok(true);
     }
-    let (bounds, _rough) = bounded(&leg.constraints, false, alloc)?;
+    let (bounds, _rough) = bounded(&leg.constraints, Limits::None, alloc)?;
     Ok(bounds.shows(&more))
 }
 
@@ -406,6 +401,7 @@ pub struct Sought<'a> {
     pub draft: Draft,
     pub unknowns: Unknowns,
     pub degree: u32,
+    limits: Limits,
     demands: Vec<Demand>,
 }
 
@@ -420,6 +416,7 @@ impl<'a> Sought<'a> {
             draft,
             unknowns,
             degree: 1,
+            limits: Limits::None,
             demands: Vec::new(alloc),
         })
     }
@@ -440,6 +437,7 @@ impl<'a> Sought<'a> {
             draft,
             unknowns,
             degree,
+            limits: wanted.limits,
             demands: Vec::new(alloc),
         })
     }
@@ -457,7 +455,7 @@ impl<'a> Sought<'a> {
             let mut known = self.known.at(source, &start.forms, alloc)?;
             all.append(&mut known)?;
         }
-        if let Some(demand) = reduced(&entries, &all, alloc)? {
+        if let Some(demand) = reduced(&entries, &all, self.limits, alloc)? {
             self.demand(demand)?;
         }
         Ok(())
@@ -473,8 +471,8 @@ impl<'a> Sought<'a> {
         Ok(())
     }
 
-    // The values of the unknowns, if they are found.
-    pub fn solved(&mut self, pivots: usize) -> Result<Option<Values>, Stop> {
+    // Makes the program of all demands.
+    pub fn settle(&mut self) -> Result<(), Stop> {
         let demands = std::mem::replace(&mut self.demands, Vec::new(self.draft.alloc));
         for demand in demands {
             let Demand {
@@ -483,7 +481,7 @@ impl<'a> Sought<'a> {
             } = demand;
             self.draft.imply(entries, &constraints, self.degree)?;
         }
-        self.draft.solved(pivots)
+        Ok(())
     }
 
     // The sum where measures are given by forms, and the measure itself, if one is promised.
@@ -637,7 +635,7 @@ impl<'a> Sought<'a> {
         wanted: &Wanted,
     ) -> Result<Option<Promise>, Stop> {
         self.unknowns.round(&mut self.draft, values)?;
-        if let Some(values) = self.draft.solved(wanted.pivots)? {
+        if let Some(values) = self.draft.solved(wanted.pivots.min(PLAIN_PIVOTS))? {
             let other = self.promise(&values, wanted)?;
             if other.claims.iter().all(is_plain) {
                 return Ok(Some(other));
@@ -672,17 +670,17 @@ impl<'a> Sought<'a> {
     }
 }
 
-// A promise of what is wanted, if one is found.
-pub fn promised<'a>(
+// The program of what is wanted.
+fn sought_of<'a>(
     web: &'a Web,
     known: &'a Known,
     wanted: &Wanted,
     alloc: Global,
-) -> Result<Option<Promise>, Stop> {
+) -> Result<Sought<'a>, Stop> {
     let mut sought = Sought::of_facts(web, known, wanted, alloc)?;
     let mut is_done = Vec::from_elem(alloc, false, web.record.peaks.len())?;
-    for leg in &web.legs {
-        if wanted.only.is_some_and(|number| !web.is_round(leg, number)) {
+    for (at, leg) in web.legs.iter().enumerate() {
+        if wanted.only.is_some_and(|only| !only.has(web, at, leg)) {
             continue;
         }
         sought.add_leg(leg, wanted)?;
@@ -696,7 +694,13 @@ pub fn promised<'a>(
     program
         .unknowns
         .minimise(&mut program.draft, wanted.degree)?;
-    let Some(values) = sought.solved(wanted.pivots)? else {
+    sought.settle()?;
+    Ok(sought)
+}
+
+// What a program promises, if its values are found.
+fn solved(sought: &mut Sought<'_>, wanted: &Wanted) -> Result<Option<Promise>, Stop> {
+    let Some(values) = sought.draft.solved(wanted.pivots)? else {
         return Ok(None);
     };
     let promise = sought.promise(&values, wanted)?;
@@ -704,4 +708,35 @@ pub fn promised<'a>(
         return Ok(Some(promise));
     }
     sought.plainer(&values, promise, wanted)
+}
+
+// A promise of what is wanted, if one is found, and the work that is spent on it.
+fn tried(
+    web: &Web,
+    known: &Known,
+    wanted: &Wanted,
+    alloc: Global,
+) -> Result<(Option<Promise>, usize), Stop> {
+    let mut sought = sought_of(web, known, wanted, alloc)?;
+    if sought.draft.rows() > wanted.rows {
+        return Ok((None, 0));
+    }
+    let work = sought.draft.work(wanted.pivots);
+    if work > known.work {
+        return Ok((None, work));
+    }
+    let promise = solved(&mut sought, wanted)?;
+    Ok((promise, work))
+}
+
+// A promise of what is wanted, if one is found.
+pub fn promised(
+    web: &Web,
+    known: &mut Known,
+    wanted: &Wanted,
+    alloc: Global,
+) -> Result<Option<Promise>, Stop> {
+    let (promise, work) = tried(web, known, wanted, alloc)?;
+    known.spend(work)?;
+    Ok(promise)
 }

@@ -1,13 +1,17 @@
 // What is promised of a macro: how much it holds, and how many commands it takes.
-use crate::fault::{Refusal, Stop};
 use crate::invariants::add_invariants;
-use crate::keys::{HELD, power_of};
-use crate::legs::Web;
-use crate::measures::{TURNS, family_of};
-use crate::potentials::{Known, Promise, Scope, Wanted, promised, rounded_up};
-use crate::search::Keys;
+use crate::potentials::{Known, Promise, promised, rounded_up};
+use crate::turns::add_turns;
+use crate::wanted::{Only, Scope, Wanted};
+use crate::worth::promised_by_levels;
 use std::alloc::Global;
 use teco_base::LIMIT;
+use teco_bounds::fault::{Refusal, Stop};
+use teco_bounds::keys::{HELD, power_of};
+use teco_bounds::legs::Web;
+use teco_bounds::measures::{TURNS, family_of};
+use teco_bounds::reduced::Limits;
+use teco_bounds::search::Keys;
 use teco_linear::Form;
 use teco_rows::applied::form_at;
 
@@ -18,6 +22,14 @@ const DEGREES: u32 = 3;
 const PIVOTS: usize = 4000;
 
 const FEW_PIVOTS: usize = 500;
+
+// How many paths round a loop are tried alone, where its steps have no bound.
+const MOST_WAYS: usize = 12;
+
+// The most rows of a program, and where it may only better what was found.
+const ROWS: usize = 2000;
+
+const FEW_ROWS: usize = 250;
 
 // With more paths than this, each as often as the degree is, none of a higher degree is sought.
 const MOST_LEGS: usize = 160;
@@ -138,10 +150,35 @@ fn is_least(promise: &Promise) -> bool {
     }
 }
 
+// What is wanted of a measure: at first, or where that may only better what was found.
+fn wanted_of(place: u32, degree: u32, scope: Scope, is_first: bool) -> Wanted {
+    Wanted {
+        place,
+        sign: 1,
+        degree,
+        highest: degree,
+        is_loose: false,
+        limits: Limits::None,
+        scope,
+        pivots: if is_first { PIVOTS } else { FEW_PIVOTS },
+        rows: if is_first { ROWS } else { FEW_ROWS },
+        only: None,
+    }
+}
+
+// The lesser of two promises, if there are two.
+fn lesser(one: Option<Promise>, other: Option<Promise>) -> Option<Promise> {
+    match (one, other) {
+        (Some(one), Some(other)) => Some(if is_less(&other, &one) { other } else { one }),
+        (None, other) => other,
+        (one, None) => one,
+    }
+}
+
 // The least promise of a degree that is found.
 fn least_promise(
     web: &Web,
-    known: &Known,
+    known: &mut Known,
     place: u32,
     degree: u32,
     alloc: Global,
@@ -155,26 +192,10 @@ fn least_promise(
             Some(promise) => scope == Scope::More || is_least(promise),
             None => false,
         };
-        if is_enough {
-            continue;
-        }
-        let wanted = Wanted {
-            place,
-            sign: 1,
-            degree,
-            is_loose: false,
-            scope,
-            pivots: if found.is_some() { FEW_PIVOTS } else { PIVOTS },
-            only: None,
-        };
-        if let Some(promise) = promised(web, known, &wanted, alloc)? {
-            let is_better = match &found {
-                Some(known) => is_less(&promise, known),
-                None => true,
-            };
-            if is_better {
-                found = Some(promise);
-            }
+        if !is_enough {
+            let wanted = wanted_of(place, degree, scope, found.is_none());
+            let other = promised(web, known, &wanted, alloc)?;
+            found = lesser(found, other);
         }
     }
     Ok(found)
@@ -186,9 +207,12 @@ fn loosely(place: u32, sign: i128) -> Wanted {
         place,
         sign,
         degree: 1,
+        highest: 1,
         is_loose: true,
+        limits: Limits::None,
         scope: Scope::All,
         pivots: PIVOTS,
+        rows: ROWS,
         only: None,
     }
 }
@@ -227,10 +251,17 @@ fn add_tame(
     Ok(size)
 }
 
-// Adds bounds on turns, numbers and lengths to what is known.
-fn add_factors(web: &Web, keys: &Keys, known: &mut Known, alloc: Global) -> Result<(), Stop> {
+// Adds bounds on turns, numbers and lengths to what is known, each sought like this one.
+fn add_factors(
+    web: &Web,
+    keys: &Keys,
+    like: &Wanted,
+    known: &mut Known,
+    alloc: Global,
+) -> Result<(), Stop> {
     for place in factors(keys, alloc)? {
-        if let Some(promise) = promised(web, known, &loosely(place, 1), alloc)? {
+        let wanted = Wanted { place, ..*like };
+        if let Some(promise) = promised(web, known, &wanted, alloc)? {
             let _most = take(web, known, promise, alloc)?;
         }
     }
@@ -244,7 +275,7 @@ fn sizes(web: &Web, keys: &Keys, known: &mut Known, alloc: Global) -> Result<Vec
     let mut left = growing(web, alloc)?;
     for degree in 1..=DEGREES {
         if degree == 2 {
-            add_factors(web, keys, known, alloc)?;
+            add_factors(web, keys, &loosely(0, 1), known, alloc)?;
         }
         let mut later: Vec<u32> = Vec::new(alloc);
         for place in &left {
@@ -261,54 +292,160 @@ fn sizes(web: &Web, keys: &Keys, known: &mut Known, alloc: Global) -> Result<Vec
     Err(Stop::Refused(Refusal::Size))
 }
 
+// Whether some paths alone have a bound of their steps that is found.
+fn is_bounded(web: &Web, known: &mut Known, only: Only, alloc: Global) -> Result<bool, Stop> {
+    let wanted = Wanted {
+        place: 0,
+        sign: 1,
+        degree: 2,
+        highest: 2,
+        is_loose: false,
+        limits: Limits::None,
+        scope: Scope::All,
+        pivots: FEW_PIVOTS,
+        rows: ROWS,
+        only: Some(only),
+    };
+    Ok(promised(web, known, &wanted, alloc)?.is_some())
+}
+
 // The first node whose turns alone have no bound that is found, or else the last one.
-fn endless(web: &Web, known: &Known, alloc: Global) -> Result<usize, Stop> {
+fn endless(web: &Web, known: &mut Known, alloc: Global) -> Result<usize, Stop> {
     let mut last = 0;
     for start in web.starts.get(1..).unwrap_or(&[]) {
         if start.number == last {
             continue;
         }
         last = start.number;
-        let wanted = Wanted {
-            place: 0,
-            sign: 1,
-            degree: 2,
-            is_loose: false,
-            scope: Scope::All,
-            pivots: FEW_PIVOTS,
-            only: Some(last),
-        };
-        if promised(web, known, &wanted, alloc)?.is_none() {
+        if !is_bounded(web, known, Only::Turns(last), alloc)? {
             return Ok(last);
         }
     }
     Ok(last)
 }
 
-// The steps.
-fn steps(web: &Web, keys: &Keys, known: &mut Known, alloc: Global) -> Result<Vec<u64>, Stop> {
-    for degree in 1..=DEGREES {
-        if degree == 2 {
-            add_factors(web, keys, known, alloc)?;
+// Why the steps have no bound: the loop, and the first path round it that has none by itself.
+fn unbounded(web: &Web, known: &mut Known, alloc: Global) -> Result<Stop, Stop> {
+    let number = endless(web, known, alloc)?;
+    let mut tries = MOST_WAYS;
+    for (at, leg) in web.legs.iter().enumerate() {
+        if !web.is_round(leg, number) || tries == 0 {
+            continue;
         }
-        if let Some(promise) = least_promise(web, known, 0, degree, alloc)? {
-            return take(web, known, promise, alloc);
+        tries -= 1;
+        if !is_bounded(web, known, Only::Leg(at), alloc)? {
+            return Ok(Stop::Endless {
+                number,
+                leg: Some(at),
+            });
         }
     }
-    Err(Stop::Refused(Refusal::Steps(endless(web, known, alloc)?)))
+    Ok(Stop::Endless { number, leg: None })
 }
 
-// All promises by paths between keys, where some numbers were taken to be tame.
-pub fn all_promises(web: &Web, keys: &Keys, tame: &[u32], alloc: Global) -> Result<Promises, Stop> {
+// The steps by coefficients of a higher degree.
+fn steps_by_degrees(
+    web: &Web,
+    keys: &Keys,
+    known: &mut Known,
+    alloc: Global,
+) -> Result<Option<Promise>, Stop> {
+    add_factors(web, keys, &loosely(0, 1), known, alloc)?;
+    for degree in 2..=DEGREES {
+        let promise = least_promise(web, known, 0, degree, alloc)?;
+        if promise.is_some() {
+            return Ok(promise);
+        }
+    }
+    Ok(None)
+}
+
+// The steps level by level, where turns are within the square of N.
+fn steps_by_levels(web: &Web, known: &mut Known, alloc: Global) -> Result<Option<Promise>, Stop> {
+    let like = Wanted {
+        highest: 2,
+        ..loosely(0, 1)
+    };
+    add_turns(web, known, &like, alloc)?;
+    promised_by_levels(web, known, 2, alloc)
+}
+
+// The steps: where iterations are nested deeper than degrees are high, level by level.
+fn steps(web: &Web, keys: &Keys, known: &mut Known, alloc: Global) -> Result<Vec<u64>, Stop> {
+    let is_deep = web.depth() > DEGREES as usize;
+    let mut found = least_promise(web, known, 0, 1, alloc)?;
+    if found.is_none() && is_deep && web.legs.len() <= MOST_LEGS {
+        found = steps_by_levels(web, known, alloc)?;
+    }
+    if found.is_none() {
+        found = steps_by_degrees(web, keys, known, alloc)?;
+    }
+    if found.is_none() {
+        found = steps_by_limits(web, keys, known, alloc)?;
+    }
+    match found {
+        Some(promise) => take(web, known, promise, alloc),
+        None => Err(unbounded(web, known, alloc)?),
+    }
+}
+
+// The steps, where turns may be as many as a number of 32 bits says.
+fn steps_by_limits(
+    web: &Web,
+    keys: &Keys,
+    known: &mut Known,
+    alloc: Global,
+) -> Result<Option<Promise>, Stop> {
+    let like = Wanted {
+        limits: Limits::Numbers,
+        ..loosely(0, 1)
+    };
+    add_factors(web, keys, &like, known, alloc)?;
+    for degree in 1..=2 {
+        let wanted = Wanted {
+            limits: Limits::Numbers,
+            ..wanted_of(0, degree, Scope::All, true)
+        };
+        let promise = promised(web, known, &wanted, alloc)?;
+        if promise.is_some() {
+            return Ok(promise);
+        }
+    }
+    Ok(None)
+}
+
+// The polynomials of the commands and of the size, where some numbers were taken to be tame.
+fn polynomials(
+    web: &Web,
+    keys: &Keys,
+    tame: &[u32],
+    known: &mut Known,
+    alloc: Global,
+) -> Result<(Vec<u64>, Vec<u64>), Stop> {
+    let within = add_tame(web, keys, tame, known, alloc)?;
+    add_invariants(web, known, alloc)?;
+    let mut size = sizes(web, keys, known, alloc)?;
+    raise(&mut size, &within)?;
+    let commands = steps(web, keys, known, alloc)?;
+    Ok((commands, size))
+}
+
+// All promises by paths between keys. What programs take is taken from the work that is left.
+pub fn all_promises(
+    web: &Web,
+    keys: &Keys,
+    tame: &[u32],
+    work: &mut usize,
+    alloc: Global,
+) -> Result<Promises, Stop> {
     let mut known = Known {
         claims: Vec::new(alloc),
         told: Vec::new(alloc),
+        work: *work,
     };
-    let within = add_tame(web, keys, tame, &mut known, alloc)?;
-    add_invariants(web, &mut known, alloc)?;
-    let mut size = sizes(web, keys, &mut known, alloc)?;
-    raise(&mut size, &within)?;
-    let commands = steps(web, keys, &mut known, alloc)?;
+    let found = polynomials(web, keys, tame, &mut known, alloc);
+    *work = known.work;
+    let (commands, size) = found?;
     Ok(Promises {
         known,
         commands,

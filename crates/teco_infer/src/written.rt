@@ -1,17 +1,16 @@
 // What was found as claims of a certificate.
-use crate::bounds::{Bounds, NONE};
-use crate::fault::{Refusal, Stop};
-use crate::keys::{
+use crate::promises::Promises;
+use teco_base::Reg;
+use teco_bounds::bounds::{Bounds, NONE};
+use teco_bounds::fault::{Refusal, Stop};
+use teco_bounds::keys::{
     HELD, Key, LAST_LENGTH, LINE_END, LINE_START, POINTER, SIZE, add_always, bound_form, symbol_of,
 };
-use crate::measures::{
+use teco_bounds::measures::{
     LENGTH, NUMBER, PUSHED_LENGTH, PUSHED_NUMBER, SINGLES, TURNS, family_of, index_of,
 };
-use crate::numbers::plus;
-use crate::promises::Promises;
-use crate::search::{Keys, Search};
-use std::alloc::Global;
-use teco_base::Reg;
+use teco_bounds::numbers::plus;
+use teco_bounds::search::{Keys, Search};
 use teco_claims::{Claim, Claims, Cut, Fraction, Measure, Single, Term};
 use teco_linear::Form;
 use teco_poly::Poly;
@@ -52,161 +51,162 @@ fn register_of(index: u32) -> Option<Reg> {
     Reg::of(*NAMES.get(index as usize)?)
 }
 
-impl Search<'_> {
-    // The element that an iteration begins at, by how many are open round it.
-    fn begin_of(&self, number: usize, index: u32) -> Option<u32> {
-        if number == 0 || number > self.course.nodes.len() {
-            return None;
-        }
-        let open = self.course.nodes.open(number);
-        let at = open.checked_sub(1)?.checked_sub(index as usize)?;
-        u32::try_from(self.course.nodes.iteration(number, at)?).ok()
+// The element that an iteration begins at, by how many are open round it.
+fn begin_of(search: &Search<'_>, number: usize, index: u32) -> Option<u32> {
+    if number == 0 || number > search.course.nodes.len() {
+        return None;
     }
+    let open = search.course.nodes.open(number);
+    let at = open.checked_sub(1)?.checked_sub(index as usize)?;
+    u32::try_from(search.course.nodes.iteration(number, at)?).ok()
+}
 
-    // The measure of a place at a node.
-    fn measure_of(&self, number: usize, place: u32) -> Option<Measure> {
-        let Some(index) = index_of(place) else {
-            return Some(Measure::One(single_of(place)?));
+// The measure of a place at a node.
+fn measure_of(search: &Search<'_>, number: usize, place: u32) -> Option<Measure> {
+    let Some(index) = index_of(place) else {
+        return Some(Measure::One(single_of(place)?));
+    };
+    match family_of(place)? {
+        NUMBER => Some(Measure::Number(register_of(index)?)),
+        LENGTH => Some(Measure::Length(register_of(index)?)),
+        TURNS => Some(Measure::Turns(begin_of(search, number, index)?)),
+        PUSHED_NUMBER => Some(Measure::PushedNumber(index)),
+        PUSHED_LENGTH => Some(Measure::PushedLength(index)),
+        _ => None,
+    }
+}
+
+// A form over the places of measures as a claim; none where it speaks of what has no name.
+pub fn claim_of(search: &Search<'_>, number: usize, form: &Form) -> Result<Option<Claim>, Stop> {
+    let mut terms: Vec<Term> = Vec::new(search.alloc);
+    for term in form.terms() {
+        let measure = match term.symbol {
+            Some(place) => match measure_of(search, number, place) {
+                Some(measure) => Some(measure),
+                None => return Ok(None),
+            },
+            None => None,
         };
-        match family_of(place)? {
-            NUMBER => Some(Measure::Number(register_of(index)?)),
-            LENGTH => Some(Measure::Length(register_of(index)?)),
-            TURNS => Some(Measure::Turns(self.begin_of(number, index)?)),
-            PUSHED_NUMBER => Some(Measure::PushedNumber(index)),
-            PUSHED_LENGTH => Some(Measure::PushedLength(index)),
-            _ => None,
-        }
+        terms.push(Term {
+            is_negative: term.coefficient < 0,
+            coefficient: Fraction {
+                numerator: term.coefficient.unsigned_abs(),
+                divisor: 1,
+            },
+            power: term.power,
+            measure,
+        })?;
     }
+    terms.sort_by_key(|term| order(term))?;
+    Ok(Some(Claim { terms }))
+}
 
-    // A form over the places of measures as a claim; none where it speaks of what has no name.
-    fn claim_of(&self, number: usize, form: &Form) -> Result<Option<Claim>, Stop> {
-        let mut terms: Vec<Term> = Vec::new(self.alloc);
-        for term in form.terms() {
-            let measure = match term.symbol {
-                Some(place) => match self.measure_of(number, place) {
-                    Some(measure) => Some(measure),
-                    None => return Ok(None),
-                },
-                None => None,
-            };
-            terms.push(Term {
-                is_negative: term.coefficient < 0,
-                coefficient: Fraction {
-                    numerator: term.coefficient.unsigned_abs(),
-                    divisor: 1,
-                },
-                power: term.power,
-                measure,
-            })?;
-        }
-        terms.sort_by_key(|term| order(term))?;
-        Ok(Some(Claim { terms }))
-    }
+// What always holds at a key.
+fn always(search: &Search<'_>, key: &Key) -> Result<Bounds, Stop> {
+    let mut always = Bounds::none(search.alloc)?.of_symbols(&key.told, search.alloc)?;
+    add_always(&mut always, &key.told);
+    Ok(always)
+}
 
-    // What always holds at a key.
-    fn always(&self, key: &Key) -> Result<Bounds, Stop> {
-        let mut always = Bounds::none(self.alloc)?.of_symbols(&key.told, self.alloc)?;
-        add_always(&mut always, &key.told);
-        Ok(always)
-    }
-
-    // Whether limits are claimed: a register, a turn or a pair has one.
-    fn has_limits(&self, keys: &Keys) -> Result<bool, Stop> {
-        for (key, facts) in keys.keys.iter().zip(keys.facts.iter()) {
-            let always = self.always(key)?;
-            for row in 1..facts.size() {
-                let is_among_them = symbol_of(facts, row).is_some_and(|place| place >= SINGLES);
-                if is_among_them && has_limit(&always, facts, row) {
-                    return Ok(true);
-                }
+// Whether limits are claimed: a register, a turn or a pair has one.
+fn has_limits(search: &Search<'_>, keys: &Keys) -> Result<bool, Stop> {
+    for (key, facts) in keys.keys.iter().zip(keys.facts.iter()) {
+        let always = always(search, key)?;
+        for row in 1..facts.size() {
+            let is_among_them = symbol_of(facts, row).is_some_and(|place| place >= SINGLES);
+            if is_among_them && has_limit(&always, facts, row) {
+                return Ok(true);
             }
         }
-        Ok(false)
     }
+    Ok(false)
+}
 
-    // The facts of a key that are claimed, with limits or without.
-    fn facts(&self, key: &Key, facts: &Bounds, with_limits: bool) -> Result<Vec<Form>, Stop> {
-        let alloc = self.alloc;
-        let always = self.always(key)?;
-        let mut left = facts.copied(alloc)?;
-        for row in 0..left.size() {
-            for column in 0..left.size() {
-                let is_left_out = !with_limits && is_limit(&left, row, column);
-                if is_left_out || is_known(&always, &left, row, column) {
-                    left.set(row, column, NONE);
-                }
+// The facts of a key that are claimed, with limits or without.
+pub fn claimed_facts(
+    search: &Search<'_>,
+    key: &Key,
+    facts: &Bounds,
+    with_limits: bool,
+) -> Result<Vec<Form>, Stop> {
+    let alloc = search.alloc;
+    let always = always(search, key)?;
+    let mut left = facts.copied(alloc)?;
+    for row in 0..left.size() {
+        for column in 0..left.size() {
+            let is_left_out = !with_limits && is_limit(&left, row, column);
+            if is_left_out || is_known(&always, &left, row, column) {
+                left.set(row, column, NONE);
             }
         }
-        let mut forms = Vec::new(alloc);
-        for row in 0..left.size() {
-            for column in 0..left.size() {
-                if row == column || left.at(row, column) == NONE {
-                    continue;
-                }
-                if is_chained(&left, &always, row, column) {
-                    left.set(row, column, NONE);
-                } else {
-                    forms.push(bound_form(&left, row, column, alloc)?)?;
-                }
-            }
-        }
-        Ok(forms)
     }
+    let mut forms = Vec::new(alloc);
+    for row in 0..left.size() {
+        for column in 0..left.size() {
+            if row == column || left.at(row, column) == NONE {
+                continue;
+            }
+            if is_chained(&left, &always, row, column) {
+                left.set(row, column, NONE);
+            } else {
+                forms.push(bound_form(&left, row, column, alloc)?)?;
+            }
+        }
+    }
+    Ok(forms)
+}
 
-    // The cut point of a key, with limits or without.
-    fn cut(
-        &self,
-        keys: &Keys,
-        place: usize,
-        promises: &Promises,
-        with_limits: bool,
-    ) -> Result<Option<Cut>, Stop> {
-        let (Some(key), Some(facts)) = (keys.keys.get(place), keys.facts.get(place)) else {
-            return Ok(None);
-        };
-        let mut claims = Vec::new(self.alloc);
-        for form in self.facts(key, facts, with_limits)? {
-            if let Some(claim) = self.claim_of(key.number, &form)? {
-                claims.push(claim)?;
-            }
+// The cut point of a key, with limits or without.
+fn cut(
+    search: &Search<'_>,
+    keys: &Keys,
+    place: usize,
+    promises: &Promises,
+    with_limits: bool,
+) -> Result<Option<Cut>, Stop> {
+    let (Some(key), Some(facts)) = (keys.keys.get(place), keys.facts.get(place)) else {
+        return Ok(None);
+    };
+    let mut claims = Vec::new(search.alloc);
+    for form in claimed_facts(search, key, facts, with_limits)? {
+        if let Some(claim) = claim_of(search, key.number, &form)? {
+            claims.push(claim)?;
         }
-        for (at, form) in &promises.known.claims {
-            if *at == place {
-                match self.claim_of(key.number, form)? {
-                    Some(claim) => claims.push(claim)?,
-                    None => return Err(Stop::Refused(Refusal::TooMuch)),
-                }
-            }
-        }
-        Ok(Some(Cut {
-            point: key.number,
-            claims,
-        }))
     }
+    for (at, form) in &promises.known.claims {
+        if *at == place {
+            match claim_of(search, key.number, form)? {
+                Some(claim) => claims.push(claim)?,
+                None => return Err(Stop::Refused(Refusal::TooMuch)),
+            }
+        }
+    }
+    Ok(Some(Cut {
+        point: key.number,
+        claims,
+    }))
+}
 
-    // The claims.
-    pub fn claims(&self, keys: &Keys, promises: &Promises) -> Result<Claims, Stop> {
-        let (Some(commands), Some(size)) = (
-            polynomial(&promises.commands),
-            polynomial(&promises.size),
-        ) else {
-            return Err(Stop::Refused(Refusal::TooMuch));
-        };
-        let with_limits = self.has_limits(keys)?;
-        let mut cuts: Vec<Cut> = Vec::new(self.alloc);
-        for place in 1..keys.keys.len() {
-            if let Some(cut) = self.cut(keys, place, promises, with_limits)? {
-                cuts.push(cut)?;
-            }
+// The claims.
+pub fn claims_of(search: &Search<'_>, keys: &Keys, promises: &Promises) -> Result<Claims, Stop> {
+    let (Some(commands), Some(size)) = (polynomial(&promises.commands), polynomial(&promises.size))
+    else {
+        return Err(Stop::Refused(Refusal::TooMuch));
+    };
+    let with_limits = has_limits(search, keys)?;
+    let mut cuts: Vec<Cut> = Vec::new(search.alloc);
+    for place in 1..keys.keys.len() {
+        if let Some(cut) = cut(search, keys, place, promises, with_limits)? {
+            cuts.push(cut)?;
         }
-        cuts.sort_by_key(|cut| cut.point)?;
-        Ok(Claims {
-            commands,
-            size,
-            types: None,
-            cuts,
-        })
     }
+    cuts.sort_by_key(|cut| cut.point)?;
+    Ok(Claims {
+        commands,
+        size,
+        types: None,
+        cuts,
+    })
 }
 
 // Whether a bound is a limit.

@@ -1,5 +1,7 @@
 -- The bound of an edit: the sum of the printed numbers of commands of its runs.
 use Rattle.std.specs.Prelude.{◌≤◌, ◌+◌, ℕ, List, Option, Result, Ok}
+use Rattle.teco_applied.specs.Strict.{AreStrict, on_terms}
+use Rattle.teco_applied.specs.declared.watching.Terms.{Terms}
 use Rattle.teco_apply.specs.Apply.{AnswersText, Course, opening}
 use Rattle.teco_apply.specs.ByPages.{Behind, BehindMacro, BehindPage, Closing, EachPage, EditCourse}
 use Rattle.teco_apply.specs.ByPages.{EditsFile, EditsPages, EditsText, FromStart, Gathers, Once, Order, PagesTurned}
@@ -9,8 +11,6 @@ use Rattle.teco_apply.specs.declared.by_pages.Edited.{Edited}
 use Rattle.teco_apply.specs.declared.by_pages.Pages.{Pages}
 use Rattle.teco_apply.specs.declared.by_pages.Pages.TheVariants as pages
 use Rattle.teco_apply.specs.declared.stages.Tally.{Tally}
-use Rattle.teco_edits.specs.Strict.{AreStrict, on_terms}
-use Rattle.teco_edits.specs.declared.watching.Terms.{Terms}
 use Rattle.teco_law_tables.specs.Verified.{n_of}
 use Rattle.teco_model.specs.State.{World}
 use Rattle.teco_poly.specs.Polynomial.{value}

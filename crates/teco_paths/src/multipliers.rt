@@ -12,7 +12,7 @@ use teco_simplex::{Answer, Program, Relation, Row, Sign, SimplexFault, Values};
 const PIVOTS: usize = 2000;
 
 // The highest power of N that constraints are multiplied with.
-const MOST_POWER: u32 = 2;
+const MOST_POWER: u32 = 9;
 
 // How many programs of nearby constraints there are.
 const NEAR: usize = 2;
@@ -208,20 +208,50 @@ fn by_powers(
     }
 }
 
-// By a linear program: with as few powers of N as the target has first, which keeps numbers small.
+// Whether symbols of a constraint stand at several powers of N.
+fn is_mixed(constraint: &Form) -> bool {
+    let highest = highest_in(constraint);
+    constraint
+        .terms()
+        .iter()
+        .any(|term| term.symbol.is_some() && term.power < highest)
+}
+
+// The powers that are tried: as few as the target has first, which keeps numbers small, then those of
+// all constraints, and last one more, as the highest terms of a mixed constraint may cancel.
+fn tried_powers(constraints: &[Form], places: &[usize], target: &Form, has_more: bool) -> [u32; 3] {
+    let least = highest_in(target).min(MOST_POWER);
+    let most = highest(constraints).max(least).min(MOST_POWER);
+    let is_any_mixed = has_more
+        && places.iter().any(|place| constraints.get(*place).is_some_and(|form| is_mixed(form)));
+    let more = if least > 0 && is_any_mixed {
+        most.saturating_add(1).min(MOST_POWER)
+    } else {
+        most
+    };
+    [least, most, more]
+}
+
+// By linear programs with more and more powers of N.
 fn by_program(
     constraints: &[Form],
     places: &[usize],
     target: &Form,
+    has_more: bool,
     alloc: Global,
 ) -> Result<Option<Found>, PathFault> {
-    let least = highest_in(target).min(MOST_POWER);
-    let found = by_powers(constraints, places, target, least, alloc)?;
-    let most = highest(constraints).max(least).min(MOST_POWER);
-    if found.is_some() || most == least {
-        return Ok(found);
+    let mut tried = None;
+    for most in tried_powers(constraints, places, target, has_more) {
+        if tried == Some(most) {
+            continue;
+        }
+        tried = Some(most);
+        let found = by_powers(constraints, places, target, most, alloc)?;
+        if found.is_some() {
+            return Ok(found);
+        }
     }
-    by_powers(constraints, places, target, most, alloc)
+    Ok(None)
 }
 
 // Whether a constraint has a number that is a limit.
@@ -322,7 +352,8 @@ fn by_steps(
         if reach.is_chained && are_differences(constraints, &places, target) {
             continue;
         }
-        let found = by_program(constraints, &places, target, alloc)?;
+        let has_more = steps == NEAR && !reach.has_limits;
+        let found = by_program(constraints, &places, target, has_more, alloc)?;
         if found.is_some() {
             return Ok(found);
         }

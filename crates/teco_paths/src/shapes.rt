@@ -18,6 +18,9 @@ use teco_rows::outcomes::Outcomes;
 // The most nodes with shapes that are gone through.
 const MOST_SHAPES: usize = 20_000;
 
+// The most pushes of a shape: a body that pushes more than it pops has ever longer ones.
+const MOST_PUSHES: usize = 256;
+
 // Which measures a case has.
 fn present_in(forms: &[Option<Form>], alloc: Global) -> Result<Vec<bool>, PathFault> {
     let mut present = Vec::new(alloc);
@@ -116,6 +119,9 @@ pub fn shapes(course: &Course<'_>, first: Case, alloc: Global) -> Result<Vec<Cut
         };
         if spot.number == 0 || spot.number > course.nodes.len() {
             continue;
+        }
+        if spot.case.shape.pushes > MOST_PUSHES {
+            return Err(PathFault::TooLong);
         }
         let stand = stand_of(&spot, alloc)?;
         if is_known(&found, &stand) {

@@ -150,7 +150,7 @@ const ENDS_IN: [Clause; 2] = [
 
 const ENDS_WITH: [Clause; 1] = [Clause::Sets(CODE_BEFORE, 0, [(1, Of::Given(1)), NO, NO, NO])];
 
-// It does not begin at the pointer, where another character is than it begins with.
+// It begins behind the pointer: another character is there than it begins with.
 const LATER: [Clause; 1] = [Clause::Wants(-1, [(1, START), (-1, Of::Was(POINTER)), NO, NO])];
 
 /// What is answered where it is found.

@@ -3,10 +3,9 @@ use crate::trial::{expect_text, kept, library_file, of_words, task};
 use std::fs;
 use std::process::Abort;
 use std::test::Fail;
+use teco_applied::{Names, Task, apply_macro};
 use teco_apply::Pages;
-use teco_edits::{
-    Change, Chosen, InPlace, Keeping, Names, Naming, Task, apply_macro, choose, edit_files,
-};
+use teco_edits::{Change, Chosen, InPlace, Keeping, Naming, choose, edit_files};
 use teco_pages::FileHost;
 use teco_tools::{INPUT, OUTPUT, Start, Streams, ToolFault};
 use teco_verdicts::{AnswerFault, Escape, Outcome, Request, Setting};

@@ -1,4 +1,4 @@
-//! Tests of `teco_tools`, `teco_edits`, `teco_examples` and `teco_words`.
+//! Tests of `teco_tools`, `teco_applied`, `teco_edits`, `teco_examples` and `teco_words`.
 #![tactic(auto)]
 
 #[cfg(test)]

@@ -4,7 +4,7 @@ use std::io::Read;
 use std::process::Abort;
 use std::test::Fail;
 use std::{fs, io};
-use teco_edits::{Listing, Names, trace_macro};
+use teco_applied::{Listing, Names, trace_macro};
 use teco_pages::FileHost;
 use teco_tools::{OUTPUT, Prompting, Streams};
 use teco_verdicts::{Outcome, Request};

@@ -3,9 +3,10 @@
 use std::fs;
 use std::process::Abort;
 use std::test::Fail;
+use teco_applied::Task;
 use teco_apply::Pages;
 use teco_base::Reg;
-use teco_edits::{Choice, Task};
+use teco_edits::Choice;
 use teco_tools::Start;
 use teco_verdicts::{Console, Edition, Escape, Method, Origin, Request};
 

@@ -7,8 +7,9 @@ use crate::fault::{AnswerFault, written};
 use crate::files::Shelf;
 use crate::known::{words_of, words_of_choice};
 use crate::library::{Sourced, read_library};
-use crate::linear::{answer_claims, verify_claims};
-use crate::method::{Edition, Method, is_unbalanced};
+use crate::linear::tell_refused;
+use crate::listing::list_claimed;
+use crate::method::{Edition, Method};
 use crate::naming::element_at;
 use crate::outcome::Outcome;
 use crate::request::Request;
@@ -22,12 +23,37 @@ use teco_library::Library;
 use teco_source::{Position, Shown};
 use teco_verify::{Account, account_of};
 
-// The text in which an element stands, or none.
-fn text_of<'l>(library: &'l Library, account: &Account<'_>, number: usize) -> &'l [u8] {
-    match account.register(number) {
+/// The name of a register, or a hyphen.
+pub fn name_of(register: Option<Reg>) -> char {
+    match register {
+        None => '-',
+        Some(register) => char::from(register.name()),
+    }
+}
+
+/// The text of a register, or none.
+pub fn text_of(library: &Library, register: Option<Reg>) -> &[u8] {
+    match register {
         None => &[],
         Some(register) => library.text(register).unwrap_or(&[]),
     }
+}
+
+/// A place of the text of a register of this name as it is listed, with what stands there; `is_end` where
+/// that is the end of the text.
+pub fn shown_place(
+    alloc: Global,
+    name: char,
+    text: &[u8],
+    place: usize,
+    is_end: bool,
+) -> Result<String, AllocError> {
+    let Position { line, column } = Position::of(text, place);
+    if is_end {
+        return format!(in alloc; "{name}:{line}:{column}\t(return)");
+    }
+    let found = Shown(element_at(text, place));
+    format!(in alloc; "{name}:{line}:{column}\t{found}")
 }
 
 // An element as it is listed: where it stands, and what it is.
@@ -37,20 +63,14 @@ fn shown_element(
     account: &Account<'_>,
     number: usize,
 ) -> Result<String, AllocError> {
-    let name = account
-        .register(number)
-        .map_or('-', |register| char::from(register.name()));
+    let name = name_of(account.register(number));
     if number == 1 {
         return format!(in alloc; "-:1:1\tM{name}");
     }
-    let text = text_of(library, account, number);
+    let text = text_of(library, account.register(number));
     let place = account.begin(number).unwrap_or(0);
-    let Position { line, column } = Position::of(text, place);
-    if account.element(number).is_none() {
-        return format!(in alloc; "{name}:{line}:{column}\t(return)");
-    }
-    let found = Shown(element_at(text, place));
-    format!(in alloc; "{name}:{line}:{column}\t{found}")
+    let is_end = account.element(number).is_none();
+    shown_place(alloc, name, text, place, is_end)
 }
 
 // What is known before an element, in words, or a hyphen.
@@ -170,20 +190,34 @@ fn explain_table<O: Write + Drop, E: Write + Drop>(
     list_account(console, sourced, &account)
 }
 
-// Explains a macro of a library by its claims, or by its table where there are none.
+// Explains a macro of a library by its claims, or by its table where that alone accepts it.
 fn explain_by_either<O: Write + Drop, E: Write + Drop>(
     console: &mut Console<O, E>,
     sourced: &Sourced,
     entry: Reg,
 ) -> Result<Outcome, AnswerFault> {
-    if is_unbalanced(console.alloc, &sourced.library, entry) {
-        return explain_table(console, sourced, entry);
+    match verify_linear(&sourced.library, entry, console.alloc) {
+        Ok(claimed) => list_claimed(console, sourced, &claimed),
+        Err(refused) => {
+            let account = account_of(console.alloc, &sourced.library, entry)?;
+            if account.verdict().is_ok() {
+                return list_account(console, sourced, &account);
+            }
+            tell_refused(console, &sourced.source, &sourced.library, entry, &refused)
+        }
     }
-    let found = verify_linear(&sourced.library, entry, console.alloc);
-    if found.is_err() {
-        return explain_table(console, sourced, entry);
+}
+
+// Explains a macro of a library by its claims.
+fn explain_claims<O: Write + Drop, E: Write + Drop>(
+    console: &mut Console<O, E>,
+    sourced: &Sourced,
+    entry: Reg,
+) -> Result<Outcome, AnswerFault> {
+    match verify_linear(&sourced.library, entry, console.alloc) {
+        Ok(claimed) => list_claimed(console, sourced, &claimed),
+        Err(refused) => tell_refused(console, &sourced.source, &sourced.library, entry, &refused),
     }
-    answer_claims(console, &sourced.source, &sourced.library, entry, found)
 }
 
 // Explains a macro of a library by a method.
@@ -194,9 +228,7 @@ fn explain_by_method<O: Write + Drop, E: Write + Drop>(
 ) -> Result<Outcome, AnswerFault> {
     match sourced.method {
         Method::Only(Edition::First) => explain_table(console, sourced, entry),
-        Method::Only(Edition::Second) => {
-            verify_claims(console, &sourced.source, &sourced.library, entry)
-        }
+        Method::Only(Edition::Second) => explain_claims(console, sourced, entry),
         Method::Best => explain_by_either(console, sourced, entry),
     }
 }

@@ -17,6 +17,7 @@ use crate::library::{NAMES, Sourced};
 use crate::linting::Findings;
 use crate::method::Edition;
 use crate::outcome::Outcome;
+use crate::reasoning::{moved_too_far, reason_of};
 use crate::verifying::refuse;
 use std::alloc::Global;
 use std::io::Write;
@@ -29,13 +30,13 @@ use teco_source::{Shown, Source};
 use teco_verifier::Refusal as Why;
 use teco_verify::Refusal;
 
-// The register at a place, if there is one.
-fn register_at(place: usize) -> Option<Reg> {
+/// The register at a place, if there is one.
+pub fn register_at(place: usize) -> Option<Reg> {
     NAMES.get(place).and_then(|name| Reg::of(*name))
 }
 
-// The text in which an element stands.
-fn text_at(library: &Library, at: NodePlace) -> &[u8] {
+/// The text in which an element stands.
+pub fn text_at(library: &Library, at: NodePlace) -> &[u8] {
     register_at(at.register)
         .and_then(|register| library.text(register))
         .unwrap_or(&[])
@@ -47,12 +48,12 @@ fn why_of_letter(letter: u8) -> Why {
         b'C' | b'R' | b'J' => Why::Place,
         b'D' | b'K' => Why::Deletion,
         b'/' => Why::Divisor,
-        b']' => Why::Pop,
+        b'[' | b']' => Why::Pop,
         _ => Why::Argument,
     }
 }
 
-// The same, by the text behind its place: its modifiers stand before its letter.
+// Which condition fails, by the text behind the element's place: modifiers stand before its letter.
 fn why_of_condition(text: &[u8]) -> Why {
     for byte in text {
         if *byte != b'@' && *byte != b':' {
@@ -164,12 +165,13 @@ fn accept<O: Write + Drop, E: Write + Drop>(
     Ok(Outcome::Done)
 }
 
-// Says why a macro of a library is refused by claims.
+// Says why a macro of a library is refused by claims, and the reason in lines, if there are some.
 fn refuse_claims<O: Write + Drop, E: Write + Drop>(
     console: &mut Console<O, E>,
     source: &Source,
     refusal: Refusal,
     refused: &LinearRefusal,
+    reason: &str,
 ) -> Result<Outcome, AnswerFault>
     ensures outcome { IfOk result (λ outcome. outcome ≡ Refused) }
     ensures line { Refuses (O.contents console.old.out) (O.contents console.new.out) refusal
@@ -177,7 +179,27 @@ fn refuse_claims<O: Write + Drop, E: Write + Drop>(
 {
     let outcome = refuse(console, source, refusal, Edition::Second)?;
     console.say(format_args!("  {refused}"));
+    if !reason.is_empty() {
+        console.say(reason);
+    }
     Ok(outcome)
+}
+
+/// Says why there are no claims of a macro of a library.
+pub fn tell_refused<O: Write + Drop, E: Write + Drop>(
+    console: &mut Console<O, E>,
+    source: &Source,
+    library: &Library,
+    entry: Reg,
+    refused: &LinearRefusal,
+) -> Result<Outcome, AnswerFault>
+    ensures { Answers (VerdictByClaims library.now entry)
+        (O.contents console.old.out) (O.contents console.new.out) result }
+{
+    let refusal = refusal_of(library, entry, refused);
+    let far = moved_too_far(&refusal);
+    let reason = reason_of(console.alloc, source, library, entry, far);
+    refuse_claims(console, source, refusal, refused, reason.as_str())
 }
 
 /// Prints the certificate of a macro of a library by claims that were found, or why there are none.
@@ -199,10 +221,7 @@ pub fn answer_claims<O: Write + Drop, E: Write + Drop>(
             claimed.is_checked();
             accept(console, source, &claimed)
         }
-        Err(refused) => {
-            let refusal = refusal_of(library, entry, &refused);
-            refuse_claims(console, source, refusal, &refused)
-        }
+        Err(refused) => tell_refused(console, source, library, entry, &refused),
     }
 }
 

@@ -7,7 +7,6 @@ use crate::linear::verified_by_claims;
 use std::alloc::Global;
 use teco_base::Reg;
 use teco_library::Library;
-use teco_verifier::Refusal as Why;
 use teco_verify::{Refusal, verify};
 
 /// An edition of the rules by which macros are verified.
@@ -46,7 +45,7 @@ fn by_table<'l>(alloc: Global, library: &'l Library, entry: Reg) -> Result<Accep
     Ok(Accepted::Table(verified))
 }
 
-// The same, by claims.
+// Verified by claims.
 fn by_claims<'l>(alloc: Global, library: &'l Library, entry: Reg) -> Result<Accepted<'l>, Refusal>
     ensures { IfOk result (IsOf library.now entry) }
 {
@@ -54,22 +53,11 @@ fn by_claims<'l>(alloc: Global, library: &'l Library, entry: Reg) -> Result<Acce
     Ok(Accepted::Claims(claimed))
 }
 
-/// Is a macro refused by its table for a push or a pop that has no partner? Claims are not sought then.
-pub fn is_unbalanced(alloc: Global, library: &Library, entry: Reg) -> bool {
-    matches!(
-        verify(alloc, library, entry),
-        Err(Refusal::No { why: Why::Pop, .. })
-    )
-}
-
-// The same, by claims, or by a table where there are none. Where both editions refuse it, the second
+// Verified by claims, or by a table where there are none. Where both editions refuse it, the second
 // says why.
 fn by_either<'l>(alloc: Global, library: &'l Library, entry: Reg) -> Result<Accepted<'l>, Refusal>
     ensures { IfOk result (IsOf library.now entry) }
 {
-    if is_unbalanced(alloc, library, entry) {
-        return by_table(alloc, library, entry);
-    }
     match by_claims(alloc, library, entry) {
         Ok(accepted) => Ok(accepted),
         Err(refusal) => match by_table(alloc, library, entry) {

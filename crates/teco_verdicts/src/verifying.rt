@@ -17,8 +17,9 @@ use crate::files::Shelf;
 use crate::library::{NAMES, Sourced, explained, library_of, macro_named, read_library};
 use crate::linear::{answer_claims, verify_claims};
 use crate::linting::Findings;
-use crate::method::{Edition, Method, is_unbalanced};
+use crate::method::{Edition, Method};
 use crate::outcome::Outcome;
+use crate::reasoning::{moved_too_far, reason_of};
 use crate::request::Request;
 use crate::verdict::Verdict;
 use crate::written::read_source;
@@ -93,7 +94,7 @@ fn refuse_known<O: Write + Drop, E: Write + Drop>(
     Ok(outcome)
 }
 
-/// Says why a macro of a library is refused, and what its table knows there, if it was refused for that.
+/// Says why a macro of a library is refused, and what is known there.
 #[tactic(auto, using(crate::proofs::Fronts::nothing))]
 pub fn refuse_macro<O: Write + Drop, E: Write + Drop>(
     console: &mut Console<O, E>,
@@ -110,7 +111,16 @@ pub fn refuse_macro<O: Write + Drop, E: Write + Drop>(
             let account = account_of(console.alloc, &sourced.library, entry)?;
             refuse_known(console, &sourced.source, &account, refusal)
         }
-        Edition::Second => refuse(console, &sourced.source, refusal, Edition::Second),
+        Edition::Second => {
+            let far = moved_too_far(&refusal);
+            let (source, library) = (&sourced.source, &sourced.library);
+            let reason = reason_of(console.alloc, source, library, entry, far);
+            let outcome = refuse(console, source, refusal, Edition::Second)?;
+            if !reason.is_empty() {
+                console.say(reason.as_str());
+            }
+            Ok(outcome)
+        }
     }
 }
 
@@ -183,9 +193,6 @@ fn verify_by_either<O: Write + Drop, E: Write + Drop>(
     ensures { Answers (VerdictBy Best library.now entry)
         (O.contents console.old.out) (O.contents console.new.out) result }
 {
-    if is_unbalanced(console.alloc, library, entry) {
-        return verify_by_edition(console, source, library, entry, Edition::First);
-    }
     let found = verify_linear(library, entry, console.alloc);
     if found.is_err() && verify(console.alloc, library, entry).is_ok() {
         return verify_by_edition(console, source, library, entry, Edition::First);

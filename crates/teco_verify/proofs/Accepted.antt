@@ -14,8 +14,8 @@ use Rattle.teco_verifier.specs.expansion.Expansion.{expansion}
 use Rattle.teco_model.specs.Macros.{Library}
 use Rattle.teco_verifier.specs.expansion.Node.{Node}
 use Rattle.teco_verifier.specs.expansion.Refusal as expanding
-use Rattle.teco_known.specs.Numbers.{AreSmall, IsSmallFall}
-use Rattle.teco_known.specs.declared.few.TheConstants.{DEPTH}
+use Rattle.teco_facts.specs.Numbers.{AreSmall, IsSmallFall}
+use Rattle.teco_facts.specs.declared.few.TheConstants.{DEPTH}
 use Rattle.teco_poly.specs.Polynomial.{Polynomial}
 use Rattle.teco_verifier.specs.facts.Facts.{Facts}
 use Rattle.teco_law_tables.specs.straight_text.Accepted.{BeginsNoIteration, Prints, RowIsOutside, IsAccepted}

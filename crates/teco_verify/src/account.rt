@@ -28,14 +28,13 @@ use crate::watching::watch;
 use std::alloc::{AllocError, Global};
 use std::marker::Model;
 use teco_base::Reg;
-use teco_check::{Table, begins_iteration};
+use teco_check::{Table, begins_iteration, turns};
 use teco_expansion::{ExpandFault, Nodes, Refusal as Unexpanded, expand};
 use teco_facts::Choice;
 use teco_law_tables::straight::straight_texts_are_accepted;
 use teco_library::Library;
 use teco_model::{ArgumentRange, Element};
 use teco_poly::Poly;
-use teco_transfer::turns;
 use teco_verifier::LoopLine;
 
 /// What the verifier knows of a macro: the elements that it comes to, numbered from 1, what is

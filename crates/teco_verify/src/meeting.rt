@@ -6,8 +6,7 @@
 //! by comparing all of them.
 
 use std::alloc::{AllocError, Global};
-use teco_facts::{Facts, Pushed, joined_pair};
-use teco_known::Fault;
+use teco_facts::{Facts, Fault, Pushed, joined_pair};
 use teco_stack::{Chain, Stack};
 use teco_verifier::Refusal;
 

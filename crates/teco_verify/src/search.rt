@@ -11,12 +11,11 @@ use crate::memo::Memo;
 use crate::pending::Pending;
 use crate::unfit::{Unfit, Unfound};
 use std::alloc::{AllocError, Global};
-use teco_check::are_kept;
+use teco_check::{Edges, are_kept, turns};
 use teco_expansion::Nodes;
 use teco_facts::Facts;
 use teco_model::ArgumentRange;
 use teco_poly::Poly;
-use teco_transfer::{Edges, turns};
 use teco_verifier::{LoopLine, Refusal};
 
 // How often the body of the innermost of six iterations may be passed: three times for each of

@@ -4,7 +4,7 @@ ghost use Rattle.teco_verify.specs.Unfit.{IsAt};
 ghost use Rattle.teco_verify.specs.declared.unfit.Unfit.TheVariants.{Memory};
 
 use std::alloc::{AllocError, AllocFailed, Global};
-use teco_known::Fault;
+use teco_facts::Fault;
 use teco_verifier::{LoopLine, Refusal};
 
 /// Why no choices are found.

@@ -1,6 +1,6 @@
 use Rattle.std.proofs.Common.{◌≡◌, ◌<◌, ◌∙◌, length, Err, rules, arith}
 use Rattle.teco_verifier.specs.table.Closed.{check_nodes, check}
-use Rattle.teco_check.proofs.Steps.{check_more, says_of}
+use Rattle.teco_check.proofs.Further.{check_more, says_of}
 use Rattle.teco_check.proofs.closed.check.Goals as goal
 
 pub returns-then-not-begins-clause-value : goal.returns-then-not-begins-clause-value

@@ -1,6 +1,6 @@
 use Rattle.std.proofs.Common.{◌≡◌, ◌≤◌, length, refl, arith}
 use Rattle.teco_verifier.specs.table.Printed.{needs_in}
-use Rattle.teco_check.proofs.Steps.{needs_more}
+use Rattle.teco_check.proofs.Further.{needs_more}
 use Rattle.teco_check.proofs.printed.needs_in.Goals as goal
 
 pub loop-at-preserved : goal.loop-at-preserved

@@ -1,6 +1,6 @@
 use Rattle.std.proofs.Common.{◌<◌, sym, ◌∙◌, length, refl, arith}
 use Rattle.teco_verifier.specs.table.Printed.{size}
-use Rattle.teco_check.proofs.Steps.{size_more, size_fails}
+use Rattle.teco_check.proofs.Further.{size_more, size_fails}
 use Rattle.teco_check.proofs.printed.size.Goals as goal
 
 pub loop-at-init : goal.loop-at-init

@@ -1,6 +1,6 @@
 use Rattle.std.proofs.Common.{sym, ◌∙◌, ◌-◌, rules, arith}
 use Rattle.teco_check.specs.Here.{node_at}
-use Rattle.teco_check.proofs.Steps.{round_more, round_refused, round_overflows, refused_inside, none_behind}
+use Rattle.teco_check.proofs.Further.{round_more, round_refused, round_overflows, refused_inside, none_behind}
 use Rattle.teco_check.proofs.printed.turns_round.Goals as goal
 
 pub returns-in_err-turns_at : goal.returns-in_err-turns_at

@@ -1,6 +1,6 @@
 use Rattle.std.proofs.Common.{sym, subst}
 use Rattle.teco_verifier.specs.facts.Facts.{Facts}
-use Rattle.teco_known.specs.Numbers.{AreSmall}
+use Rattle.teco_facts.specs.Numbers.{AreSmall}
 use Rattle.teco_facts.specs.declared.facts.Known.{Known}
 use Rattle.teco_facts.proofs.facts.Facts.is_small.Goals as goal
 

@@ -1,0 +1,76 @@
+-- What a task is about, and what is printed where it is refused.
+use Rattle.std.specs.Prelude.{ℕ, ◌≡◌, ◌⊎◌, ⊤, List, codes, Option, Some, None, Result, Ok, Err}
+use Rattle.std.specs.Io.KnownBytes.{Appends}
+use Rattle.teco_applied.specs.Edits.{EditsBy, Trace}
+use Rattle.teco_applied.specs.declared.names.Names.{Names}
+use Rattle.teco_applied.specs.declared.applying.Task.{Task}
+use Rattle.teco_applied.specs.declared.subject.Subject.{Subject}
+use Rattle.teco_apply.specs.Sure.{Call}
+use Rattle.teco_library.specs.Library.{LibraryFile}
+use Rattle.teco_pages.specs.HostFiles.{Telling}
+use Rattle.teco_tools.specs.declared.fault.ToolFault.{ToolFault}
+use Rattle.teco_verdicts.specs.Accepted.{IsOf, IsProved, promise_of}
+use Rattle.teco_verdicts.specs.Lines.{refused_line}
+use Rattle.teco_verdicts.specs.declared.acceptance.Accepted.{Accepted}
+use Rattle.teco_verdicts.specs.declared.outcome.Outcome.{Outcome}
+use Rattle.teco_verdicts.specs.declared.outcome.Outcome.TheVariants.{Done, Coded, Refused}
+use Rattle.teco_verify.specs.declared.refusal.Refusal.{Refusal}
+
+-- The macro of an entry of a library is accepted: its table is closed, or its claims hang together, with the argument
+-- that the library declares.
+pub record IsAccepted (library : LibraryFile) (entry : ℕ) (accepted : Accepted) : Type 0 where
+  pub proved : IsProved accepted
+  pub is : IsOf library entry accepted
+
+-- some text was written
+abbrev pub Prints : Option (List ℕ) → Option (List ℕ) → Type 0
+Prints old new = (text : List ℕ) × Appends old new text
+
+-- A macro is refused with the line of a refusal; with a fault no more is said of what was written.
+abbrev pub Refuses : {E : Type 0} → Option (List ℕ) → Option (List ℕ) → Result Outcome E → Type 0
+Refuses old new (Ok outcome) =
+    (outcome ≡ Refused) × ((refusal : Refusal) × Appends old new (refused_line refusal))
+Refuses old new (Err fault) = ⊤
+
+-- Where a library is read, nothing is printed; where there is none, its refusal is.
+abbrev pub ReadsSubject : Option (List ℕ) → Option (List ℕ) → Result (Option Subject) ToolFault → Type 0
+ReadsSubject old new (Ok (Some subject)) = new ≡ old
+ReadsSubject old new (Ok None) = Prints old new
+ReadsSubject old new (Err fault) = ⊤
+
+-- What is answered where nothing is edited: the macro or its library is refused, or one file is to be both read and
+-- written.
+abbrev pub AnswersNone : Option (List ℕ) → Option (List ℕ) → Result Outcome ToolFault → Type 0
+AnswersNone old new (Ok Done) = ⊥
+AnswersNone old new (Ok Coded) = Appends old new (codes "?ARG\r\n")
+AnswersNone old new (Ok Refused) = Prints old new
+AnswersNone old new (Err fault) = ⊤
+
+-- nothing is edited, and no file is touched
+pub record EditsNone (files after : Telling) (begun left : Trace) (result : Result Outcome ToolFault) : Type 0 where
+  pub files_stay : after ≡ files
+  pub failures_stay : left.failures ≡ begun.failures
+  pub answers : AnswersNone begun.written left.written result
+
+-- the macro of a task, which is accepted, and the argument that it is given
+abbrev pub task_call : Task → Accepted → Call
+task_call task accepted = record { promise = promise_of accepted; given = task.argument }
+
+-- a file is edited by the macro of a library that is accepted
+pub record EditsAccepted (task : Task) (library : LibraryFile) (names : Names) (files after : Telling)
+    (begun left : Trace) (result : Result Outcome ToolFault) : Type 0 where
+  pub found : Accepted
+  pub accepted : IsAccepted library task.entry found
+  pub edits : EditsBy task (task_call task found) names files after begun left result
+
+-- or nothing is edited
+abbrev pub AppliesIn : Task → LibraryFile → Names → Telling → Telling → Trace → Trace → Result Outcome ToolFault
+    → Type 0
+AppliesIn task library names files after begun left result =
+    EditsNone files after begun left result ⊎ EditsAccepted task library names files after begun left result
+
+-- by a macro of the library that is read, if one is
+abbrev pub Applies : Task → Names → Telling → Telling → Trace → Trace → Result Outcome ToolFault → Type 0
+Applies task names files after begun left result =
+    EditsNone files after begun left result
+    ⊎ ((library : LibraryFile) × EditsAccepted task library names files after begun left result)

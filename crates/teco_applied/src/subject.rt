@@ -1,0 +1,159 @@
+//! What a task is about: a macro of a library.
+ghost use Rattle.std.specs.Prelude.{◌≡◌, IfOk, OnOk};
+ghost use Rattle.teco_applied.specs.Tasks.{IsAccepted, Prints, ReadsSubject, Refuses};
+ghost use Rattle.teco_verdicts.specs.declared.outcome.Outcome.TheVariants.{Refused};
+
+use crate::applying::Task;
+use std::alloc::Global;
+use std::io::{Input, Write};
+use std::rt::Files;
+use teco_base::Reg;
+use teco_tools::{Case, ToolFault};
+use teco_verdicts::{
+    Accepted, AnswerFault, Claim, Console, Outcome, Sourced, Voice, accepted, lint, read_claim,
+    read_library_for, refuse_claim, refuse_macro, tell_no_text, warn_no_text,
+};
+use teco_verify::Refusal;
+
+/// A library, and the certificate of a macro of it, if one is named.
+#[derive(Drop)]
+pub struct Subject<'a> {
+    pub sourced: Sourced,
+    claim: Option<Claim<'a>>,
+}
+
+impl Subject<'_> {
+    /// The macro, by its certificate if there is one, or verified.
+    pub fn accepted(&self, alloc: Global, entry: Reg) -> Result<Accepted<'_>, Refusal>
+        ensures { IfOk result (IsAccepted self.now.sourced.library entry) }
+    {
+        let claim = self.claim.as_ref();
+        let library = &self.sourced.library;
+        match accepted(alloc, library, entry, self.sourced.method, claim) {
+            Ok(accepted) => {
+                accepted.is_proved();
+                Ok(accepted)
+            }
+            Err(refusal) => Err(refusal),
+        }
+    }
+}
+
+// A console for what has no promise on what it prints: what is said there is said here, and nothing of
+// it is printed.
+fn say_apart<E: Write + Drop>(voice: &mut Voice<E>, apart: Console<Vec<u8>, Vec<u8>>) {
+    let (_, messages) = apart.into_parts();
+    voice.repeat(&messages);
+}
+
+// Prints what was printed on a console apart, and says what was said there.
+fn repeat<O: Write + Drop, E: Write + Drop>(
+    console: &mut Console<O, E>,
+    apart: Console<Vec<u8>, Vec<u8>>,
+) -> Result<(), ToolFault>
+    ensures { OnOk result (Prints (O.contents console.old.out) (O.contents console.new.out)) }
+{
+    let (out, messages) = apart.into_parts();
+    console.out.write_all(&out)?;
+    console.voice.repeat(&messages);
+    Ok(())
+}
+
+/// Reads the certificate and the library of a task. Where the file is no library, the refusal is
+/// printed, and there is none.
+pub fn read_subject<'a, R: Files + Input, O: Write + Drop, E: Write + Drop>(
+    rt: &R,
+    console: &mut Console<O, E>,
+    task: &Task<'a, '_>,
+) -> Result<Option<Subject<'a>>, ToolFault>
+    ensures { ReadsSubject (O.contents console.old.out) (O.contents console.new.out) result }
+{
+    let claim = read_claim(rt, console.alloc, task.certificate)?;
+    let mut apart = console.apart();
+    match read_library_for(rt, &mut apart, task.library, task.setup()) {
+        Ok(Some(sourced)) => {
+            say_apart(&mut console.voice, apart);
+            Ok(Some(Subject { sourced, claim }))
+        }
+        Ok(None) => {
+            repeat(console, apart)?;
+            Ok(None)
+        }
+        Err(fault) => Err(ToolFault::Answer(fault)),
+    }
+}
+
+/// Says that a macro is refused since its promise holds for no text.
+pub fn refuse_empty<O: Write + Drop, E: Write + Drop>(
+    console: &mut Console<O, E>,
+    sourced: &Sourced,
+    accepted: &Accepted<'_>,
+) -> Result<Outcome, ToolFault>
+    ensures printed { console.new.out ≡ console.old.out }
+    ensures outcome { IfOk result (λ outcome. outcome ≡ Refused) }
+{
+    let mut apart = console.apart();
+    let outcome = tell_no_text(&mut apart, sourced, accepted)?;
+    say_apart(&mut console.voice, apart);
+    Ok(outcome)
+}
+
+/// Warns of a macro whose promise holds for no text.
+pub fn warn_empty<O: Write + Drop, E: Write + Drop>(
+    console: &mut Console<O, E>,
+    sourced: &Sourced,
+    accepted: &Accepted<'_>,
+) -> Result<(), ToolFault>
+    ensures { console.new.out ≡ console.old.out }
+{
+    let mut apart = console.apart();
+    warn_no_text(&mut apart, sourced, accepted)?;
+    say_apart(&mut console.voice, apart);
+    Ok(())
+}
+
+/// Says what looks like slips in the macro of a task.
+pub fn say_findings<O: Write + Drop, E: Write + Drop>(
+    console: &mut Console<O, E>,
+    sourced: &Sourced,
+    task: &Task<'_, '_>,
+)
+    ensures { console.new.out ≡ console.old.out }
+{
+    let mut apart = console.apart();
+    let is_exact = matches!(task.start.case, Some(Case::Exact));
+    lint(&mut apart, sourced, task.entry, is_exact);
+    say_apart(&mut console.voice, apart);
+}
+
+// Says why a macro is refused, by its certificate if there is one.
+#[tactic(auto, using(crate::proofs::Tasks::refuses))]
+fn refuse_by_claim<O: Write + Drop, E: Write + Drop>(
+    console: &mut Console<O, E>,
+    subject: &Subject<'_>,
+    entry: Reg,
+    refusal: Refusal,
+) -> Result<Outcome, AnswerFault>
+    ensures { Refuses (O.contents console.old.out) (O.contents console.new.out) result }
+{
+    let sourced = &subject.sourced;
+    match &subject.claim {
+        None => refuse_macro(console, sourced, entry, refusal),
+        Some(claim) => refuse_claim(console, sourced, entry, claim, refusal),
+    }
+}
+
+/// Says why a macro is refused, by its certificate if there is one.
+pub fn refuse_subject<O: Write + Drop, E: Write + Drop>(
+    console: &mut Console<O, E>,
+    subject: &Subject<'_>,
+    entry: Reg,
+    refusal: Refusal,
+) -> Result<Outcome, ToolFault>
+    ensures { Refuses (O.contents console.old.out) (O.contents console.new.out) result }
+{
+    match refuse_by_claim(console, subject, entry, refusal) {
+        Ok(outcome) => Ok(outcome),
+        Err(fault) => Err(ToolFault::Answer(fault)),
+    }
+}

@@ -1,0 +1,101 @@
+// Whether what iterations push is popped.
+use crate::cuts::kind_at;
+use crate::fault::{Refusal, Stop};
+use std::alloc::Global;
+use teco_expansion::Nodes;
+use teco_model::Kind;
+use teco_model::kind::Stack;
+
+// What an element does with the push-down list.
+#[derive(Clone, Copy, PartialEq, Eq)]
+enum Change {
+    None,
+    Push,
+    Pop,
+}
+
+// What the element of each node does with the push-down list, from that of number 0 on.
+fn changes(nodes: &Nodes<'_>, alloc: Global) -> Result<Vec<Change>, Stop> {
+    let mut changes = Vec::new(alloc);
+    for number in 0..nodes.len().saturating_add(1) {
+        changes.push(match kind_at(nodes, number) {
+            Some(Kind::Stack(Stack::Push(_))) => Change::Push,
+            Some(Kind::Stack(Stack::Pop(_))) => Change::Pop,
+            _ => Change::None,
+        })?;
+    }
+    Ok(changes)
+}
+
+// How many pushes there are behind an element; none where a pop finds nothing.
+fn behind(change: Change, pushes: usize) -> Option<usize> {
+    match change {
+        Change::None => Some(pushes),
+        Change::Push => Some(pushes.saturating_add(1)),
+        Change::Pop => pushes.checked_sub(1),
+    }
+}
+
+// Raises the pushes of a node; says whether it did.
+fn raise(most: &mut [Option<usize>], number: usize, pushes: usize) -> bool {
+    match most.get_mut(number) {
+        Some(slot) if slot.is_none_or(|known| known < pushes) => {
+            *slot = Some(pushes);
+            true
+        }
+        _ => false,
+    }
+}
+
+// Raises the pushes of the nodes that an element leads to; says whether it did.
+fn pass(nodes: &Nodes<'_>, most: &mut [Option<usize>], number: usize, change: Change) -> bool {
+    if number == 0 || number > nodes.len() {
+        return false;
+    }
+    let known = most.get(number).copied().unwrap_or(None);
+    let Some(pushes) = known.and_then(|pushes| behind(change, pushes)) else {
+        return false;
+    };
+    let mut is_raised = false;
+    for at in 0..nodes.ways(number) {
+        if let Some(next) = nodes.way(number, at) {
+            is_raised = raise(most, next, pushes) || is_raised;
+        }
+    }
+    is_raised
+}
+
+// The node of a push that finds more pushes than there are in the macro.
+fn excess(changes: &[Change], most: &[Option<usize>], count: usize) -> Option<usize> {
+    changes.iter().zip(most.iter()).position(|(change, known)| {
+        *change == Change::Push && known.is_some_and(|pushes| pushes >= count)
+    })
+}
+
+// Refuses where paths, whatever numbers are, may push ever more: on a path that comes to no node twice
+// no push finds as many pushes as there are in the macro.
+pub fn check_pushes(nodes: &Nodes<'_>, alloc: Global) -> Result<(), Stop> {
+    let changes = changes(nodes, alloc)?;
+    let count = changes
+        .iter()
+        .filter(|change| **change == Change::Push)
+        .count();
+    if count == 0 {
+        return Ok(());
+    }
+    let mut most: Vec<Option<usize>> = Vec::from_elem(alloc, None, changes.len())?;
+    let mut is_raised = raise(&mut most, 1, 0);
+    for _ in 0..changes.len() {
+        if !is_raised {
+            break;
+        }
+        is_raised = false;
+        for (number, change) in changes.iter().enumerate() {
+            is_raised = pass(nodes, &mut most, number, *change) || is_raised;
+        }
+        if let Some(number) = excess(&changes, &most, count) {
+            return Err(Stop::Refused(Refusal::Condition(number)));
+        }
+    }
+    Ok(())
+}

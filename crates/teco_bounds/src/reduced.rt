@@ -1,0 +1,374 @@
+// Fewer constraints that say the same of the symbols that matter.
+use crate::bounds::Bounds;
+use crate::fault::Stop;
+use crate::keys::{least_forms, shifted, stands_for, symbol_of};
+use crate::numbers::common;
+use crate::programs::{Entry, add_form};
+use std::alloc::Global;
+use teco_linear::{Difference, Form, Scale};
+use teco_rows::applied::copied;
+
+// The most rounds of taking symbols out.
+const ROUNDS: usize = 8;
+
+// Constraints with a number from here on are left out.
+const LARGE: i128 = 1 << 24;
+
+// The coefficient of a symbol.
+fn coefficient(form: &Form, symbol: u32) -> i128 {
+    for term in form.terms() {
+        if term.symbol == Some(symbol) && term.power == 0 {
+            return term.coefficient;
+        }
+    }
+    0
+}
+
+// Numbers from here on are too large for lengths.
+const NUMBERS: u128 = 1 << 30;
+
+// Which limits are used: the greatest number of 32 bits, or the greatest length too.
+#[derive(Clone, Copy, PartialEq, Eq)]
+pub enum Limits {
+    None,
+    Numbers,
+    All,
+}
+
+impl Limits {
+    // Whether a form may be used.
+    pub fn take(self, form: &Form) -> bool {
+        let least = match self {
+            Limits::None => u128::MAX,
+            Limits::Numbers => NUMBERS,
+            Limits::All => return true,
+        };
+        form.terms().iter().all(|term| {
+            let size = term.coefficient.unsigned_abs();
+            term.symbol.is_some() || size < LARGE.unsigned_abs() || size >= least
+        })
+    }
+}
+
+// Whether a form says something: it has a symbol.
+fn speaks(form: &Form) -> bool {
+    form.terms().iter().any(|term| term.symbol.is_some())
+}
+
+// Whether two forms differ by a number at most, and by how much.
+fn differs_by(one: &Form, other: &Form, alloc: Global) -> Result<Option<i128>, Stop> {
+    if one.terms().len().abs_diff(other.terms().len()) > 1 {
+        return Ok(None);
+    }
+    let difference = one.sub(other, alloc)?;
+    Ok(match difference.terms() {
+        [] => Some(0),
+        [term] if term.symbol.is_none() && term.power == 0 => Some(term.coefficient),
+        _ => None,
+    })
+}
+
+// Adds a constraint, unless one that is there says as much; it takes the place of one that says less.
+fn add(forms: &mut Vec<Form>, form: Form, alloc: Global) -> Result<(), Stop> {
+    if !speaks(&form) && form.is_harmless() {
+        return Ok(());
+    }
+    for known in forms.iter_mut() {
+        if let Some(more) = differs_by(&form, known, alloc)? {
+            if more < 0 {
+                *known = form;
+            }
+            return Ok(());
+        }
+    }
+    forms.push(form)?;
+    Ok(())
+}
+
+// The sum of two constraints that is without a symbol, divided by what divides its terms.
+fn without(one: &Form, other: &Form, symbol: u32, alloc: Global) -> Result<Form, Stop> {
+    let up = coefficient(one, symbol).unsigned_abs();
+    let down = coefficient(other, symbol).unsigned_abs();
+    let shared = common(up, down).max(1);
+    let first = Scale {
+        factor: i128::try_from(down / shared).unwrap_or(0),
+        power: 0,
+    };
+    let second = Scale {
+        factor: i128::try_from(up / shared).unwrap_or(0),
+        power: 0,
+    };
+    let sum = one
+        .scaled(&first, alloc)?
+        .add(&other.scaled(&second, alloc)?, alloc)?;
+    Ok(sum)
+}
+
+// How many constraints have a symbol with each sign.
+fn counts(forms: &[Form], symbol: u32) -> (usize, usize) {
+    let (mut above, mut below) = (0usize, 0usize);
+    for form in forms {
+        let coefficient = coefficient(form, symbol);
+        if coefficient > 0 {
+            above = above.saturating_add(1);
+        } else if coefficient < 0 {
+            below = below.saturating_add(1);
+        }
+    }
+    (above, below)
+}
+
+// The constraints without a symbol.
+fn taken_out(forms: Vec<Form>, symbol: u32, alloc: Global) -> Result<Vec<Form>, Stop> {
+    let mut above = Vec::new(alloc);
+    let mut below = Vec::new(alloc);
+    let mut left = Vec::new(alloc);
+    for form in forms {
+        let coefficient = coefficient(&form, symbol);
+        if coefficient > 0 {
+            above.push(form)?;
+        } else if coefficient < 0 {
+            below.push(form)?;
+        } else {
+            left.push(form)?;
+        }
+    }
+    for one in &above {
+        for other in &below {
+            add(&mut left, without(one, other, symbol, alloc)?, alloc)?;
+        }
+    }
+    Ok(left)
+}
+
+// The symbols of constraints that are not to be kept.
+fn others(forms: &[Form], kept: &[u32], alloc: Global) -> Result<Vec<u32>, Stop> {
+    let mut symbols: Vec<u32> = Vec::new(alloc);
+    for form in forms {
+        for term in form.terms() {
+            if let Some(symbol) = term.symbol {
+                if !kept.contains(&symbol) && !symbols.contains(&symbol) {
+                    symbols.push(symbol)?;
+                }
+            }
+        }
+    }
+    Ok(symbols)
+}
+
+// Constraints without symbols that are not kept, where that makes them no more.
+fn eliminated(constraints: Vec<Form>, kept: &[u32], alloc: Global) -> Result<Vec<Form>, Stop> {
+    let mut forms = constraints;
+    for _ in 0..ROUNDS {
+        let mut is_less = false;
+        for symbol in others(&forms, kept, alloc)? {
+            let (above, below) = counts(&forms, symbol);
+            if above.saturating_mul(below) <= above.saturating_add(below) {
+                forms = taken_out(forms, symbol, alloc)?;
+                is_less = true;
+            }
+        }
+        if !is_less {
+            break;
+        }
+    }
+    Ok(forms)
+}
+
+// Adds the symbols of a form to others.
+pub fn add_symbols(symbols: &mut Vec<u32>, form: &Form) -> Result<(), Stop> {
+    for term in form.terms() {
+        if let Some(symbol) = term.symbol {
+            if !symbols.contains(&symbol) {
+                symbols.push(symbol)?;
+            }
+        }
+    }
+    Ok(())
+}
+
+// What stands for symbols that others are equal to, but for a number.
+#[derive(Drop)]
+struct Equals {
+    symbols: Vec<u32>,
+    forms: Vec<Form>,
+}
+
+impl Equals {
+    fn of(&self, symbol: u32) -> Option<&Form> {
+        for at in 0..self.symbols.len() {
+            if self.symbols.get(at) == Some(&symbol) {
+                return self.forms.get(at);
+            }
+        }
+        None
+    }
+
+    // A form with them in place of symbols.
+    fn put(&self, form: &Form, alloc: Global) -> Result<Form, Stop> {
+        let mut sum = Form::zero(alloc);
+        for term in form.terms() {
+            let scale = Scale {
+                factor: term.coefficient,
+                power: term.power,
+            };
+            let part = match term.symbol.and_then(|symbol| self.of(symbol)) {
+                Some(form) => form.scaled(&scale, alloc)?,
+                None => Form::term(*term, alloc)?,
+            };
+            sum = sum.add(&part, alloc)?;
+        }
+        Ok(sum)
+    }
+
+    // Entries with them in place of symbols.
+    fn put_entries(&self, entries: &[Entry], alloc: Global) -> Result<Vec<Entry>, Stop> {
+        let mut all = Vec::new(alloc);
+        for entry in entries {
+            match entry.symbol.and_then(|symbol| self.of(symbol)) {
+                Some(form) => {
+                    add_form(
+                        &mut all,
+                        form,
+                        entry.power,
+                        entry.variable,
+                        entry.coefficient,
+                    )?;
+                }
+                None => all.push(*entry)?,
+            }
+        }
+        Ok(all)
+    }
+}
+
+// The equal symbols by bounds.
+fn equal_symbols(bounds: &Bounds, alloc: Global) -> Result<Equals, Stop> {
+    let mut is_own = Vec::from_elem(alloc, true, bounds.size())?;
+    let mut symbols = Vec::new(alloc);
+    let mut forms = Vec::new(alloc);
+    for row in 1..bounds.size() {
+        let Some(symbol) = symbol_of(bounds, row) else {
+            continue;
+        };
+        if let Some((other, more)) = stands_for(bounds, row, &is_own) {
+            if let Some(mark) = is_own.get_mut(row) {
+                *mark = false;
+            }
+            symbols.push(symbol)?;
+            forms.push(shifted(symbol_of(bounds, other), more, alloc)?)?;
+        }
+    }
+    Ok(Equals { symbols, forms })
+}
+
+// What bounds of differences say of these symbols, at the least.
+fn differences(bounds: &Bounds, symbols: &[u32], alloc: Global) -> Result<Vec<Form>, Stop> {
+    let mut known: Vec<u32> = Vec::new(alloc);
+    for symbol in symbols {
+        if bounds.place(Some(*symbol)).is_some() {
+            known.push(*symbol)?;
+        }
+    }
+    least_forms(&bounds.of_symbols(&known, alloc)?, alloc)
+}
+
+// A demand: that what entries add up to is implied by constraints.
+#[derive(Drop)]
+pub struct Demand {
+    pub entries: Vec<Entry>,
+    pub constraints: Vec<Form>,
+}
+
+// The bounds that constraints give which bound differences; the others are put aside. Limits may be
+// left out.
+pub fn bounded(
+    constraints: &[Form],
+    limits: Limits,
+    alloc: Global,
+) -> Result<(Bounds, Vec<Form>), Stop> {
+    let mut bounds = Bounds::none(alloc)?;
+    let mut rough: Vec<Form> = Vec::new(alloc);
+    for form in constraints {
+        if !limits.take(form) {
+            continue;
+        }
+        if Difference::of(form).is_some() {
+            bounds.add(form, alloc)?;
+        } else {
+            rough.push(copied(form, alloc)?)?;
+        }
+    }
+    Ok((bounds, rough))
+}
+
+// The same demand with fewer constraints and symbols; none where the constraints can't all hold. Limits
+// may be left out.
+pub fn reduced(
+    entries: &[Entry],
+    constraints: &[Form],
+    limits: Limits,
+    alloc: Global,
+) -> Result<Option<Demand>, Stop> {
+    let (bounds, rough) = bounded(constraints, limits, alloc)?;
+    if bounds.is_void() {
+        return Ok(None);
+    }
+    let equals = equal_symbols(&bounds, alloc)?;
+    let entries = equals.put_entries(entries, alloc)?;
+    let mut kept: Vec<u32> = Vec::new(alloc);
+    for entry in &entries {
+        if let Some(symbol) = entry.symbol {
+            if !kept.contains(&symbol) {
+                kept.push(symbol)?;
+            }
+        }
+    }
+    let mut symbols = Vec::from_slice(alloc, &kept)?;
+    let mut forms: Vec<Form> = Vec::new(alloc);
+    for form in &rough {
+        let form = equals.put(form, alloc)?;
+        add_symbols(&mut symbols, &form)?;
+        add(&mut forms, form, alloc)?;
+    }
+    for form in differences(&bounds, &symbols, alloc)? {
+        if limits.take(&form) {
+            add(&mut forms, form, alloc)?;
+        }
+    }
+    let constraints = eliminated(forms, &kept, alloc)?;
+    Ok(Some(Demand {
+        entries,
+        constraints,
+    }))
+}
+
+// Whether two entries are the same.
+fn is_same_entry(one: &Entry, other: &Entry) -> bool {
+    one.symbol == other.symbol
+        && one.power == other.power
+        && one.variable == other.variable
+        && one.coefficient == other.coefficient
+}
+
+// Whether two forms are the same.
+fn is_same_form(one: &Form, other: &Form) -> bool {
+    one.terms() == other.terms()
+}
+
+impl Demand {
+    // Whether another demand, which asks for the same by no more constraints, is enough.
+    pub fn follows(&self, other: &Demand) -> bool {
+        let is_same = self.entries.len() == other.entries.len()
+            && self
+                .entries
+                .iter()
+                .zip(other.entries.iter())
+                .all(|(one, two)| is_same_entry(one, two));
+        is_same
+            && other.constraints.iter().all(|form| self
+                .constraints
+                .iter()
+                .any(|own| is_same_form(own, form)))
+    }
+}

@@ -1,0 +1,170 @@
+// Where a path of the search has come to.
+use crate::bounds::Bounds;
+use crate::fault::Stop;
+use crate::keys::{CODE_BEFORE, CODE_HERE, all_forms};
+use crate::reduced::{Limits, add_symbols, bounded};
+use std::alloc::Global;
+use teco_linear::{Difference, Form};
+use teco_paths::cut::copied_shape;
+use teco_paths::implied::{is_so, is_so_nearby};
+use teco_rows::applied::{copied, copied_constraints};
+use teco_rows::case::Case;
+use teco_rows::forms::single;
+use teco_rows::measure::Single;
+
+// With more constraints than this they are made fewer.
+const MOST_CONSTRAINTS: usize = 150;
+
+// The symbol that the form in a place of a case is, if it is one.
+fn symbol_in(case: &Case, place: u32) -> Option<u32> {
+    match case.forms.get(place as usize) {
+        Some(Some(form)) => form.terms().iter().find_map(|term| term.symbol),
+        _ => None,
+    }
+}
+
+// Whether a form speaks of a symbol.
+fn speaks_of(form: &Form, symbol: Option<u32>) -> bool {
+    symbol.is_some() && form.terms().iter().any(|term| term.symbol == symbol)
+}
+
+// A node by its number, a case that describes the states there, what it says of differences, and the
+// last peak on the way there.
+#[derive(Drop)]
+pub struct Trail {
+    pub number: usize,
+    pub case: Case,
+    pub bounds: Bounds,
+    pub peak: Option<usize>,
+    // Where it is noted which nodes it has passed, if it is.
+    pub passed: Option<usize>,
+    // Whether the case has only the constraints that bound no difference.
+    pub is_lean: bool,
+}
+
+impl Trail {
+    // Whether a form is at least 0, as far as bounds show it or, where they do not tell all, programs.
+    pub fn shows(&self, form: &Form, alloc: Global) -> Result<bool, Stop> {
+        if self.bounds.shows(form) {
+            return Ok(true);
+        }
+        if !self.bounds.is_rough() {
+            return Ok(false);
+        }
+        if !self.is_lean {
+            return Ok(is_so(&self.case, form, alloc)?);
+        }
+        Ok(is_so_nearby(&self.whole(alloc)?, form, alloc)?)
+    }
+
+    // The case with the constraints that bound differences, and no forms.
+    fn whole(&self, alloc: Global) -> Result<Case, Stop> {
+        let mut constraints = all_forms(&self.bounds, alloc)?;
+        let mut rough = copied_constraints(&self.case.constraints, alloc)?;
+        constraints.append(&mut rough)?;
+        Ok(Case {
+            symbols: self.case.symbols,
+            forms: Vec::new(alloc),
+            constraints,
+            shape: copied_shape(&self.case.shape, alloc)?,
+        })
+    }
+
+    // The symbols of the characters at the pointer and before it, where they are symbols.
+    fn code_symbols(&self) -> (Option<u32>, Option<u32>) {
+        (
+            symbol_in(&self.case, CODE_HERE),
+            symbol_in(&self.case, CODE_BEFORE),
+        )
+    }
+
+    // Leaves out of the case the constraints that bound differences, but those of characters: by these
+    // outcomes see that something is known of them.
+    pub fn make_lean(&mut self) {
+        self.is_lean = true;
+        let (here, before) = self.code_symbols();
+        self.case.constraints.retain(|form| {
+            Difference::of(form).is_none() || speaks_of(form, here) || speaks_of(form, before)
+        });
+    }
+
+    // Takes it that a form is at least 0.
+    pub fn assume(&mut self, form: &Form, alloc: Global) -> Result<(), Stop> {
+        self.bounds.add(form, alloc)?;
+        self.case.constraints.push(copied(form, alloc)?)?;
+        Ok(())
+    }
+
+    // In front of the buffer's end the line's end is behind the pointer.
+    pub fn sharpen(&mut self, alloc: Global) -> Result<(), Stop> {
+        let behind = single(&self.case, Single::Pointer, alloc)?.add(
+            &Form::constant(1, alloc)?,
+            alloc,
+        )?;
+        let ahead = single(&self.case, Single::Size, alloc)?.sub(&behind, alloc)?;
+        if self.bounds.shows(&ahead) {
+            let more = single(&self.case, Single::LineEnd, alloc)?.sub(&behind, alloc)?;
+            if !self.bounds.shows(&more) {
+                self.assume(&more, alloc)?;
+            }
+        }
+        Ok(())
+    }
+
+    // Makes the constraints fewer where there are many: symbols that neither a measure nor the path's
+    // start is given by are taken out of those that bound differences.
+    pub fn compact(&mut self, first: u32, alloc: Global) -> Result<(), Stop> {
+        if self.is_lean || self.case.constraints.len() <= MOST_CONSTRAINTS {
+            return Ok(());
+        }
+        let (bounds, mut rough) = bounded(&self.case.constraints, Limits::All, alloc)?;
+        let mut live: Vec<u32> = Vec::new(alloc);
+        for form in self.case.forms.iter().flatten() {
+            add_symbols(&mut live, form)?;
+        }
+        for form in &rough {
+            add_symbols(&mut live, form)?;
+        }
+        let mut known: Vec<u32> = Vec::new(alloc);
+        for symbol in bounds.symbols() {
+            if *symbol < first || live.contains(symbol) {
+                known.push(*symbol)?;
+            }
+        }
+        let mut constraints = all_forms(&bounds.of_symbols(&known, alloc)?, alloc)?;
+        constraints.append(&mut rough)?;
+        self.case.constraints = constraints;
+        Ok(())
+    }
+
+    // Adds the symbols of a form that are bounded.
+    fn add_live(&self, live: &mut Vec<u32>, form: &Form) -> Result<(), Stop> {
+        for term in form.terms() {
+            if let Some(symbol) = term.symbol {
+                if !live.contains(&symbol) && self.bounds.place(Some(symbol)).is_some() {
+                    live.push(symbol)?;
+                }
+            }
+        }
+        Ok(())
+    }
+
+    // Keeps of the bounds those of symbols that measures are given by.
+    pub fn forget(&mut self, alloc: Global) -> Result<(), Stop> {
+        let mut live: Vec<u32> = Vec::new(alloc);
+        for form in &self.case.forms {
+            if let Some(form) = form {
+                self.add_live(&mut live, form)?;
+            }
+        }
+        if self.is_lean {
+            for form in &self.case.constraints {
+                self.add_live(&mut live, form)?;
+            }
+        }
+        if live.len() < self.bounds.symbols().len() {
+            self.bounds = self.bounds.of_symbols(&live, alloc)?;
+        }
+        Ok(())
+    }
+}

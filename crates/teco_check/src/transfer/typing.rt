@@ -1,0 +1,72 @@
+//! T, V, ^A, ^T and =, and I and TAB.
+ghost use Rattle.std.specs.Prelude.{◌≡◌, ◌≤◌, ◌^◌, IfOk};
+ghost use Rattle.teco_verifier.specs.facts.Arguments as arguments;
+ghost use Rattle.teco_verifier.specs.facts.Insertions as insertions;
+ghost use Rattle.teco_verifier.specs.facts.Typings as typings;
+ghost use Rattle.teco_facts.specs.Numbers.{AreSmall};
+ghost use Rattle.teco_check.specs.Shifts as shifts;
+
+use teco_facts::{Facts, Foreseen, Margins, Number, Shift, Taken};
+use teco_model::kind::{Insertion, Typing};
+use teco_poly::Poly;
+use teco_verifier::Refusal;
+
+/// Two places that are known to lie in the buffer, if there are two.
+pub fn part_named(taken: Taken, margins: Margins) -> Result<(), Refusal>
+    ensures { result ≡ typings.part_named taken.first taken.value margins }
+{
+    if let (Some(m), Some(n)) = (taken.first, taken.value) {
+        let _from = Shift::to(m.place(), margins)?;
+        let _to = Shift::to(n.place(), margins)?;
+    }
+    Ok(())
+}
+
+/// An argument that a command needs.
+pub fn needed_value(value: Option<Number>) -> Result<Number, Refusal>
+    ensures { result ≡ arguments.needed_value value }
+{
+    value.ok_or(Refusal::Argument)
+}
+
+/// What types changes nothing.
+pub fn typing(typing: Typing, taken: Taken, facts: Facts) -> Result<Foreseen, Refusal>
+    ensures { result ≡ typings.typing typing taken facts }
+{
+    match typing {
+        Typing::Part => part_named(taken, facts.margins())?,
+        Typing::View | Typing::Message => {}
+        Typing::Byte | Typing::Number(_) => {
+            let _needed = needed_value(taken.value)?;
+        }
+    }
+    Ok(Foreseen::silent(facts))
+}
+
+// How much is inserted: its text, or a byte.
+fn inserted(insertion: Insertion, text: &[u8], value: Option<Number>) -> Result<usize, Refusal>
+    ensures value { result ≡ shifts.inserted insertion text.now value }
+    ensures within { IfOk result (λ n. n ≤ 2 ^ 63) }
+{
+    match (insertion, value) {
+        (Insertion::Text, None) => Ok(text.len()),
+        (Insertion::Text, Some(_)) if text.is_empty() => Ok(1),
+        (Insertion::Tab, None) => Ok(text.len() + 1),
+        _ => Err(Refusal::Argument),
+    }
+}
+
+/// An insertion of its text, or of a byte.
+pub fn insertion(
+    insertion: Insertion,
+    text: &[u8],
+    taken: Taken,
+    facts: Facts,
+) -> Result<Foreseen, Refusal>
+    requires { AreSmall facts.position.falls }
+    ensures { result ≡ insertions.insertion insertion text.now taken facts }
+{
+    let length = inserted(insertion, text, taken.value)?;
+    let shift = Shift::inserting(length, Poly::number(length as u64), facts.margins());
+    Foreseen::behind(&shift, facts)
+}

@@ -1,0 +1,9 @@
+use Rattle.std.proofs.Common.{arith}
+use Rattle.std.proofs.lemmas.Int.{to_z-of_z}
+use Rattle.teco_facts.proofs.place.is_linear.Goals as goal
+
+pub returns-then-at_most-2 : goal.returns-then-at_most-2
+returns-then-at_most-2 c = grind (arith, to_z-of_z)
+
+pub returns-else-at_most-2 : goal.returns-else-at_most-2
+returns-else-at_most-2 c = grind (arith, to_z-of_z)

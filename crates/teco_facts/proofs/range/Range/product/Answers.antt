@@ -1,0 +1,32 @@
+use Rattle.std.proofs.Common.{refl, w64}
+use Rattle.std.proofs.lemmas.Int.{to_z-of_z}
+use Rattle.teco_facts.proofs.Wholes.{low_whole, high_whole}
+use Rattle.teco_facts.proofs.range.Range.product.Goals as goal
+
+pub returns : goal.returns
+returns c =
+    let i_lo = low_whole c.self.invariant in
+    let i_hi = high_whole c.self.invariant in
+    let j_lo = low_whole c.other.invariant in
+    let j_hi = high_whole c.other.invariant in
+    let one = to_z-of_z w64 c.product.result (record { sfits = c.product.type_inv }) in
+    let two = to_z-of_z w64 c.product-2.result (record { sfits = c.product-2.type_inv }) in
+    let three = to_z-of_z w64 c.product-3.result (record { sfits = c.product-3.type_inv }) in
+    let four = to_z-of_z w64 c.product-4.result (record { sfits = c.product-4.type_inv }) in
+    let low_low = rw (i_lo, j_lo) at c.product.ensures in
+    let low_high = rw (i_lo, j_hi) at c.product-2.ensures in
+    let high_low = rw (i_hi, j_lo) at c.product-3.ensures in
+    let high_high = rw (i_hi, j_hi) at c.product-4.ensures in
+    rw (
+      c.hull.ensures,
+      one,
+      two,
+      three,
+      four,
+      low_low,
+      low_high,
+      high_low,
+      high_high,
+      ← c.self.view_is,
+      ← c.other.view_is,
+    ) refl

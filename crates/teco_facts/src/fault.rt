@@ -1,0 +1,31 @@
+//! Why a call on facts gives none.
+ghost use Rattle.std.specs.Prelude.{◌≡◌};
+ghost use Rattle.teco_facts.specs.declared.fault.Fault.TheVariants as fault;
+
+use std::alloc::AllocError;
+use teco_verifier::Refusal;
+
+/// Why there are no edges.
+#[derive(Clone, Copy)]
+pub enum Fault {
+    /// The rules refuse.
+    Refused(Refusal),
+    /// A growth was refused.
+    Memory,
+}
+
+impl From<Refusal> for Fault {
+    ghost from_gives = { λ why told. told ≡ fault.Refused why };
+
+    fn from(why: Refusal) -> Fault {
+        Fault::Refused(why)
+    }
+}
+
+impl From<AllocError> for Fault {
+    ghost from_gives = { λ _ told. told ≡ fault.Memory };
+
+    fn from(_refused: AllocError) -> Fault {
+        Fault::Memory
+    }
+}

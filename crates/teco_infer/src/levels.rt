@@ -1,0 +1,375 @@
+// Steps level by level: what falls in each turn of an outer iteration, and between two turns of it what
+// falls in those of the iterations inside.
+use crate::polynomials::whole;
+use crate::potentials::{Known, Sought, lowest, product};
+use crate::wanted::{Scope, Wanted};
+use std::alloc::Global;
+use teco_bounds::fault::Stop;
+use teco_bounds::legs::{Leg, Web};
+use teco_bounds::programs::Entry;
+use teco_bounds::reduced::Limits;
+use teco_linear::Form;
+use teco_simplex::{Relation, Sign, Values};
+
+// The most levels.
+const MOST_LEVELS: usize = 24;
+
+// The most pivots of a program.
+pub const PIVOTS: usize = 2000;
+
+// A level: the keys that paths lead round, the level that they are in, what falls at each key and how
+// much it is at most, what a fall is worth, what coming to the level is worth, and what is to come at
+// each key behind what is inside.
+#[derive(Drop)]
+pub struct Level {
+    pub keys: Vec<bool>,
+    pub parent: Option<usize>,
+    pub forms: Vec<Form>,
+    pub bound: Vec<u128>,
+    pub worth: Vec<u128>,
+    pub all: Vec<u128>,
+    pub tails: Vec<Vec<u128>>,
+}
+
+impl Level {
+    pub fn has(&self, key: usize) -> bool {
+        self.keys.get(key) == Some(&true)
+    }
+}
+
+// What is wanted of programs here.
+pub fn wanted_of(highest: u32) -> Wanted {
+    Wanted {
+        place: 0,
+        sign: 1,
+        degree: 1,
+        highest,
+        is_loose: true,
+        limits: Limits::None,
+        scope: Scope::All,
+        pivots: PIVOTS,
+        rows: 2000,
+        only: None,
+    }
+}
+
+// Levels, and of each path the one in which it is a turn, if it is one.
+#[derive(Drop)]
+pub struct Levels {
+    pub levels: Vec<Level>,
+    pub turn_of: Vec<Option<usize>>,
+}
+
+impl Levels {
+    // The innermost level that has both keys.
+    pub fn common(&self, one: usize, other: usize) -> Option<usize> {
+        (0..self.levels.len()).rev().find(|at| {
+            self.levels
+                .get(*at)
+                .is_some_and(|level| level.has(one) && level.has(other))
+        })
+    }
+
+    // The level inside another, or inside none, that a key is in.
+    pub fn inside(&self, parent: Option<usize>, key: usize) -> Option<&Level> {
+        self.levels
+            .iter()
+            .find(|level| level.parent == parent && level.has(key))
+    }
+
+    // Whether a path that is no turn of an outer level stays in a level.
+    fn is_within(&self, place: usize, leg: &Leg, keys: &[bool]) -> bool {
+        let has = |key: usize| keys.get(key) == Some(&true);
+        let is_left = matches!(self.turn_of.get(place), Some(None));
+        is_left && leg.source != 0 && has(leg.source) && leg.target.is_some_and(has)
+    }
+}
+
+// Which keys paths lead to from which, by those that are no turns yet: a row for each key.
+fn reached(web: &Web, levels: &Levels, alloc: Global) -> Result<Vec<Vec<bool>>, Stop> {
+    let count = web.starts.len();
+    let mut rows: Vec<Vec<bool>> = Vec::new(alloc);
+    for _ in 0..count {
+        rows.push(Vec::from_elem(alloc, false, count)?)?;
+    }
+    for (place, leg) in web.legs.iter().enumerate() {
+        if let (Some(None), Some(target)) = (levels.turn_of.get(place), leg.target) {
+            set(&mut rows, leg.source, target);
+        }
+    }
+    for middle in 0..count {
+        let Some(onward) = rows.get(middle) else {
+            break;
+        };
+        let onward = Vec::from_slice(alloc, onward)?;
+        for row in rows.iter_mut() {
+            if row.get(middle) == Some(&true) {
+                join(row, &onward);
+            }
+        }
+    }
+    Ok(rows)
+}
+
+// Marks a place of a row.
+fn set(rows: &mut [Vec<bool>], row: usize, column: usize) {
+    if let Some(mark) = rows.get_mut(row).and_then(|row| row.get_mut(column)) {
+        *mark = true;
+    }
+}
+
+// Marks in a row what is marked in another.
+fn join(row: &mut [bool], other: &[bool]) {
+    for (mark, more) in row.iter_mut().zip(other.iter()) {
+        *mark = *mark || *more;
+    }
+}
+
+// Keys that paths lead round, all that lead to one another.
+fn next_keys(rows: &[Vec<bool>], alloc: Global) -> Result<Option<Vec<bool>>, Stop> {
+    let is_there = |row: usize, column: usize| {
+        rows.get(row)
+            .is_some_and(|row| row.get(column) == Some(&true))
+    };
+    let Some(first) = (0..rows.len()).find(|key| is_there(*key, *key)) else {
+        return Ok(None);
+    };
+    let mut keys = Vec::new(alloc);
+    for key in 0..rows.len() {
+        keys.push(is_there(first, key) && is_there(key, first))?;
+    }
+    Ok(Some(keys))
+}
+
+// The node at which turns of a level begin.
+fn head_of(web: &Web, keys: &[bool]) -> usize {
+    let mut head = usize::MAX;
+    for (start, is_in) in web.starts.iter().zip(keys.iter()) {
+        if *is_in {
+            head = head.min(start.number);
+        }
+    }
+    head
+}
+
+// A number, and a variable, as entries.
+pub fn add_number(
+    entries: &mut Vec<Entry>,
+    variable: Option<usize>,
+    coefficient: i128,
+) -> Result<(), Stop> {
+    entries.push(Entry {
+        symbol: None,
+        power: 0,
+        variable,
+        coefficient,
+    })?;
+    Ok(())
+}
+
+// What is sought of a level: the program, and of each turn the variable that is 0 where something falls.
+#[derive(Drop)]
+struct Turns<'a> {
+    sought: Sought<'a>,
+    slacks: Vec<(usize, usize)>,
+}
+
+// That what is sought does not grow on a path of a level; a turn may make it fall.
+fn add_inside(turns: &mut Turns<'_>, place: usize, leg: &Leg, is_turn: bool) -> Result<(), Stop> {
+    let Some(target) = leg.target else {
+        return Ok(());
+    };
+    let sought = &mut turns.sought;
+    let alloc = sought.draft.alloc;
+    let web = sought.web;
+    let mut entries = Vec::new(alloc);
+    if let Some(start) = web.starts.get(leg.source) {
+        sought
+            .unknowns
+            .add(&mut entries, leg.source, &start.forms, 1, alloc)?;
+    }
+    sought
+        .unknowns
+        .add(&mut entries, target, &leg.forms, -1, alloc)?;
+    if is_turn {
+        let slack = sought.draft.variable(Sign::NonNegative)?;
+        sought.draft.bound(slack, Relation::AtMost, 1)?;
+        add_number(&mut entries, Some(slack), 1)?;
+        add_number(&mut entries, None, -1)?;
+        turns.slacks.push((place, slack))?;
+    }
+    sought.imply(leg.source, &leg.constraints, entries)
+}
+
+// That what is sought is within the polynomial where a path comes to a level.
+fn add_arrival(sought: &mut Sought<'_>, leg: &Leg, target: usize) -> Result<(), Stop> {
+    let alloc = sought.draft.alloc;
+    let mut entries = Vec::new(alloc);
+    sought.unknowns.add(&mut entries, 0, &leg.forms, 1, alloc)?;
+    sought
+        .unknowns
+        .add(&mut entries, target, &leg.forms, -1, alloc)?;
+    sought.imply(leg.source, &leg.constraints, entries)
+}
+
+// The program of a level.
+fn turns_of<'a>(
+    web: &'a Web,
+    known: &'a Known,
+    levels: &Levels,
+    keys: &[bool],
+    highest: u32,
+) -> Result<Turns<'a>, Stop> {
+    let alloc = web.record.alloc;
+    let mut turns = Turns {
+        sought: Sought::of_facts(web, known, &wanted_of(highest), alloc)?,
+        slacks: Vec::new(alloc),
+    };
+    let head = head_of(web, keys);
+    for (place, leg) in web.legs.iter().enumerate() {
+        let Some(target) = leg.target else {
+            continue;
+        };
+        if levels.is_within(place, leg, keys) {
+            let is_turn = web
+                .starts
+                .get(target)
+                .is_some_and(|start| start.number == head);
+            add_inside(&mut turns, place, leg, is_turn)?;
+        } else if keys.get(target) == Some(&true) {
+            add_arrival(&mut turns.sought, leg, target)?;
+        }
+    }
+    let mut slacks = Vec::new(alloc);
+    for (_place, slack) in &turns.slacks {
+        slacks.push(*slack)?;
+    }
+    let sought = &mut turns.sought;
+    sought.draft.minimise(&slacks)?;
+    sought.unknowns.minimise(&mut sought.draft, 1)?;
+    sought.settle()?;
+    Ok(turns)
+}
+
+// Marks the turns of a new level in which something falls, and says whether there are some.
+fn mark_turns(turns: &Turns<'_>, values: &Values, levels: &mut Levels) -> bool {
+    let mut is_less = false;
+    for (place, slack) in &turns.slacks {
+        if values.numerators.get(*slack) == Some(&0) {
+            is_less = true;
+            if let Some(mark) = levels.turn_of.get_mut(*place) {
+                *mark = Some(levels.levels.len());
+            }
+        }
+    }
+    is_less
+}
+
+// That what falls in a level is within its bound, at each of its keys.
+fn claims_of(level: &Level, alloc: Global) -> Result<Vec<Form>, Stop> {
+    let one = Form::constant(1, alloc)?;
+    let whole = product(&level.bound, &one, alloc)?;
+    let mut claims = Vec::new(alloc);
+    for (form, is_in) in level.forms.iter().zip(level.keys.iter()) {
+        claims.push(if *is_in {
+            lowest(&whole.sub(form, alloc)?, alloc)?
+        } else {
+            Form::zero(alloc)
+        })?;
+    }
+    Ok(claims)
+}
+
+// The level by the values of its program.
+fn level_by(
+    turns: &Turns<'_>,
+    values: &Values,
+    levels: &Levels,
+    keys: Vec<bool>,
+) -> Result<Level, Stop> {
+    let sought = &turns.sought;
+    let alloc = sought.draft.alloc;
+    let mut forms = Vec::new(alloc);
+    for key in 0..keys.len() {
+        forms.push(sought.unknowns.form(key, values, alloc)?)?;
+    }
+    let first = keys.iter().position(|is_in| *is_in).unwrap_or(0);
+    let parent = levels.common(first, first);
+    Ok(Level {
+        keys,
+        parent,
+        forms,
+        bound: whole(&sought.unknowns.polynomial(values, alloc)?, alloc)?,
+        worth: Vec::new(alloc),
+        all: Vec::new(alloc),
+        tails: Vec::new(alloc),
+    })
+}
+
+// A level of these keys, if something falls in some of its turns, and the work that is spent on it.
+fn tried(
+    web: &Web,
+    known: &Known,
+    levels: &mut Levels,
+    keys: Vec<bool>,
+    highest: u32,
+) -> Result<(Option<Level>, usize), Stop> {
+    let turns = turns_of(web, known, levels, &keys, highest)?;
+    let work = turns.sought.draft.work(PIVOTS);
+    if work > known.work {
+        return Ok((None, work));
+    }
+    let solved = turns.sought.draft.solved(PIVOTS)?;
+    let Some(values) = solved else {
+        return Ok((None, work));
+    };
+    if !mark_turns(&turns, &values, levels) {
+        return Ok((None, work));
+    }
+    let level = level_by(&turns, &values, levels, keys)?;
+    Ok((Some(level), work))
+}
+
+// Adds a level of these keys; says whether something falls in some of its turns.
+fn add_level(
+    web: &Web,
+    known: &mut Known,
+    levels: &mut Levels,
+    keys: Vec<bool>,
+    highest: u32,
+) -> Result<bool, Stop> {
+    let alloc = web.record.alloc;
+    let (found, work) = tried(web, known, levels, keys, highest)?;
+    known.spend(work)?;
+    match found {
+        Some(level) => {
+            known.add(claims_of(&level, alloc)?, &[], alloc)?;
+            levels.levels.push(level)?;
+            Ok(true)
+        }
+        None => Ok(false),
+    }
+}
+
+// All levels, if there are some.
+pub fn all_levels(
+    web: &Web,
+    known: &mut Known,
+    highest: u32,
+    alloc: Global,
+) -> Result<Option<Levels>, Stop> {
+    let mut levels = Levels {
+        levels: Vec::new(alloc),
+        turn_of: Vec::from_elem(alloc, None, web.legs.len())?,
+    };
+    for _ in 0..MOST_LEVELS {
+        let rows = reached(web, &levels, alloc)?;
+        let Some(keys) = next_keys(&rows, alloc)? else {
+            return Ok(Some(levels));
+        };
+        if !add_level(web, known, &mut levels, keys, highest)? {
+            return Ok(None);
+        }
+    }
+    Ok(None)
+}

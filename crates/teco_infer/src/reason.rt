@@ -1,0 +1,205 @@
+// What would show a condition that could not be shown, in the measures that claims speak of.
+use crate::written::{claim_of, claimed_facts};
+use std::alloc::Global;
+use teco_bounds::fault::{Refusal, Stop};
+use teco_bounds::keys::shifted;
+use teco_bounds::legs::{Start, Web};
+use teco_bounds::record::Open;
+use teco_bounds::search::{Keys, Search};
+use teco_claims::Claim;
+use teco_linear::{Form, Scale};
+
+/// Where a search has stopped: at which point, what is known there, and what more would do.
+#[derive(Drop)]
+pub struct Reason {
+    /// The condition that could not be shown, as a claim where its element stands, if it can be told.
+    pub needed: Option<Claim>,
+    /// The number of the element from which paths lead to the condition, or of the one that begins the
+    /// body of the loop whose steps have no bound, or of the first loop where what is held has none.
+    pub point: usize,
+    /// What would show the condition, as a claim there, if it can be told.
+    pub wanted: Option<Claim>,
+    /// What is known there.
+    pub known: Vec<Claim>,
+    /// The numbers of the elements on a way round the loop on which nothing is known to fall.
+    pub way: Vec<usize>,
+}
+
+// The number that a form is, if it speaks of nothing.
+fn number_of(form: &Form) -> Option<i64> {
+    match form.terms() {
+        [] => Some(0),
+        [term] if term.power == 0 && term.symbol.is_none() => {
+            i64::try_from(term.coefficient).ok()
+        }
+        _ => None,
+    }
+}
+
+// The measures' places of which a form is the difference, and how much more it is; where it is one
+// alone, the place of that.
+fn difference_in(form: &Form, forms: &[Option<Form>], alloc: Global) -> Result<Option<Form>, Stop> {
+    for (place, more) in forms.iter().enumerate().skip(1) {
+        let Some(more) = more else {
+            continue;
+        };
+        let rest = form.sub(more, alloc)?;
+        let one = shifted(u32::try_from(place).ok(), 0, alloc)?;
+        if let Some(number) = number_of(&rest) {
+            return Ok(Some(one.add(&shifted(None, number, alloc)?, alloc)?));
+        }
+        if let Some(less) = less_in(&rest, forms, alloc)? {
+            return Ok(Some(one.sub(&less, alloc)?));
+        }
+    }
+    match less_in(form, forms, alloc)? {
+        Some(less) => Ok(Some(Form::zero(alloc).sub(&less, alloc)?)),
+        None => Ok(None),
+    }
+}
+
+// What a form takes away, where that is a measure more or less a number.
+fn less_in(form: &Form, forms: &[Option<Form>], alloc: Global) -> Result<Option<Form>, Stop> {
+    for (place, less) in forms.iter().enumerate().skip(1) {
+        let Some(less) = less else {
+            continue;
+        };
+        if let Some(number) = number_of(&form.add(less, alloc)?) {
+            let one = shifted(u32::try_from(place).ok(), 0, alloc)?;
+            return Ok(Some(one.sub(&shifted(None, number, alloc)?, alloc)?));
+        }
+    }
+    Ok(None)
+}
+
+// The symbol that a form is, if it is just one.
+fn symbol_of(form: &Form) -> Option<u32> {
+    match form.terms() {
+        [term] if term.power == 0 && term.coefficient == 1 => term.symbol,
+        _ => None,
+    }
+}
+
+// The place of the measure that a symbol stands for where paths begin.
+fn place_at(start: &Start, symbol: u32) -> Option<u32> {
+    let is_it = |form: &Option<Form>| form.as_ref().and_then(symbol_of) == Some(symbol);
+    u32::try_from(start.forms.iter().position(is_it)?).ok()
+}
+
+// A form over the symbols that paths begin with, over the measures that these stand for there; none
+// where it speaks of other symbols.
+fn measured_at(form: &Form, start: &Start, alloc: Global) -> Result<Option<Form>, Stop> {
+    let mut sum = Form::zero(alloc);
+    for term in form.terms() {
+        let one = match term.symbol {
+            Some(symbol) => match place_at(start, symbol) {
+                Some(place) => shifted(Some(place), 0, alloc)?,
+                None => return Ok(None),
+            },
+            None => Form::constant(1, alloc)?,
+        };
+        let scale = Scale {
+            factor: term.coefficient,
+            power: term.power,
+        };
+        sum = sum.add(&one.scaled(&scale, alloc)?, alloc)?;
+    }
+    Ok(Some(sum))
+}
+
+// The number of the first cut point behind the entry, or 0.
+fn first_of(keys: &Keys) -> usize {
+    keys.keys.get(1).map_or(0, |key| key.number)
+}
+
+// A condition on paths from a point as a claim there, if it speaks of what is there alone.
+fn claim_at(search: &Search<'_>, start: &Start, open: &Open) -> Result<Option<Claim>, Stop> {
+    match measured_at(&open.wanted, start, search.alloc)? {
+        Some(form) => claim_of(search, start.number, &form),
+        None => Ok(None),
+    }
+}
+
+// What is known at a key, as claims.
+fn known_at(search: &Search<'_>, keys: &Keys, place: usize) -> Result<Vec<Claim>, Stop> {
+    let mut claims = Vec::new(search.alloc);
+    let (Some(key), Some(facts)) = (keys.keys.get(place), keys.facts.get(place)) else {
+        return Ok(claims);
+    };
+    for form in claimed_facts(search, key, facts, false)? {
+        if let Some(claim) = claim_of(search, key.number, &form)? {
+            claims.push(claim)?;
+        }
+    }
+    Ok(claims)
+}
+
+// A condition as a claim where its element stands.
+fn claim_there(search: &Search<'_>, open: &Open) -> Result<Option<Claim>, Stop> {
+    match difference_in(&open.wanted, &open.forms, search.alloc)? {
+        Some(form) => claim_of(search, open.number, &form),
+        None => Ok(None),
+    }
+}
+
+// Why a condition of an element could not be shown: the first one of it.
+fn unshown(
+    search: &Search<'_>,
+    web: &Web,
+    keys: &Keys,
+    number: usize,
+) -> Result<Option<Reason>, Stop> {
+    for open in &web.record.opens {
+        let Some(start) = web.starts.get(open.source) else {
+            continue;
+        };
+        if open.number == number {
+            return Ok(Some(Reason {
+                needed: claim_there(search, open)?,
+                point: start.number,
+                wanted: claim_at(search, start, open)?,
+                known: known_at(search, keys, open.source)?,
+                way: Vec::new(search.alloc),
+            }));
+        }
+    }
+    Ok(None)
+}
+
+// What is known where paths begin at the first key of a node, and which way round is told.
+fn endless(
+    search: &Search<'_>,
+    web: &Web,
+    keys: &Keys,
+    number: usize,
+    leg: Option<usize>,
+) -> Result<Option<Reason>, Stop> {
+    let leg = leg.and_then(|at| web.legs.get(at));
+    let first = keys.keys.iter().position(|key| key.number == number);
+    let Some(place) = leg.map(|leg| leg.source).or(first) else {
+        return Ok(None);
+    };
+    let last = leg.and_then(|leg| leg.passed);
+    Ok(Some(Reason {
+        needed: None,
+        point: number,
+        wanted: None,
+        known: known_at(search, keys, place)?,
+        way: web.record.way(last, search.alloc)?,
+    }))
+}
+
+// Why a search stops, as far as that can be told.
+pub fn reason_for(
+    search: &Search<'_>,
+    web: &Web,
+    keys: &Keys,
+    stop: Stop,
+) -> Result<Option<Reason>, Stop> {
+    match stop {
+        Stop::Refused(Refusal::Condition(number)) => unshown(search, web, keys, number),
+        Stop::Endless { number, leg } => endless(search, web, keys, number, leg),
+        Stop::Refused(Refusal::Size) => endless(search, web, keys, first_of(keys), None),
+        _ => Ok(None),
+    }
+}

@@ -1,0 +1,150 @@
+// How many turns of each iteration are still to come at most, where paths come to it.
+use crate::polynomials::whole;
+use crate::potentials::{Known, Sought, lowest, product};
+use crate::wanted::Wanted;
+use std::alloc::Global;
+use teco_bounds::fault::Stop;
+use teco_bounds::legs::{Leg, Web};
+use teco_bounds::measures::{FAMILIES, SINGLES, TURNS};
+use teco_bounds::programs::add_form;
+use teco_linear::Form;
+use teco_rows::applied::form_at;
+use teco_simplex::Values;
+
+// An iteration: where it begins, and the place of its turns.
+#[derive(Clone, Copy, PartialEq, Eq)]
+struct Iteration {
+    begin: usize,
+    place: u32,
+}
+
+// The place of the turns of an iteration, by how many are open round it.
+fn turns_place(around: usize) -> u32 {
+    u32::try_from(around)
+        .unwrap_or(0)
+        .saturating_mul(FAMILIES)
+        .saturating_add(SINGLES)
+        .saturating_add(TURNS)
+}
+
+// The iterations that keys are in, the outermost first.
+fn iterations(web: &Web, alloc: Global) -> Result<Vec<Iteration>, Stop> {
+    let mut all: Vec<Iteration> = Vec::new(alloc);
+    for depth in 0..web.depth() {
+        for start in &web.starts {
+            let at = start.around.len().checked_sub(depth.saturating_add(1));
+            if let Some((begin, _end)) = at.and_then(|at| start.around.get(at)) {
+                let iteration = Iteration {
+                    begin: *begin,
+                    place: turns_place(depth),
+                };
+                if !all.contains(&iteration) {
+                    all.push(iteration)?;
+                }
+            }
+        }
+    }
+    Ok(all)
+}
+
+// Whether a key is in an iteration.
+fn is_in(web: &Web, key: usize, iteration: Iteration) -> bool {
+    web.starts.get(key).is_some_and(|start| {
+        start
+            .around
+            .iter()
+            .any(|(begin, _end)| *begin == iteration.begin)
+    })
+}
+
+// That the turns are within the polynomial where a path comes to the iteration.
+fn add_arrival(sought: &mut Sought<'_>, leg: &Leg, turns: &Form) -> Result<(), Stop> {
+    let alloc = sought.draft.alloc;
+    let mut entries = Vec::new(alloc);
+    sought.unknowns.add(&mut entries, 0, &leg.forms, 1, alloc)?;
+    add_form(&mut entries, turns, 0, None, -1)?;
+    sought.imply(leg.source, &leg.constraints, entries)
+}
+
+// The program of the turns of an iteration; none where they are not counted.
+fn sought_of<'a>(
+    web: &'a Web,
+    known: &'a Known,
+    wanted: &Wanted,
+    iteration: Iteration,
+) -> Result<Option<Sought<'a>>, Stop> {
+    let alloc = web.record.alloc;
+    let mut sought = Sought::of_facts(web, known, wanted, alloc)?;
+    for leg in &web.legs {
+        let Some(target) = leg.target else {
+            continue;
+        };
+        if !is_in(web, target, iteration) || is_in(web, leg.source, iteration) {
+            continue;
+        }
+        match form_at(&leg.forms, iteration.place as usize, alloc)? {
+            Some(turns) => add_arrival(&mut sought, leg, &turns)?,
+            None => return Ok(None),
+        }
+    }
+    let program = &mut sought;
+    program.unknowns.minimise(&mut program.draft, 1)?;
+    program.settle()?;
+    Ok(Some(sought))
+}
+
+// That the turns are within the polynomial, at each key in the iteration.
+fn claims_of(
+    sought: &Sought<'_>,
+    values: &Values,
+    iteration: Iteration,
+) -> Result<Vec<Form>, Stop> {
+    let alloc = sought.draft.alloc;
+    let most = whole(&sought.unknowns.polynomial(values, alloc)?, alloc)?;
+    let one = Form::constant(1, alloc)?;
+    let mut divisor: Vec<u128> = Vec::new(alloc);
+    divisor.push(u128::try_from(values.denominator).unwrap_or(1))?;
+    let turns = product(&divisor, &Form::symbol(iteration.place, alloc)?, alloc)?;
+    let claim = lowest(&product(&most, &one, alloc)?.sub(&turns, alloc)?, alloc)?;
+    let mut claims = Vec::new(alloc);
+    for key in 0..sought.web.starts.len() {
+        claims.push(if is_in(sought.web, key, iteration) {
+            teco_rows::applied::copied(&claim, alloc)?
+        } else {
+            Form::zero(alloc)
+        })?;
+    }
+    Ok(claims)
+}
+
+// What is claimed of the turns of an iteration, if that is found, and the work that is spent on it.
+fn tried(
+    web: &Web,
+    known: &Known,
+    wanted: &Wanted,
+    iteration: Iteration,
+) -> Result<(Option<Vec<Form>>, usize), Stop> {
+    let Some(sought) = sought_of(web, known, wanted, iteration)? else {
+        return Ok((None, 0));
+    };
+    let work = sought.draft.work(wanted.pivots);
+    if work > known.work {
+        return Ok((None, work));
+    }
+    match sought.draft.solved(wanted.pivots)? {
+        Some(values) => Ok((Some(claims_of(&sought, &values, iteration)?), work)),
+        None => Ok((None, work)),
+    }
+}
+
+// Adds bounds on turns to what is known, each sought like this one.
+pub fn add_turns(web: &Web, known: &mut Known, wanted: &Wanted, alloc: Global) -> Result<(), Stop> {
+    for iteration in iterations(web, alloc)? {
+        let (claims, work) = tried(web, known, wanted, iteration)?;
+        known.spend(work)?;
+        if let Some(claims) = claims {
+            known.add(claims, &[], alloc)?;
+        }
+    }
+    Ok(())
+}

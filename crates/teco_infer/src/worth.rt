@@ -1,0 +1,375 @@
+// What steps are worth, level by level.
+use crate::levels::{Level, Levels, PIVOTS, add_number, all_levels, wanted_of};
+use crate::polynomials::{most, plus, times, whole};
+use crate::potentials::{Known, Promise, Sought, lowest, product, rounded_up};
+use crate::wanted::{Scope, Wanted};
+use std::alloc::Global;
+use teco_bounds::fault::Stop;
+use teco_bounds::legs::{Leg, Web};
+use teco_bounds::programs::add_form;
+use teco_bounds::steps::constant;
+use teco_linear::Form;
+use teco_rows::applied::form_at;
+use teco_simplex::{Sign, Values};
+
+// What paths cost: a number each, or its variable.
+#[derive(Drop)]
+struct Costs {
+    numbers: Vec<i128>,
+    variables: Vec<usize>,
+}
+
+// That the steps of a path are within its cost and what falls.
+fn add_cost(
+    sought: &mut Sought<'_>,
+    costs: &mut Costs,
+    leg: &Leg,
+    is_given: bool,
+) -> Result<(), Stop> {
+    let alloc = sought.draft.alloc;
+    let web = sought.web;
+    let mut entries = Vec::new(alloc);
+    if let Some(start) = web.starts.get(leg.source) {
+        sought
+            .unknowns
+            .add(&mut entries, leg.source, &start.forms, 1, alloc)?;
+    }
+    if let Some(target) = leg.target {
+        sought
+            .unknowns
+            .add(&mut entries, target, &leg.forms, -1, alloc)?;
+    }
+    let mut number = 0;
+    if let Some(steps) = form_at(&leg.forms, 0, alloc)? {
+        add_form(&mut entries, &steps, 0, None, -1)?;
+        number = constant(&steps).max(0);
+    }
+    costs.numbers.push(number)?;
+    if is_given {
+        add_number(&mut entries, None, number)?;
+    } else {
+        let cost = sought.draft.variable(Sign::NonNegative)?;
+        costs.variables.push(cost)?;
+        add_number(&mut entries, Some(cost), 1)?;
+    }
+    sought.imply(leg.source, &leg.constraints, entries)
+}
+
+// The program of costs: they are given, the number of its own steps for each path, or their sum is to
+// be least.
+fn costs_of<'a>(
+    web: &'a Web,
+    known: &'a Known,
+    is_given: bool,
+) -> Result<(Sought<'a>, Costs), Stop> {
+    let alloc = web.record.alloc;
+    let wanted = Wanted {
+        scope: Scope::Few,
+        ..wanted_of(1)
+    };
+    let mut sought = Sought::of_facts(web, known, &wanted, alloc)?;
+    let mut costs = Costs {
+        numbers: Vec::new(alloc),
+        variables: Vec::new(alloc),
+    };
+    for leg in &web.legs {
+        add_cost(&mut sought, &mut costs, leg, is_given)?;
+    }
+    let program = &mut sought;
+    if is_given {
+        program.unknowns.minimise(&mut program.draft, 1)?;
+    } else {
+        program.draft.minimise(&costs.variables)?;
+    }
+    program.settle()?;
+    Ok((sought, costs))
+}
+
+// What each path costs, rounded up, what falls besides at each key, the most of that, and the divisor of
+// both.
+#[derive(Drop)]
+struct Paid {
+    costs: Vec<Vec<u128>>,
+    forms: Vec<Form>,
+    most: Vec<u128>,
+    divisor: Vec<u128>,
+}
+
+impl Paid {
+    fn cost(&self, place: usize) -> &[u128] {
+        self.costs
+            .get(place)
+            .map_or(&[][..], |cost| cost.as_slice())
+    }
+}
+
+// What a path costs, rounded up.
+fn cost_at(costs: &Costs, values: &Values, place: usize) -> u128 {
+    let up = match costs.variables.get(place) {
+        Some(variable) => {
+            let numerator = values.numerators.get(*variable).copied().unwrap_or(0);
+            rounded_up(numerator, values.denominator)
+        }
+        None => costs.numbers.get(place).copied().unwrap_or(0),
+    };
+    u128::try_from(up).unwrap_or(0)
+}
+
+// A polynomial that is a number.
+fn number_of(number: u128, alloc: Global) -> Result<Vec<u128>, Stop> {
+    let mut polynomial = Vec::new(alloc);
+    polynomial.push(number)?;
+    Ok(polynomial)
+}
+
+// What paths cost, by the values of their program.
+fn paid_by(sought: &Sought<'_>, costs: &Costs, values: &Values) -> Result<Paid, Stop> {
+    let alloc = sought.draft.alloc;
+    let mut all = Vec::new(alloc);
+    for place in 0..costs.numbers.len() {
+        all.push(number_of(cost_at(costs, values, place), alloc)?)?;
+    }
+    let mut forms = Vec::new(alloc);
+    for key in 0..sought.web.starts.len() {
+        forms.push(sought.unknowns.form(key, values, alloc)?)?;
+    }
+    let most = whole(&sought.unknowns.polynomial(values, alloc)?, alloc)?;
+    let divisor = number_of(u128::try_from(values.denominator).unwrap_or(1), alloc)?;
+    Ok(Paid {
+        costs: all,
+        forms,
+        most,
+        divisor,
+    })
+}
+
+// What coming to a key is worth inside a level, or inside none, by what is to come behind that.
+fn arriving(
+    levels: &Levels,
+    parent: Option<usize>,
+    key: usize,
+    tails: &[Vec<u128>],
+    alloc: Global,
+) -> Result<Vec<u128>, Stop> {
+    let tail = tails.get(key).map_or(&[][..], |tail| tail.as_slice());
+    match levels.inside(parent, key) {
+        Some(level) => plus(&level.all, tail, alloc),
+        None => plus(&[], tail, alloc),
+    }
+}
+
+// What a path is worth inside a level, or inside none, if it stays there and is no turn.
+fn passing(
+    web: &Web,
+    levels: &Levels,
+    parent: Option<usize>,
+    place: usize,
+    known: (&Paid, &[Vec<u128>]),
+) -> Result<Option<Vec<u128>>, Stop> {
+    let (paid, tails) = known;
+    let alloc = web.record.alloc;
+    let Some(leg) = web.legs.get(place) else {
+        return Ok(None);
+    };
+    if levels.turn_of.get(place) != Some(&None) || leg.source == 0 {
+        return Ok(None);
+    }
+    let cost = paid.cost(place);
+    match leg.target {
+        Some(target) if levels.common(leg.source, target) == parent => {
+            let there = arriving(levels, parent, target, tails, alloc)?;
+            Ok(Some(plus(cost, &there, alloc)?))
+        }
+        None if parent.is_none() => Ok(Some(plus(cost, &[], alloc)?)),
+        _ => Ok(None),
+    }
+}
+
+// What is to come at each key behind the level inside this one that it is in.
+fn tails_of(
+    web: &Web,
+    levels: &Levels,
+    parent: Option<usize>,
+    paid: &Paid,
+    alloc: Global,
+) -> Result<Vec<Vec<u128>>, Stop> {
+    let count = web.starts.len();
+    let mut tails: Vec<Vec<u128>> = Vec::new(alloc);
+    for _ in 0..count {
+        tails.push(Vec::new(alloc))?;
+    }
+    for _ in 0..count {
+        for (place, leg) in web.legs.iter().enumerate() {
+            if let Some(worth) = passing(web, levels, parent, place, (paid, &tails))? {
+                let inside = levels.inside(parent, leg.source);
+                raise(inside, leg.source, &worth, &mut tails, alloc)?;
+            }
+        }
+    }
+    Ok(tails)
+}
+
+// Raises what is to come at a key, and at those of the same level inside.
+fn raise(
+    inside: Option<&Level>,
+    key: usize,
+    worth: &[u128],
+    tails: &mut [Vec<u128>],
+    alloc: Global,
+) -> Result<(), Stop> {
+    for (other, tail) in tails.iter_mut().enumerate() {
+        if other == key || inside.is_some_and(|level| level.has(other)) {
+            *tail = most(tail, worth, alloc)?;
+        }
+    }
+    Ok(())
+}
+
+// Finds what a fall in a level is worth, and what coming to it is.
+fn value(
+    web: &Web,
+    levels: &mut Levels,
+    at: usize,
+    paid: &Paid,
+    alloc: Global,
+) -> Result<(), Stop> {
+    let tails = tails_of(web, levels, Some(at), paid, alloc)?;
+    let mut worth: Vec<u128> = Vec::new(alloc);
+    let mut first: Vec<u128> = Vec::new(alloc);
+    for (place, leg) in web.legs.iter().enumerate() {
+        let Some(target) = leg.target else {
+            continue;
+        };
+        if !levels.levels.get(at).is_some_and(|level| level.has(target)) {
+            continue;
+        }
+        let there = arriving(levels, Some(at), target, &tails, alloc)?;
+        if levels.turn_of.get(place) == Some(&Some(at)) {
+            worth = most(&worth, &plus(paid.cost(place), &there, alloc)?, alloc)?;
+        } else {
+            first = most(&first, &there, alloc)?;
+        }
+    }
+    if let Some(level) = levels.levels.get_mut(at) {
+        level.all = plus(&times(&worth, &level.bound, alloc)?, &first, alloc)?;
+        level.worth = worth;
+        level.tails = tails;
+    }
+    Ok(())
+}
+
+// What is to come at a key, as a form over the places of measures.
+fn ahead(levels: &Levels, tops: &[Vec<u128>], key: usize, alloc: Global) -> Result<Form, Stop> {
+    let one = Form::constant(1, alloc)?;
+    let mut sum = match tops.get(key) {
+        Some(tail) => product(tail, &one, alloc)?,
+        None => Form::zero(alloc),
+    };
+    for level in &levels.levels {
+        if !level.has(key) {
+            continue;
+        }
+        if let (Some(form), Some(tail)) = (level.forms.get(key), level.tails.get(key)) {
+            sum = sum.add(&product(&level.worth, form, alloc)?, alloc)?;
+            sum = sum.add(&product(tail, &one, alloc)?, alloc)?;
+        }
+    }
+    Ok(sum)
+}
+
+// What all steps are worth, by what is to come at keys that are in no level, or behind one.
+fn all_of(
+    web: &Web,
+    levels: &Levels,
+    paid: &Paid,
+    tops: &[Vec<u128>],
+    alloc: Global,
+) -> Result<Vec<u128>, Stop> {
+    let mut first: Vec<u128> = Vec::new(alloc);
+    for (place, leg) in web.legs.iter().enumerate() {
+        if leg.source != 0 {
+            continue;
+        }
+        let there = match leg.target {
+            Some(target) => arriving(levels, None, target, tops, alloc)?,
+            None => Vec::new(alloc),
+        };
+        first = most(&first, &plus(paid.cost(place), &there, alloc)?, alloc)?;
+    }
+    plus(&times(&paid.divisor, &first, alloc)?, &paid.most, alloc)
+}
+
+// What is promised of the steps.
+fn promise_of(web: &Web, levels: &Levels, paid: &Paid, alloc: Global) -> Result<Promise, Stop> {
+    let tops = tails_of(web, levels, None, paid, alloc)?;
+    let all = all_of(web, levels, paid, &tops, alloc)?;
+    let one = Form::constant(1, alloc)?;
+    let whole = product(&all, &one, alloc)?;
+    let steps = Form::symbol(0, alloc)?;
+    let mut claims = Vec::new(alloc);
+    for key in 0..web.starts.len() {
+        let mut sum = ahead(levels, &tops, key, alloc)?.add(&steps, alloc)?;
+        sum = product(&paid.divisor, &sum, alloc)?;
+        if let Some(form) = paid.forms.get(key) {
+            sum = sum.add(form, alloc)?;
+        }
+        claims.push(lowest(&whole.sub(&sum, alloc)?, alloc)?)?;
+    }
+    let mut numerators = Vec::new(alloc);
+    for coefficient in &all {
+        numerators.push(i128::try_from(*coefficient).unwrap_or(i128::MAX))?;
+    }
+    let divisor = paid.divisor.first().copied().unwrap_or(1);
+    Ok(Promise {
+        place: 0,
+        sign: 1,
+        numerators,
+        divisor: i128::try_from(divisor).unwrap_or(1),
+        claims,
+    })
+}
+
+// What paths cost, if that is found, and the work that is spent on it.
+fn tried(web: &Web, known: &Known, is_given: bool) -> Result<(Option<Paid>, usize), Stop> {
+    let (sought, costs) = costs_of(web, known, is_given)?;
+    let work = sought.draft.work(PIVOTS);
+    if work > known.work {
+        return Ok((None, work));
+    }
+    let solved = sought.draft.solved(PIVOTS)?;
+    match solved {
+        Some(values) => Ok((Some(paid_by(&sought, &costs, &values)?), work)),
+        None => Ok((None, work)),
+    }
+}
+
+// What paths cost, if that is found: what is given is tried first.
+fn found_costs(web: &Web, known: &mut Known) -> Result<Option<Paid>, Stop> {
+    for is_given in [true, false] {
+        let (found, work) = tried(web, known, is_given)?;
+        known.spend(work)?;
+        if found.is_some() {
+            return Ok(found);
+        }
+    }
+    Ok(None)
+}
+
+// A promise of the steps by levels, if one is found.
+pub fn promised_by_levels(
+    web: &Web,
+    known: &mut Known,
+    highest: u32,
+    alloc: Global,
+) -> Result<Option<Promise>, Stop> {
+    let Some(mut levels) = all_levels(web, known, highest, alloc)? else {
+        return Ok(None);
+    };
+    let Some(paid) = found_costs(web, known)? else {
+        return Ok(None);
+    };
+    for at in (0..levels.levels.len()).rev() {
+        value(web, &mut levels, at, &paid, alloc)?;
+    }
+    Ok(Some(promise_of(web, &levels, &paid, alloc)?))
+}

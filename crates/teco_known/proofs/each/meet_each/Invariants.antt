@@ -1,8 +1,0 @@
-use Rattle.std.proofs.Common.{◌≡◌, ◌++◌, take, drop}
-use Rattle.teco_known.specs.Each.{each_met}
-use Rattle.teco_known.proofs.each.meet_each.Given as goal
-
--- the items before this one are joined
-abbrev pub invariant-loop-at : goal.invariant-loop-at
-invariant-loop-at g l = l.one ≡ each_met g.T.Meets.met (take l.at l.initial.one) (take l.at l.two)
-    ++ drop l.at l.initial.one

@@ -1,7 +1,0 @@
-use Rattle.std.proofs.Common.{ℕ, ℤ, ◌<◌, Option, get_or}
-use Rattle.teco_known.specs.Numbers.{IsSmallFall}
-use Rattle.teco_known.proofs.falls.are_small.Given as goal
-
--- those before this one are
-abbrev pub invariant-loop-at : goal.invariant-loop-at
-invariant-loop-at l = (k : ℕ) (d : Option ℤ) → k < l.at → IsSmallFall (get_or l.falls k d)

@@ -1,7 +1,0 @@
-use Rattle.std.proofs.Common.{◌≡◌, ◌++◌, map, take, drop}
-use Rattle.teco_verifier.specs.facts.Shifts.{fall_after}
-use Rattle.teco_known.proofs.falls.each_behind.Given as goal
-
--- the falls before this one are done
-abbrev pub invariant-loop-at : goal.invariant-loop-at
-invariant-loop-at l = l.falls ≡ map (fall_after l.by) (take l.at l.initial.falls) ++ drop l.at l.initial.falls

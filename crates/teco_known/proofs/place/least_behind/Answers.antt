@@ -1,7 +1,0 @@
-use Rattle.std.proofs.Common.{arith}
-use Rattle.std.proofs.lemmas.Int.{ints}
-use Rattle.teco_known.proofs.place.least_behind.Goals as goal
-
-pub least-requires-clause-high : goal.least-requires-clause-high
-least-requires-clause-high c = rw (c.apart.ensures, c.place.ensures.value, c.size.ensures)
-    (omega (arith, ints, c.requires))

@@ -1,3 +1,0 @@
--- What the proofs of the functions share.
-pub mod Searched
-pub mod Deleted

@@ -1,4 +1,0 @@
-use Rattle.teco_transfer.proofs.edges.search_edges.Goals as goal
-
-pub position_failed-failed-requires : goal.position_failed-failed-requires
-position_failed-failed-requires c = rw c.in_ok-taken.ensures.kept c.requires.small

@@ -1,0 +1,213 @@
+//! What would show a condition of a macro of which no claims are found, and what is known.
+
+use crate::linear::{register_at, text_at};
+use crate::mending::{Change, Mend, is_mended};
+use crate::naming::element_at;
+use crate::stating::{Stated, all_stated};
+use std::alloc::{AllocError, Global};
+use std::fmt;
+use teco_base::Reg;
+use teco_claimed::{NodePlace, Unshown, why_unshown};
+use teco_claims::Claim;
+use teco_explain::place_in;
+use teco_infer::Reason;
+use teco_library::Library;
+use teco_source::{Shown, Source};
+use teco_verifier::Refusal as Why;
+use teco_verify::Refusal;
+
+// Claims in words, one after the other.
+fn words_of(alloc: Global, claims: &[Claim]) -> Result<String, AllocError> {
+    let mut words = String::new(alloc);
+    for stated in &all_stated(alloc, claims)? {
+        if !words.is_empty() {
+            words.push_str("; ")?;
+        }
+        words.push_str(stated.words(alloc)?.as_str())?;
+    }
+    if words.is_empty() {
+        words.push_str("nothing")?;
+    }
+    Ok(words)
+}
+
+// A claim in words.
+fn words_of_claim(alloc: Global, claim: &Claim) -> Result<String, AllocError> {
+    let stated = Stated::of(alloc, claim)?;
+    stated.words(alloc)
+}
+
+// Where an element stands in the file, and what it is.
+fn shown_at(
+    alloc: Global,
+    source: &Source,
+    library: &Library,
+    at: NodePlace,
+) -> Result<String, AllocError> {
+    let place = place_in(source.text(), register_at(at.register), at.place).unwrap_or(0);
+    let position = source.position(place);
+    let (line, column) = (position.line, position.column);
+    let text = text_at(library, at);
+    let found = element_at(text, at.place);
+    if found.is_empty() {
+        return format!(in alloc; "{line}:{column}");
+    }
+    let shown = Shown(found);
+    format!(in alloc; "{line}:{column}, {shown}")
+}
+
+// A line behind others.
+fn push_line<D: fmt::Display + Drop>(
+    alloc: Global,
+    lines: &mut String,
+    line: D,
+) -> Result<(), AllocError> {
+    let between = if lines.is_empty() { "" } else { "\n" };
+    lines.push_str(format!(in alloc; "{between}  {line}")?.as_str())
+}
+
+// Says what is known at a point, and what would do.
+fn push_known(
+    alloc: Global,
+    lines: &mut String,
+    reason: &Reason,
+    point: &str,
+) -> Result<(), AllocError> {
+    if let Some(needed) = &reason.needed {
+        let needed = words_of_claim(alloc, needed)?;
+        push_line(alloc, lines, format_args!("needed here: {needed}"))?;
+    }
+    if let Some(wanted) = &reason.wanted {
+        let wanted = words_of_claim(alloc, wanted)?;
+        push_line(
+            alloc,
+            lines,
+            format_args!("it would do to know at {point}: {wanted}"),
+        )?;
+    }
+    let known = words_of(alloc, &reason.known)?;
+    push_line(alloc, lines, format_args!("known at {point}: {known}"))
+}
+
+// The elements of a way in a line, with two dots where it leaves some out.
+fn words_of_way(alloc: Global, library: &Library, way: &[NodePlace]) -> Result<String, AllocError> {
+    let mut words = String::new(alloc);
+    let mut next = way.first().copied();
+    for at in way {
+        if next != Some(*at) {
+            words.push_str(" .. ")?;
+        }
+        let text = text_at(library, *at);
+        let element = element_at(text, at.place);
+        let shown = Shown(element);
+        words.push_str(format!(in alloc; "{shown}")?.as_str())?;
+        next = Some(NodePlace {
+            register: at.register,
+            place: at.place.saturating_add(element.len()),
+        });
+    }
+    Ok(words)
+}
+
+// Is a macro accepted with a change at a place of a register's text?
+fn is_mended_at(alloc: Global, source: &Source, entry: Reg, at: NodePlace, mend: Mend) -> bool {
+    match register_at(at.register) {
+        Some(register) => {
+            let change = Change {
+                register,
+                place: at.place,
+                mend,
+            };
+            is_mended(alloc, source, entry, change)
+        }
+        None => false,
+    }
+}
+
+/// Where the element stands at which a macro is refused that may move or delete too far.
+pub fn moved_too_far(refusal: &Refusal) -> Option<NodePlace> {
+    match refusal {
+        Refusal::No {
+            why,
+            register: Some(register),
+            place,
+        } if matches!(why, Why::Place | Why::Deletion) => Some(NodePlace {
+            register: register.index(),
+            place: *place,
+        }),
+        _ => None,
+    }
+}
+
+// What would do at the place of an element, if there is one, or at this point, if that is found.
+fn mend_of(
+    alloc: Global,
+    source: &Source,
+    entry: Reg,
+    far: Option<NodePlace>,
+    point: NodePlace,
+) -> Option<Mend> {
+    if let Some(at) = far {
+        if is_mended_at(alloc, source, entry, at, Mend::Colon) {
+            return Some(Mend::Colon);
+        }
+    }
+    if is_mended_at(alloc, source, entry, point, Mend::Test) {
+        return Some(Mend::Test);
+    }
+    None
+}
+
+// What is known, and what would do.
+fn lines_of(
+    alloc: Global,
+    source: &Source,
+    library: &Library,
+    found: &Unshown,
+    mend: Option<Mend>,
+) -> Result<String, AllocError> {
+    let mut lines = String::new(alloc);
+    let point = shown_at(alloc, source, library, found.at)?;
+    push_known(alloc, &mut lines, &found.reason, point.as_str())?;
+    if !found.way.is_empty() {
+        let way = words_of_way(alloc, library, &found.way)?;
+        push_line(
+            alloc,
+            &mut lines,
+            format_args!("nothing is known to fall on this way: {way}"),
+        )?;
+    }
+    match mend {
+        Some(Mend::Colon) => push_line(
+            alloc,
+            &mut lines,
+            "with : before it the macro would be accepted",
+        )?,
+        Some(Mend::Test) => push_line(
+            alloc,
+            &mut lines,
+            format_args!("with .-Z; at {point} the macro would be accepted"),
+        )?,
+        None => {}
+    }
+    Ok(lines)
+}
+
+/// What would show a condition that could not be shown of a macro that is refused, what is known, and
+/// what change would do, in lines, as far as that can be told; `far` is where it may move or delete too
+/// far.
+pub fn reason_of(
+    alloc: Global,
+    source: &Source,
+    library: &Library,
+    entry: Reg,
+    far: Option<NodePlace>,
+) -> String {
+    match why_unshown(library, entry, alloc) {
+        Some(found) => {
+            let mend = mend_of(alloc, source, entry, far, found.at);
+            lines_of(alloc, source, library, &found, mend).unwrap_or(String::new(alloc))
+        }
+        None => String::new(alloc),
+    }
+}
