@@ -1,8 +1,8 @@
 //! What keeps the program from obeying its words.
 use std::alloc::{AllocError, AllocFailed};
 use std::io;
+use teco_console::AnswerFault;
 use teco_tools::ToolFault;
-use teco_verdicts::AnswerFault;
 use teco_words::WordsFault;
 use thiserror::Error;
 

@@ -9,13 +9,15 @@ use std::io::{Input, IsTerminal, Write};
 use std::process::ExitCode;
 use std::{env, io};
 use teco_applied::{Listing, Names, Task, apply_macro, trace_macro};
+use teco_console::{
+    Console, Outcome, Request, Setting, explain, explain_all, method_for, show, show_source,
+};
 use teco_edits::{InPlace, choose, edit_files};
 use teco_examples::{Tests, fuzz_macro, test_examples};
 use teco_pages::{Closing, FileHost};
 use teco_tools::{OUTPUT, Prompting, Run, Start, Streams, run_scripts};
 use teco_verdicts::{
-    Console, Outcome, Request, Setting, check_macro, explain, explain_all, explain_macro,
-    method_for, show, show_source, verify_library, verify_library_as_json, verify_macro,
+    check_macro, explain_macro, verify_library, verify_library_as_json, verify_macro,
     verify_macro_as_json,
 };
 use teco_words::{Arguments, WordsFault};

@@ -14,7 +14,7 @@ use Rattle.teco_model.specs.State.{World, held_length}
 use Rattle.teco_model.specs.declared.stop.Stop.{Stop}
 use Rattle.teco_poly.specs.Laws.{ValuesGrow}
 use Rattle.teco_poly.specs.Polynomial.{value}
-use Rattle.teco_verdicts.specs.Premise.{IsPremise, IsWithin}
+use Rattle.teco_console.specs.Premise.{IsPremise, IsWithin}
 
 module _ (grow : ValuesGrow) (terms : Terms) (call : Call) (strict : AreStrict terms call) where
   -- where the last N is no less

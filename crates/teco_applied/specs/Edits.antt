@@ -18,8 +18,8 @@ use Rattle.teco_tools.specs.Scripts.{new_machine}
 use Rattle.teco_tools.specs.Starts.{IsBare}
 use Rattle.teco_tools.specs.declared.fault.ToolFault.{ToolFault}
 use Rattle.teco_tools.specs.declared.fault.ToolFault.TheVariants as tool
-use Rattle.teco_verdicts.specs.declared.outcome.Outcome.{Outcome}
-use Rattle.teco_verdicts.specs.declared.outcome.Outcome.TheVariants.{Done, Coded, Refused}
+use Rattle.teco_console.specs.declared.outcome.Outcome.{Outcome}
+use Rattle.teco_console.specs.declared.outcome.Outcome.TheVariants.{Done, Coded, Refused}
 
 -- the macro of a job, and the argument that it is given
 abbrev pub call_of : Job → Call

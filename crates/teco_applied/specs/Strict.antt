@@ -10,7 +10,7 @@ use Rattle.teco_model.specs.Run.{IsSure}
 use Rattle.teco_model.specs.State.{World}
 use Rattle.teco_model.specs.declared.stop.Stop.{Stop}
 use Rattle.teco_poly.specs.Polynomial.{value}
-use Rattle.teco_verdicts.specs.Premise.{IsPremise}
+use Rattle.teco_console.specs.Premise.{IsPremise}
 
 -- a macro that is to be run on these terms
 abbrev pub on_terms : Terms → Call → Order

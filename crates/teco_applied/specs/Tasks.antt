@@ -12,8 +12,8 @@ use Rattle.teco_tools.specs.declared.fault.ToolFault.{ToolFault}
 use Rattle.teco_verdicts.specs.Accepted.{IsOf, IsProved, promise_of}
 use Rattle.teco_verdicts.specs.Lines.{refused_line}
 use Rattle.teco_verdicts.specs.declared.acceptance.Accepted.{Accepted}
-use Rattle.teco_verdicts.specs.declared.outcome.Outcome.{Outcome}
-use Rattle.teco_verdicts.specs.declared.outcome.Outcome.TheVariants.{Done, Coded, Refused}
+use Rattle.teco_console.specs.declared.outcome.Outcome.{Outcome}
+use Rattle.teco_console.specs.declared.outcome.Outcome.TheVariants.{Done, Coded, Refused}
 use Rattle.teco_verify.specs.declared.refusal.Refusal.{Refusal}
 
 -- The macro of an entry of a library is accepted: its table is closed, or its claims hang together, with the argument

@@ -1,7 +1,7 @@
 -- On which terms the runs of a macro begin.
 use Rattle.std.specs.Prelude.{◌≡◌, ℕ, ◌+◌, Bool, true, Option, Some, None}
 use Rattle.teco_applied.specs.declared.watching.Terms.{Terms}
-use Rattle.teco_verdicts.specs.Premise.{IsWithin}
+use Rattle.teco_console.specs.Premise.{IsWithin}
 
 -- at an N that is told the promise holds
 abbrev pub IsPromised : Terms → Option ℕ → Type 0

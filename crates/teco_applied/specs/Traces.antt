@@ -15,8 +15,8 @@ use Rattle.teco_run.specs.Holdings.{Holdings}
 use Rattle.teco_run.specs.Executions.{Execution, state_at}
 use Rattle.teco_run.specs.declared.site.Stopped.{Stopped}
 use Rattle.teco_tools.specs.declared.fault.ToolFault.{ToolFault}
-use Rattle.teco_verdicts.specs.declared.outcome.Outcome.{Outcome}
-use Rattle.teco_verdicts.specs.declared.outcome.Outcome.TheVariants.{Done, Coded, Refused}
+use Rattle.teco_console.specs.declared.outcome.Outcome.{Outcome}
+use Rattle.teco_console.specs.declared.outcome.Outcome.TheVariants.{Done, Coded, Refused}
 
 -- the steps that are listed are those of the call of the macro
 pub record FollowsCall (task : Task) (most : ℕ) (old new : Holdings) (before after : Telling) (followed : Followed)

@@ -10,8 +10,8 @@ ghost use Rattle.teco_apply.specs.Touched.{EditTouches};
 ghost use Rattle.teco_apply.specs.declared.editing.TheConstants.{NAME};
 ghost use Rattle.teco_pages.specs.HostFiles.{Notes};
 ghost use Rattle.teco_run.specs.Holdings.{Joined};
-ghost use Rattle.teco_verdicts.specs.Premise.{IsPremise};
-ghost use Rattle.teco_verdicts.specs.declared.outcome.Outcome.TheVariants.{Refused};
+ghost use Rattle.teco_console.specs.Premise.{IsPremise};
+ghost use Rattle.teco_console.specs.declared.outcome.Outcome.TheVariants.{Refused};
 ghost use Rattle.teco_verdicts.specs.Accepted.{promise_of};
 
 use crate::bound::Bound;
@@ -27,6 +27,7 @@ use teco_apply::{
     Edit, Edited, Ending, Observer, Pages, Rewrite, Rewritten, edit_file, edit_in_place,
 };
 use teco_base::Reg;
+use teco_console::{Console, Grouped, Known, Outcome, Request, Voice};
 use teco_model::Needs;
 use teco_pages::{Host, MemHost};
 use teco_run::Machine;
@@ -34,7 +35,7 @@ use teco_session::SessionFault;
 use teco_source::Shown;
 use teco_text::GapText;
 use teco_tools::{Reporting, Start, ToolFault, machine_with, prepare, tell_anyway, told_name};
-use teco_verdicts::{Accepted, Console, Grouped, Known, Outcome, Request, Setup, Voice};
+use teco_verdicts::{Accepted, Setup};
 
 /// A macro of a library, and how it is run on files.
 #[derive(Clone, Copy)]

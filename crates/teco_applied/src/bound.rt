@@ -1,11 +1,11 @@
 //! How many commands a run takes at most.
 ghost use Rattle.std.specs.Prelude.{◌≡◌, IfSome};
 ghost use Rattle.teco_poly.specs.Polynomial.{value};
-ghost use Rattle.teco_verdicts.specs.Premise.{IsPremise, IsWithin};
+ghost use Rattle.teco_console.specs.Premise.{IsPremise, IsWithin};
 
+use teco_console::Premise;
 use teco_poly::Poly;
 use teco_promise::Promise;
-use teco_verdicts::Premise;
 
 /// The most commands of a run that are promised, and up to which N it takes no more.
 #[derive(Clone, Copy)]

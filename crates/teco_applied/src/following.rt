@@ -6,13 +6,13 @@ ghost use Rattle.teco_run.specs.Executions.{state_at};
 use std::alloc::{AllocError, Global};
 use std::fmt;
 use std::io::Write;
+use teco_console::{Console, element_at};
 use teco_model::Stop;
 use teco_pages::Host;
 use teco_run::{Execution, Machine, Progress, Site, Stopped};
 use teco_source::{Position, Shown};
 use teco_text::GapText;
 use teco_tools::{ToolFault, size_of};
-use teco_verdicts::{Console, element_at};
 
 // Where a run stands, and the element there, as they are listed.
 fn shown_site(

@@ -1,17 +1,18 @@
 //! What a task is about: a macro of a library.
 ghost use Rattle.std.specs.Prelude.{◌≡◌, IfOk, OnOk};
 ghost use Rattle.teco_applied.specs.Tasks.{IsAccepted, Prints, ReadsSubject, Refuses};
-ghost use Rattle.teco_verdicts.specs.declared.outcome.Outcome.TheVariants.{Refused};
+ghost use Rattle.teco_console.specs.declared.outcome.Outcome.TheVariants.{Refused};
 
 use crate::applying::Task;
 use std::alloc::Global;
 use std::io::{Input, Write};
 use std::rt::Files;
 use teco_base::Reg;
+use teco_console::{AnswerFault, Console, Outcome, Sourced, Voice, lint};
 use teco_tools::{Case, ToolFault};
 use teco_verdicts::{
-    Accepted, AnswerFault, Claim, Console, Outcome, Sourced, Voice, accepted, lint, read_claim,
-    read_library_for, refuse_claim, refuse_macro, tell_no_text, warn_no_text,
+    Accepted, Claim, accepted, read_claim, read_library_for, refuse_claim, refuse_macro,
+    tell_no_text, warn_no_text,
 };
 use teco_verify::Refusal;
 

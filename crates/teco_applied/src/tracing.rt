@@ -12,6 +12,7 @@ use std::io::{Input, Write};
 use std::rt::Files;
 use teco_apply::Pages;
 use teco_base::{Code, LIMIT};
+use teco_console::{AnswerFault, Console, Outcome, Premise, Sourced, letters};
 use teco_explain::note_of_code;
 use teco_library::Library;
 use teco_model::Stop;
@@ -19,7 +20,7 @@ use teco_pages::Host;
 use teco_run::{Machine, Stopped};
 use teco_text::GapText;
 use teco_tools::{Reporting, ToolFault, code_of, machine_with, prepare, tell_macro, tell_trouble};
-use teco_verdicts::{AnswerFault, Console, Outcome, Premise, Sourced, letters, read_library_for};
+use teco_verdicts::{read_library_for, verified_by};
 
 /// What stands over the steps.
 const HEAD: &str = "step\tplace\telement\tpointer\tlength\tanswer\ttyped\n";
@@ -265,9 +266,7 @@ fn is_refused<O: Write + Drop, E: Write + Drop>(
     task: &Task<'_, '_>,
     sourced: &Sourced,
 ) -> Result<bool, ToolFault> {
-    let Ok(accepted) = sourced
-        .method
-        .verify(console.alloc, &sourced.library, task.entry)
+    let Ok(accepted) = verified_by(console.alloc, &sourced.library, task.entry, sourced.method)
     else {
         return Ok(false);
     };

@@ -7,6 +7,7 @@ use std::fmt;
 use std::io::Write;
 use teco_apply::{Asked, Guard, Observer};
 use teco_base::Code;
+use teco_console::{Grouped, Voice, letters};
 use teco_explain::note_of_code;
 use teco_pages::Host;
 use teco_run::{Machine, Stop, Stopped};
@@ -14,7 +15,6 @@ use teco_session::Listener;
 use teco_source::Shown;
 use teco_text::TextStore;
 use teco_tools::{Reporting, code_of, tell_macro, tell_trouble, told_name};
-use teco_verdicts::{Grouped, Voice, letters};
 
 /// What was seen of the runs on a file. A number that can't be told is none.
 #[derive(Clone, Copy, Debug, PartialEq, Eq)]

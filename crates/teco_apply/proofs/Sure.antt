@@ -1,11 +1,11 @@
 -- A verified macro is sure to end.
 use Rattle.std.proofs.Common.{◌≡◌, ℕ, zero, suc, ◌<◌, ◌≤◌, ℤ, pos, negsuc, List, [], ◌∷◌, length, Option, Some, None}
-use Rattle.std.proofs.Common.{Result, Ok, option_map, IsSome, refl, subst, arith, get_or}
+use Rattle.std.proofs.Common.{option_map, IsSome, refl, subst, sym, arith, get_or}
 use Rattle.std.proofs.lemmas.Bool.Decides.{nat_tests}
 use Rattle.std.specs.List.{sum_by}
 use Rattle.std.proofs.lemmas.List.Sums.{sum_by-cons}
 use Rattle.teco_apply.specs.Sure.{Call, Calls, HasFiles, IsReady, IsTaken, IsThere, MOST, Runs}
-use Rattle.teco_apply.specs.Sure.{TakesArgument}
+use Rattle.teco_apply.specs.Sure.{TakesArgument, TypesWithin}
 use Rattle.teco_apply.specs.Sure.{call_text, kept_loaded}
 use Rattle.teco_base.specs.Register.{register_name}
 use Rattle.teco_base.specs.declared.TheConstants.{REGISTERS}
@@ -28,12 +28,11 @@ use Rattle.teco_law_facts.specs.Laws.{IsEntry}
 use Rattle.teco_model.specs.Paging.{unread_of}
 use Rattle.teco_law_facts.specs.SoundSteps.{AreOpen}
 use Rattle.teco_run.specs.Holdings.{Holdings, Joined}
-use Rattle.teco_law_tables.specs.Ending.{EndsWithin}
 use Rattle.teco_law_tables.specs.Keeping.{LeavesOpen, RunsLeaveOpen}
-use Rattle.teco_law_tables.specs.Sure.{RunsAreSure}
+use Rattle.teco_law_tables.specs.Sure.{ComesTo, RunsAreSure, RunsEndOnce}
 use Rattle.teco_law_tables.specs.Verified as tables
 use Rattle.teco_law_tables.specs.Verified.{n_of}
-use Rattle.teco_promise.specs.Promise.{EachRunEnds}
+use Rattle.teco_promise.specs.Promise.{EachRunEnds, EndsTyping, IsTypedWithin, most_typed}
 
 -- ---- N
 -- one of some pairs holds no more than all
@@ -73,6 +72,7 @@ are_open needs kept held files same input output = record {
 pub record Laws : Type 0 where
   pub sure : RunsAreSure
   pub leave : RunsLeaveOpen
+  pub once : RunsEndOnce
 
 -- where a macro is called, of which this is promised
 pub record IsCalled (call : Call) (kept : Kept) (held : Held) : Type 0 where
@@ -87,6 +87,13 @@ pub record IsCalled (call : Call) (kept : Kept) (held : Held) : Type 0 where
 -- a register's name is a byte
 pub name_small : (r : ℕ) → r < REGISTERS → register_name r < 256
 name_small r small = grind (arith, nat_tests)
+
+-- what comes to that end has typed no more
+typed_at : (typed : Option ℕ) (n : ℕ) (end : World) (answer : Stop) (new : World) → IsTypedWithin typed end.kept
+    → ComesTo n end answer new → TypesWithin typed answer new
+typed_at typed n end (stop.Ended m) new within comes =
+    subst (λ (w : World). IsTypedWithin typed w.kept) (sym comes.1) within
+typed_at typed n end answer new within comes = tt
 
 module _ (laws : Laws) (call : Call) (kept : Kept) (held : Held) (is : IsCalled call kept held) (files : HostFiles)
     (bytes : AreOfBytes files) (same : IsSameOutput held files)
@@ -110,12 +117,14 @@ module _ (laws : Laws) (call : Call) (kept : Kept) (held : Held) (is : IsCalled 
 
   -- with an argument that is asked for
   ends : (given : Option ℕ) → IsAsked call.promise.argument given
-      → EndsWithin (start (call_given call.promise.entry given) now) (value call.promise.commands (n_of now))
+      → EndsTyping (start (call_given call.promise.entry given) now) (value call.promise.commands (n_of now))
+      (most_typed call.promise.types (n_of now) (length kept.typed))
   ends given asked = is.sound given now asked entered opened_there
 
   pub ends_with : (given : Option ℤ) → IsTaken call.promise.argument given
-      → EndsWithin (start (call_text call.promise.entry given) (world kept held files))
+      → EndsTyping (start (call_text call.promise.entry given) (world kept held files))
       (value call.promise.commands (n_of (world kept held files)))
+      (most_typed call.promise.types (n_of (world kept held files)) (length kept.typed))
   ends_with None taken = ends None taken
   ends_with (Some (pos n)) taken = ends (Some n) taken
   ends_with (Some (negsuc n)) taken = absurd taken
@@ -126,7 +135,7 @@ module _ (laws : Laws) (call : Call) (kept : Kept) (held : Held) (is : IsCalled 
   is_sure answer new stops =
       laws.sure (start (call_text call.promise.entry call.given) (world kept held files))
       (value call.promise.commands (n_of (world kept held files))) MOST answer new
-      (ends_with call.given is.taken) ready.counts stops
+      (ends_with call.given is.taken).ends ready.counts stops
 
   pub is_left_open : (answer : Stop) (new : World)
       → Stops (start (call_text call.promise.entry call.given) (world kept held files)) MOST answer new
@@ -134,7 +143,16 @@ module _ (laws : Laws) (call : Call) (kept : Kept) (held : Held) (is : IsCalled 
   is_left_open answer new stops =
       laws.leave (start (call_text call.promise.entry call.given) (world kept held files))
       (value call.promise.commands (n_of (world kept held files))) MOST answer new
-      (ends_with call.given is.taken) ready.counts stops
+      (ends_with call.given is.taken).ends ready.counts stops
+
+  pub is_typed : (answer : Stop) (new : World)
+      → Stops (start (call_text call.promise.entry call.given) (world kept held files)) MOST answer new
+      → TypesWithin (most_typed call.promise.types (n_of (world kept held files)) (length kept.typed)) answer new
+  is_typed answer new stops =
+      let found = ends_with call.given is.taken in
+      typed_at _ found.ends.steps found.ends.new answer new found.types
+      (laws.once (start (call_text call.promise.entry call.given) (world kept held files)) found.ends.steps MOST
+      found.ends.new answer new found.ends.ends (omega (arith, found.ends.few, ready.counts)) stops)
 
 surely : Laws → (call : Call) (kept : Kept) (held : Held) → IsCalled call kept held → (files : HostFiles)
     → AreOfBytes files → (answer : Stop) (new : World) → IsSameOutput held files
@@ -145,6 +163,7 @@ surely laws call kept held is files bytes answer new same stops = record {
   stops = stops;
   sure = λ ready. is_sure laws call kept held is files bytes same ready answer new stops;
   keeps = λ ready. is_left_open laws call kept held is files bytes same ready answer new stops;
+  types = λ ready. is_typed laws call kept held is files bytes same ready answer new stops;
 }
 
 pub calls : Laws → (call : Call) (answer : Stop) (a b : Holdings) (f g : Telling) → IsCalled call a.kept a.held

@@ -141,7 +141,7 @@ module _ (fit : NotesFit) (laws : Laws) (call : Call) (a : Holdings) (is : IsCal
   comes-to-none : (files : HostFiles) → AreOfBytes files → IsSameOutput a.held files → ready (world a.kept a.held files)
       → (event : Event) → ComesTo event (from (world a.kept a.held files)) → ⊥
   comes-to-none files bytes same enough event comes =
-      let within = ends_with laws call a.kept a.held is files bytes same enough call.given is.taken in
+      let within = (ends_with laws call a.kept a.held is files bytes same enough call.given is.taken).ends in
       let began = from (world a.kept a.held files) in
       let small = no_later began within.steps comes.steps within.new comes.there within.ends comes.reached in
       let none = quiet_last began within.steps comes.steps within.new comes.there within.none within.ends comes.reached

@@ -1,6 +1,6 @@
 -- What the run of a verified macro does.
-use Rattle.std.specs.Prelude.{◌≡◌, ℕ, ◌+◌, ◌-◌, ◌^◌, ◌≤◌, ℤ, pos, negsuc, List, ◌++◌, Bool, true, Option, Some, None}
-use Rattle.std.specs.Prelude.{Result, Ok, Err, IsSome, ⊤}
+use Rattle.std.specs.Prelude.{◌≡◌, ℕ, ◌+◌, ◌-◌, ◌^◌, ◌≤◌, ℤ, pos, negsuc, List, ◌++◌, length, Bool, true}
+use Rattle.std.specs.Prelude.{Option, Some, None, Result, Ok, Err, IsSome, ⊤}
 use Rattle.teco_base.specs.NumberText.{decimal}
 use Rattle.teco_base.specs.declared.TheConstants.{LIMIT}
 use Rattle.teco_model.specs.Macros.{Library, call_of, ArgumentRange, IsAsked, Needs}
@@ -13,7 +13,7 @@ use Rattle.teco_law_tables.specs.Keeping.{LeavesOpen}
 use Rattle.teco_law_tables.specs.Verified.{n_of}
 use Rattle.teco_pages.specs.Held.{Held}
 use Rattle.teco_poly.specs.Polynomial.{value}
-use Rattle.teco_promise.specs.Promise.{Promise}
+use Rattle.teco_promise.specs.Promise.{IsTypedWithin, Promise, most_typed}
 use Rattle.teco_apply.specs.declared.ready.NotReady.{NotReady}
 use Rattle.teco_apply.specs.declared.ready.NotReady.TheVariants.{NoInput, NoOutput, Argument, Memory}
 
@@ -52,13 +52,22 @@ pub record IsReady (promise : Promise) (world : World) : Type 0 where
   pub fits : value promise.size (n_of world) ≤ LIMIT
   pub counts : value promise.commands (n_of world) ≤ MOST
 
+-- at its end no more bytes are typed than that
+abbrev pub TypesWithin : Option ℕ → Stop → World → Type 0
+TypesWithin typed (stop.Ended n) new = IsTypedWithin typed new.kept
+TypesWithin typed answer new = ⊤
+
 -- The macro is called as the command machine does it, with an argument that it takes. Where it is ready, it is sure to
--- end within the printed number of commands, and at its end the files are as open as they were, and no more is unread.
+-- end within the printed number of commands, and at its end the files are as open as they were, no more is unread, and
+-- no more bytes are typed than are told.
 pub record Calls (call : Call) (answer : Stop) (old new : World) : Type 0 where
   pub taken : TakesArgument call
   pub stops : Stops (start (call_text call.promise.entry call.given) old) MOST answer new
   pub sure : IsReady call.promise old → IsSure (value call.promise.commands (n_of old)) answer
   pub keeps : IsReady call.promise old → LeavesOpen answer old.files new.files
+  pub types :
+      IsReady call.promise old
+      → TypesWithin (most_typed call.promise.types (n_of old) (length old.kept.typed)) answer new
 
 -- the macro is called where the library is loaded first
 abbrev pub Runs : Call → Stop → World → World → Type 0

@@ -13,7 +13,7 @@ use arrayvec::ArrayVec;
 use std::marker::Model;
 use teco_base::{Reg, decimal};
 use teco_law_expansion::laws::loading_loads;
-use teco_law_tables::laws::{runs_are_sure, runs_leave_open};
+use teco_law_tables::laws::{runs_are_sure, runs_end_once, runs_leave_open};
 use teco_model::Stop;
 use teco_pages::Host;
 use teco_pages::laws::notes_fit;
@@ -85,6 +85,7 @@ pub fn call_promised<T: TextStore, H: Host>(
     call.promise.is_sound();
     runs_are_sure();
     runs_leave_open();
+    runs_end_once();
     notes_fit();
     let entry = call.promise.entry();
     entry.index();

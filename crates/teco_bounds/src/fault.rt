@@ -35,13 +35,11 @@ pub enum Refusal {
     Memory,
 }
 
-// Why a part of the search stops: it gives up, also for the steps of a loop, with the path on which
-// nothing is known to fall; it is begun again with a cut point more, or with the number in a place no
-// longer taken to be tame; or what it rests on was not the last word.
+// Why a part of the search stops: it gives up; it is begun again with a cut point more, or with the
+// number in a place no longer taken to be tame; or what it rests on was not the last word.
 #[derive(Clone, Copy, Debug, PartialEq, Eq)]
 pub enum Stop {
     Refused(Refusal),
-    Endless { number: usize, leg: Option<usize> },
     CutAt(usize),
     Wild(u32),
     Unstable,

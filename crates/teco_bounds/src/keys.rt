@@ -36,6 +36,17 @@ pub const CODE_HERE: u32 = 7;
 
 pub const CODE_BEFORE: u32 = 8;
 
+// That of the bytes that were typed.
+pub const TYPED: u32 = 9;
+
+// The place of the steps.
+pub const STEPS: u32 = 0;
+
+// Whether a measure counts what a run does: it only grows, and paths begin with none of it.
+pub fn is_count(place: u32) -> bool {
+    place == STEPS || place == TYPED
+}
+
 // A flag: the place of the number of a register that is set to few numbers, or, where there are none, to
 // quotients: then it is told by a power of 2 that it is below.
 #[derive(Drop)]
@@ -373,7 +384,7 @@ fn give_forms(key: &Key, bounds: &Bounds, alloc: Global) -> Result<Given, Stop> 
     for place in 0..key.present.len() {
         let symbol = u32::try_from(place).unwrap_or(0);
         forms.push(match key.present.get(place) {
-            Some(true) if place == 0 => Some(Form::zero(alloc)),
+            Some(true) if is_count(symbol) => Some(Form::zero(alloc)),
             Some(true) => Some(Form::symbol(symbol, alloc)?),
             _ => None,
         })?;

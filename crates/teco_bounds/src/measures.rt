@@ -8,7 +8,7 @@ use teco_model::kind::{Command, Query, Search, Stack, Storage, Value};
 use teco_model::{Element, Kind};
 
 // How many measures a state has once, and how many families of others there are.
-pub const SINGLES: u32 = 9;
+pub const SINGLES: u32 = 10;
 
 pub const FAMILIES: u32 = 7;
 

@@ -1,7 +1,7 @@
 // The paths from a key to the next ones.
 use crate::bounds::Bounds;
 use crate::fault::{Refusal, Stop};
-use crate::keys::{Flag, Key, begun};
+use crate::keys::{Flag, Key, TYPED, begun};
 use crate::measures::{FIRST_VALUE, LAST_VALUE};
 use crate::record::Record;
 use crate::steps::onward;
@@ -100,6 +100,9 @@ impl Search<'_> {
         let done = if self.argument.is_some() { 1 } else { 0 };
         if let Some(steps) = case.forms.get_mut(0) {
             *steps = Some(teco_linear::Form::constant(done, alloc)?);
+        }
+        if let Some(typed) = case.forms.get_mut(TYPED as usize) {
+            *typed = Some(teco_linear::Form::zero(alloc));
         }
         let mut bounds = Bounds::none(alloc)?;
         for form in &case.constraints {

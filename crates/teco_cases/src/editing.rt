@@ -7,12 +7,13 @@ use crate::settings::{IN_FOLDER, IN_MEMORY};
 use std::alloc::{AllocError, Global};
 use teco_apply::{Edit, Edited, Pages, Willing, edit_file};
 use teco_base::bytes::FF;
+use teco_console::Premise;
 use teco_pages::Host;
+use teco_poly::Poly;
 use teco_promise::Promise;
 use teco_run::Machine;
 use teco_session::SessionFault;
 use teco_text::TextStore;
-use teco_verdicts::Premise;
 
 /// The names of the file that is edited, and of the one that is made.
 const SOURCE: &[u8] = b"in";
@@ -52,8 +53,8 @@ fn status_of(edited: Result<Edited, SessionFault>) -> Result<(u64, u64), Session
 }
 
 impl Task<'_> {
-    // How many steps its only run is promised to take at most.
-    fn bound(&self) -> Option<u64> {
+    // What a promised polynomial is at the N of its only run.
+    fn most(&self, promised: Poly) -> Option<u64> {
         let Pages::First = self.pages else {
             return None;
         };
@@ -61,7 +62,7 @@ impl Task<'_> {
         if !Premise::of_promise(self.promise).holds_at(u128::from(n)) {
             return None;
         }
-        self.promise.commands().at(n)
+        promised.at(n)
     }
 
     /// How many characters are held as the run on the first page begins: the texts of the library,
@@ -75,6 +76,19 @@ impl Task<'_> {
             held = held.saturating_add(text.unwrap_or(b"").len() as u64);
         }
         held
+    }
+}
+
+// Finds that more was done than is promised.
+fn compare_most(
+    findings: &mut Findings,
+    what: &str,
+    most: Option<u64>,
+    done: u64,
+) -> Result<(), AllocError> {
+    match most {
+        Some(most) if done > most => findings.add(what, format_args!("at most {most}"), done),
+        _ => Ok(()),
     }
 }
 
@@ -136,11 +150,19 @@ impl<'a> Trial<'a> {
         if let Some(wanted) = self.wanted.steps {
             findings.compare_numbers("steps", wanted, steps)?;
         }
-        match self.task.bound() {
-            Some(most) if steps > most => {
-                findings.add("steps", format_args!("at most {most}"), steps)
-            }
-            _ => Ok(()),
+        compare_most(
+            findings,
+            "steps",
+            self.task.most(self.task.promise.commands()),
+            steps,
+        )
+    }
+
+    // Compares the bytes that the run typed with what is promised of them.
+    fn compare_typed(&self, findings: &mut Findings, typed: u64) -> Result<(), AllocError> {
+        match self.task.promise.types() {
+            Some(types) => compare_most(findings, "bytes typed", self.task.most(types), typed),
+            None => Ok(()),
         }
     }
 }
@@ -180,6 +202,9 @@ impl Job for Trial<'_> {
         findings.compare_files(TARGET, wanted.output, left.files.file(TARGET))?;
         findings.compare_files(SOURCE, Some(self.task.input), left.files.file(SOURCE))?;
         self.compare_names(findings, left)?;
+        if ran.status == 0 {
+            self.compare_typed(findings, ran.typed.len() as u64)?;
+        }
         self.compare_steps(findings, ran.steps)
     }
 }

@@ -6,7 +6,7 @@ use crate::findings::Findings;
 use crate::subject::{Subject, library_of};
 use std::alloc::Global;
 use teco_apply::Pages;
-use teco_verdicts::Verdict;
+use teco_verdicts::{Verdict, verified_by};
 use teco_verify::Refusal;
 
 const KEYS: &[&str] = &[
@@ -51,7 +51,7 @@ pub fn run_edit(rt: &HostRuntime, case: &Case<'_>) -> Result<Findings, CaseFault
     case.check(Keys::of_texts(KEYS))?;
     let Subject { entry, method } = Subject::of(case)?;
     let library = library_of(alloc, case)?;
-    let accepted = match method.verify(alloc, &library, entry) {
+    let accepted = match verified_by(alloc, &library, entry, method) {
         Ok(accepted) => accepted,
         Err(refusal) => return refused(alloc, &refusal),
     };

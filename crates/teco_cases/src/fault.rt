@@ -1,10 +1,10 @@
 //! What keeps files of cases from being run.
 use std::alloc::{AllocError, AllocFailed};
 use std::{fmt, io};
+use teco_console::AnswerFault;
 use teco_linear::LinearFault;
 use teco_session::SessionFault;
 use teco_simplex::SimplexFault;
-use teco_verdicts::AnswerFault;
 
 /// How many characters a line has at most.
 pub const WIDTH: usize = 120;

@@ -13,7 +13,7 @@ use teco_base::Reg;
 use teco_library::Library;
 use teco_poly::Poly;
 use teco_promise::Promise;
-use teco_verdicts::{Accepted, Verdict};
+use teco_verdicts::{Accepted, Verdict, verified_by};
 use teco_verify::Refusal;
 
 const KEYS: Keys = Keys {
@@ -23,6 +23,7 @@ const KEYS: Keys = Keys {
         "rules",
         "commands",
         "size",
+        "types",
         "needs",
         "certificate",
         "held",
@@ -36,7 +37,7 @@ const KEYS: Keys = Keys {
 };
 
 /// What a case tells of what its macro promises.
-const PROMISE_KEYS: &[&str] = &["commands", "size", "needs", "certificate"];
+const PROMISE_KEYS: &[&str] = &["commands", "size", "types", "needs", "certificate"];
 
 /// What a case tells of a run that keeps the promise.
 const RUN_KEYS: &[&str] = &["held", "steps", "in", "typed", "out"];
@@ -45,7 +46,7 @@ const RUN_KEYS: &[&str] = &["held", "steps", "in", "typed", "out"];
 const BOUND_AT: u64 = 2_000;
 
 /// The lines of a certificate that a case may tell.
-const LINES: &[&str] = &["commands", "size", "needs"];
+const LINES: &[&str] = &["commands", "size", "types", "needs"];
 
 // What a case says of a verdict: that the macro is accepted, or why and where it is refused.
 fn words_of(alloc: Global, accepted: Result<Accepted<'_>, Refusal>) -> Result<String, CaseFault> {
@@ -107,7 +108,7 @@ fn compare_verdicts(
         let Some(wanted) = case.named_text("verdict", name.as_bytes()) else {
             continue;
         };
-        let accepted = method.verify(alloc, library, entry);
+        let accepted = verified_by(alloc, library, entry, *method);
         if let Some(bound) = case.named_text("bound", name.as_bytes()) {
             compare_bound(alloc, findings, bound, most_of(&accepted))?;
         }
@@ -198,7 +199,7 @@ fn run_promise(
     subject: Subject,
 ) -> Result<Findings, CaseFault> {
     let alloc = rt.alloc();
-    let accepted = match subject.method.verify(alloc, library, subject.entry) {
+    let accepted = match verified_by(alloc, library, subject.entry, subject.method) {
         Ok(accepted) => accepted,
         Err(refusal) => return refused(alloc, &refusal),
     };

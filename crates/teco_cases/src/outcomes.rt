@@ -46,6 +46,7 @@ const SINGLES: &[(&str, Single)] = &[
     ("m", Single::LastLength),
     ("a", Single::CodeHere),
     ("b", Single::CodeBefore),
+    ("o", Single::Typed),
 ];
 
 /// The measures that there are of each register, by the letter before its name.
@@ -81,6 +82,7 @@ fn start_forms(alloc: Global) -> Result<Vec<Option<Form>>, Fault> {
     for symbol in 5..7 {
         forms.push(Some(Form::symbol(symbol, alloc)?))?;
     }
+    forms.push(Some(Form::zero(alloc)))?;
     for _ in 0..REGISTERS {
         add_register(&mut forms, alloc)?;
     }

@@ -3,8 +3,8 @@ use crate::case_file::Case;
 use crate::fault::CaseFault;
 use std::alloc::Global;
 use teco_base::{LIMIT, Reg};
+use teco_console::{Edition, Method};
 use teco_library::{Library, LibraryFault};
-use teco_verdicts::{Edition, Method};
 
 /// The editions of the rules, by their names.
 pub const METHODS: &[(&str, Method)] = &[

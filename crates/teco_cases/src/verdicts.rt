@@ -4,11 +4,9 @@ use crate::fault::CaseFault;
 use crate::findings::Findings;
 use crate::subject::{Subject, library_of};
 use std::fs;
+use teco_console::{AnswerFault, Console, Escape, Method, Origin, Outcome, Request};
 use teco_library::Library;
-use teco_verdicts::{
-    Accepted, AnswerFault, Console, Escape, Method, Origin, Outcome, Request, accepted,
-    check_macro, read_claim, verify_macro,
-};
+use teco_verdicts::{Accepted, accepted, check_macro, read_claim, verify_macro};
 use teco_verify::Refusal;
 
 const VERDICT_KEYS: &[&str] = &["library", "entry", "rules", "output", "status"];

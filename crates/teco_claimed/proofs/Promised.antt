@@ -17,15 +17,15 @@ checked_ends linked ends found checked given world asked ready opened =
     let texts = found.library.texts in
     let certificate = found.certificate in
     ends checked.nodes (lengths_of texts) certificate.argument certificate.needs certificate.claims.commands
-    certificate.claims.size checked.certain texts certificate.entry given world refl
+    certificate.claims.size certificate.claims.types checked.certain texts certificate.entry given world refl
     (linked texts certificate.entry checked.nodes checked.expanded) asked ready opened
 
 -- what has its parts is its promise
 pub same_promise : (found : LinearFinding) {library : Library} {entry : ℕ} {argument : Option ArgumentRange}
-    {needs : Needs} {commands size : Polynomial}
+    {needs : Needs} {commands size : Polynomial} {types : Option Polynomial}
     → library ≡ found.library.texts → entry ≡ found.certificate.entry → argument ≡ found.certificate.argument
     → needs ≡ found.certificate.needs → commands ≡ found.certificate.claims.commands
-    → size ≡ found.certificate.claims.size
+    → size ≡ found.certificate.claims.size → types ≡ found.certificate.claims.types
     → record {
       library = library;
       entry = entry;
@@ -33,8 +33,9 @@ pub same_promise : (found : LinearFinding) {library : Library} {entry : ℕ} {ar
       needs = needs;
       commands = commands;
       size = size;
+      types = types;
     } ≡ promise_of found
-same_promise found l e a n c s = rw (l, e, a, n, c, s) refl
+same_promise found l e a n c s t = rw (l, e, a, n, c, s, t) refl
 
 -- what is found has the text that its certificate has
 pub found_text : (result : Result LinearFinding LinearRefusal) (certificate : LinearCertificate) (text : List ℕ)

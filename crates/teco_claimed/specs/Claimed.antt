@@ -31,7 +31,7 @@ pub record IsChecked (library : LibraryFile) (certificate : LinearCertificate) :
   pub expanded : expansion library.texts certificate.entry ≡ Ok nodes
   pub certain :
       IsCertain nodes (lengths_of library.texts) certificate.argument certificate.needs certificate.claims.commands
-      certificate.claims.size
+      certificate.claims.size certificate.claims.types
 
 -- what the certificate says, but not what it claims on the way
 abbrev pub promise_of : LinearFinding → Promise
@@ -42,6 +42,7 @@ promise_of found = record {
   needs = found.certificate.needs;
   commands = found.certificate.claims.commands;
   size = found.certificate.claims.size;
+  types = found.certificate.claims.types;
 }
 
 -- Each run of a macro ends as its checked certificate says.

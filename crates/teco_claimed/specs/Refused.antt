@@ -29,6 +29,7 @@ number_told (path.Commands number) = Some number
 number_told (path.Claims number) = Some number
 number_told (path.Unread number) = Some number
 number_told path.TooLong = None
+number_told path.Types = None
 number_told path.Unknown = None
 number_told path.Memory = None
 

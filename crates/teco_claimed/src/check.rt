@@ -57,7 +57,8 @@ fn follow(
     alloc: Global,
 ) -> Result<(), LinearRefusal>
     ensures certain { OnOk result (IsCertain nodes.now lengths.now certificate.now.argument
-        certificate.now.needs certificate.now.claims.commands certificate.now.claims.size) }
+        certificate.now.needs certificate.now.claims.commands certificate.now.claims.size
+        certificate.now.claims.types) }
     ensures refused { IfErr result (IsOfClaims nodes.now) }
 {
     let called = Called {

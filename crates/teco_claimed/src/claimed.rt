@@ -56,6 +56,7 @@ impl<'l> Claimed<'l> {
             needs: self.needs(),
             commands: self.commands(),
             size: self.size(),
+            types: self.types(),
         })
     }
 
@@ -99,6 +100,13 @@ impl<'l> Claimed<'l> {
         ensures { result ≡ self.now.certificate.claims.size }
     {
         self.certificate.claims.size
+    }
+
+    /// The most bytes that a run types; `None` where none is claimed.
+    pub fn types(&self) -> Option<Poly>
+        ensures { result ≡ self.now.certificate.claims.types }
+    {
+        self.certificate.claims.types
     }
 
     /// What is claimed.

@@ -114,7 +114,7 @@ fn number_in(fault: PathFault) -> Option<usize>
         | PathFault::Commands(number)
         | PathFault::Claims(number)
         | PathFault::Unread(number) => Some(number),
-        PathFault::TooLong | PathFault::Unknown | PathFault::Memory => None,
+        PathFault::TooLong | PathFault::Types | PathFault::Unknown | PathFault::Memory => None,
     }
 }
 

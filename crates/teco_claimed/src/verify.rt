@@ -8,8 +8,9 @@ use crate::claimed::Claimed;
 use crate::refusal::{LinearRefusal, NodePlace, place_at};
 use std::alloc::Global;
 use teco_base::Reg;
+use teco_claims::{Claim, Claims, Measure, Single};
 use teco_expansion::{Nodes, expand};
-use teco_infer::{ATTEMPTS, Reason, Refusal as Unfound, infer_by, is_worth_another, reason_of};
+use teco_infer::{ATTEMPTS, Reason, Refusal as Unfound, infer_by, next_attempt, why_unfound};
 use teco_library::Library;
 use teco_model::kind::{Page, Search};
 use teco_model::{Kind, Needs};
@@ -43,7 +44,52 @@ fn needs_of(nodes: &Nodes<'_>) -> Needs {
     needs
 }
 
-// The macro by the claims that one way of looking for them finds.
+// Whether a claim speaks of the bytes that were typed.
+fn is_of_typed(claim: &Claim) -> bool {
+    claim.terms.iter().any(|term| matches!(term.measure, Some(Measure::One(Single::Typed))))
+}
+
+// Claims without those of the bytes that were typed.
+fn without_typed(claims: Claims) -> Claims {
+    let Claims {
+        commands,
+        size,
+        types: _typed,
+        mut cuts,
+    } = claims;
+    for cut in cuts.iter_mut() {
+        cut.claims.retain(|claim| !is_of_typed(claim));
+    }
+    Claims {
+        commands,
+        size,
+        types: None,
+        cuts,
+    }
+}
+
+// The macro by claims.
+fn by_claims<'l>(
+    library: &'l Library,
+    entry: Reg,
+    certificate: &LinearCertificate,
+    alloc: Global,
+) -> Result<Claimed<'l>, LinearRefusal>
+    ensures library { IfOk result (λ found. found.library ≡ library.now) }
+    ensures declared { IfOk result (λ found. TakesDeclared library.now found.certificate) }
+    ensures entry { IfOk result (λ found. found.certificate.entry ≡ entry) }
+{
+    let text = certificate.write(alloc)?;
+    let claimed = check_linear(library, &text, alloc)?;
+    if claimed.entry().index() == entry.index() {
+        Ok(claimed)
+    } else {
+        Err(LinearRefusal::NotACertificate)
+    }
+}
+
+// The macro by the claims that one way of looking for them finds. Where they are not certain, those of
+// typed bytes are left out: no bound on these is owed.
 fn attempt<'l>(
     library: &'l Library,
     entry: Reg,
@@ -65,12 +111,17 @@ fn attempt<'l>(
         needs: called.needs,
         claims,
     };
-    let text = certificate.write(alloc)?;
-    let claimed = check_linear(library, &text, alloc)?;
-    if claimed.entry().index() == entry.index() {
-        Ok(claimed)
-    } else {
-        Err(LinearRefusal::NotACertificate)
+    match by_claims(library, entry, &certificate, alloc) {
+        Err(LinearRefusal::NotCertain { .. }) if certificate.claims.types.is_some() => {
+            let certificate = LinearCertificate {
+                entry,
+                argument: called.argument,
+                needs: called.needs,
+                claims: without_typed(certificate.claims),
+            };
+            by_claims(library, entry, &certificate, alloc)
+        }
+        answer => answer,
     }
 }
 
@@ -82,18 +133,15 @@ fn unfound(refused: LinearRefusal) -> Option<Unfound> {
     }
 }
 
-// Is the next way of looking worth its time behind this refusal, where the first way had another?
-fn goes_on(first: LinearRefusal, refused: LinearRefusal, next: usize) -> bool {
-    match refused {
-        LinearRefusal::NotFound { why, .. } => {
-            is_worth_another(unfound(first).unwrap_or(why), why, next)
-        }
-        LinearRefusal::NotCertain { .. } => match unfound(first) {
-            Some(first) => is_worth_another(first, first, next),
-            None => next.saturating_add(1) < ATTEMPTS,
-        },
-        _ => false,
-    }
+// The way of looking that is worth its time behind this refusal, where the first way had another. Claims
+// that are not certain are as good as none: the refusal is then the first way's.
+fn next_behind(first: LinearRefusal, refused: LinearRefusal, attempt: usize) -> Option<usize> {
+    let why = match refused {
+        LinearRefusal::NotFound { why, .. } => why,
+        LinearRefusal::NotCertain { .. } => unfound(first).unwrap_or(Unfound::Size),
+        _ => return None,
+    };
+    next_attempt(unfound(first).unwrap_or(why), why, attempt)
 }
 
 // The macro by claims that are looked for where these files are open. A refusal is that of the first way
@@ -117,14 +165,16 @@ fn attempts<'l>(
         needs,
     };
     let mut first = None;
-    for at in 0..ATTEMPTS {
+    let mut next = Some(0);
+    for _ in 0..ATTEMPTS {
+        let Some(at) = next else {
+            break;
+        };
         match attempt(library, entry, &called, at, alloc) {
             Ok(claimed) => return Ok(claimed),
             Err(refused) => {
                 first = first.or(Some(refused));
-                if !goes_on(first.unwrap_or(refused), refused, at.saturating_add(1)) {
-                    break;
-                }
+                next = next_behind(first.unwrap_or(refused), refused, at);
             }
         }
     }
@@ -173,8 +223,8 @@ pub struct Unshown {
     /// Where the element stands at which that is told.
     pub at: NodePlace,
     pub reason: Reason,
-    /// Where the elements of its way stand.
-    pub way: Vec<NodePlace>,
+    /// Where the elements of each of its ways stand.
+    pub ways: Vec<Vec<NodePlace>>,
 }
 
 // Where the elements of some numbers stand.
@@ -202,8 +252,11 @@ pub fn why_unshown(library: &Library, entry: Reg, alloc: Global) -> Option<Unsho
         argument: library.argument(entry),
         needs: needs_of(&nodes),
     };
-    let reason = reason_of(&called, alloc)?;
+    let reason = why_unfound(&called, alloc)?;
     let at = place_at(&nodes, Some(reason.point))?;
-    let way = places_of(&nodes, &reason.way, alloc);
-    Some(Unshown { at, reason, way })
+    let mut ways = Vec::new(alloc);
+    for way in &reason.ways {
+        ways.push(places_of(&nodes, way, alloc)).ok()?;
+    }
+    Some(Unshown { at, reason, ways })
 }

@@ -11,7 +11,7 @@ use Rattle.teco_base.specs.Bytes.{is_among}
 use Rattle.teco_claims.specs.declared.term.Measure.{Measure}
 use Rattle.teco_claims.specs.declared.term.Measure.TheVariants.{One, Number, Length, Turns, PushedNumber, PushedLength}
 use Rattle.teco_claims.specs.declared.term.Single.TheVariants.{Steps, Pointer, Size, Held, LineEnd, LineStart}
-use Rattle.teco_claims.specs.declared.term.Single.TheVariants.{LastLength}
+use Rattle.teco_claims.specs.declared.term.Single.TheVariants.{LastLength, Typed}
 use Rattle.teco_claims.specs.declared.term.Fraction.{Fraction}
 use Rattle.teco_claims.specs.declared.term.Term.{Term}
 use Rattle.teco_claims.specs.Front.{begins, goes_on, EndsPart, EndsTerm}
@@ -76,6 +76,7 @@ name_apart (Some (One Held)) rest ends = refl
 name_apart (Some (One LineEnd)) rest ends = refl
 name_apart (Some (One LineStart)) rest ends = refl
 name_apart (Some (One LastLength)) rest ends = refl
+name_apart (Some (One Typed)) rest ends = refl
 name_apart (Some (Number register)) rest ends = refl
 name_apart (Some (Length register)) rest ends = refl
 name_apart (Some (Turns begin)) rest ends = refl

@@ -9,7 +9,7 @@ use Rattle.std.specs.Option.{is_some}
 use Rattle.teco_claims.specs.declared.term.Measure.{Measure}
 use Rattle.teco_claims.specs.declared.term.Measure.TheVariants.{One, Number, Length, Turns, PushedNumber, PushedLength}
 use Rattle.teco_claims.specs.declared.term.Single.TheVariants.{Steps, Pointer, Size, Held, LineEnd, LineStart}
-use Rattle.teco_claims.specs.declared.term.Single.TheVariants.{LastLength}
+use Rattle.teco_claims.specs.declared.term.Single.TheVariants.{LastLength, Typed}
 use Rattle.teco_claims.specs.declared.term.Fraction.{Fraction}
 use Rattle.teco_claims.specs.declared.term.Term.{Term}
 use Rattle.teco_claims.specs.Front.{begins, EndsPart, EndsTerm, EndsFactor, LooksFor}
@@ -110,6 +110,7 @@ name_some (Some (One Held)) rest ends same = absurd (cc)
 name_some (Some (One LineEnd)) rest ends same = absurd (cc)
 name_some (Some (One LineStart)) rest ends same = absurd (cc)
 name_some (Some (One LastLength)) rest ends same = absurd (cc)
+name_some (Some (One Typed)) rest ends same = absurd (cc)
 name_some (Some (Number register)) rest ends same = absurd (cc)
 name_some (Some (Length register)) rest ends same = absurd (cc)
 name_some (Some (Turns begin)) rest ends same = absurd (cc)

@@ -5,7 +5,7 @@ use Rattle.std.specs.Char.{is_ascii_digit}
 use Rattle.teco_base.specs.Bytes.{is_among}
 use Rattle.teco_claims.specs.declared.term.Single.{Single}
 use Rattle.teco_claims.specs.declared.term.Single.TheVariants.{Steps, Pointer, Size, Held, LineEnd, LineStart}
-use Rattle.teco_claims.specs.declared.term.Single.TheVariants.{LastLength}
+use Rattle.teco_claims.specs.declared.term.Single.TheVariants.{LastLength, Typed}
 use Rattle.teco_poly.specs.Reading.{EndsNumber}
 
 -- Whether a word stands there, and what comes behind it; where it does not, that is the text.
@@ -65,4 +65,5 @@ single_of letter =
     else if letter == 101 then Some LineEnd
     else if letter == 115 then Some LineStart
     else if letter == 109 then Some LastLength
+    else if letter == 111 then Some Typed
     else None

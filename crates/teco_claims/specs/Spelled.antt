@@ -7,7 +7,7 @@ use Rattle.teco_claims.specs.declared.term.Measure.{Measure}
 use Rattle.teco_claims.specs.declared.term.Measure.TheVariants.{One, Number, Length, Turns, PushedNumber, PushedLength}
 use Rattle.teco_claims.specs.declared.term.Single.{Single}
 use Rattle.teco_claims.specs.declared.term.Single.TheVariants.{Steps, Pointer, Size, Held, LineEnd, LineStart}
-use Rattle.teco_claims.specs.declared.term.Single.TheVariants.{LastLength}
+use Rattle.teco_claims.specs.declared.term.Single.TheVariants.{LastLength, Typed}
 use Rattle.teco_claims.specs.declared.term.Fraction.{Fraction}
 use Rattle.teco_claims.specs.declared.term.Term.{Term}
 use Rattle.teco_claims.specs.declared.term.TheConstants.{MAX_POWER, MAX_TERMS}
@@ -42,18 +42,19 @@ single_place Steps = 1
 single_place LineEnd = 2
 single_place Held = 3
 single_place LastLength = 5
-single_place Pointer = 6
-single_place LineStart = 9
-single_place Size = 11
+single_place Typed = 6
+single_place Pointer = 7
+single_place LineStart = 10
+single_place Size = 12
 
 -- those of registers, iterations and pairs also by their numbers
 abbrev pub measure_place : Measure → ℕ
 measure_place (One single) = single_place single * 2 ^ 33
 measure_place (PushedNumber pair) = 4 * 2 ^ 33 + 2 * pair
 measure_place (PushedLength pair) = 4 * 2 ^ 33 + (2 * pair + 1)
-measure_place (Number register) = 7 * 2 ^ 33 + register
-measure_place (Turns begin) = 8 * 2 ^ 33 + begin
-measure_place (Length register) = 10 * 2 ^ 33 + register
+measure_place (Number register) = 8 * 2 ^ 33 + register
+measure_place (Turns begin) = 9 * 2 ^ 33 + begin
+measure_place (Length register) = 11 * 2 ^ 33 + register
 
 -- what has no measure stands first
 abbrev pub place : Option Measure → ℕ

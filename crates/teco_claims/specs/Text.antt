@@ -10,7 +10,7 @@ use Rattle.teco_claims.specs.declared.term.Measure.{Measure}
 use Rattle.teco_claims.specs.declared.term.Measure.TheVariants.{One, Number, Length, Turns, PushedNumber, PushedLength}
 use Rattle.teco_claims.specs.declared.term.Single.{Single}
 use Rattle.teco_claims.specs.declared.term.Single.TheVariants.{Steps, Pointer, Size, Held, LineEnd, LineStart}
-use Rattle.teco_claims.specs.declared.term.Single.TheVariants.{LastLength}
+use Rattle.teco_claims.specs.declared.term.Single.TheVariants.{LastLength, Typed}
 use Rattle.teco_claims.specs.declared.term.Fraction.{Fraction}
 use Rattle.teco_claims.specs.declared.term.Term.{Term}
 use Rattle.teco_claims.specs.Values.{AtCut, Claimed}
@@ -30,6 +30,7 @@ single_text Held = codes "h"
 single_text LineEnd = codes "e"
 single_text LineStart = codes "s"
 single_text LastLength = codes "m"
+single_text Typed = codes "o"
 
 -- the name of a measure: that of a register follows n or t, the place of an iteration r, that of a pair k
 abbrev pub measure_text : Measure → List ℕ

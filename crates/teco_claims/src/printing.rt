@@ -43,6 +43,7 @@ fn letter(single: Single) -> &'static str
         Single::LineEnd => "e",
         Single::LineStart => "s",
         Single::LastLength => "m",
+        Single::Typed => "o",
     }
 }
 

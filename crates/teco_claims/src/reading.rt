@@ -281,6 +281,7 @@ fn single(letter: u8) -> Option<Single>
         b'e' => Some(Single::LineEnd),
         b's' => Some(Single::LineStart),
         b'm' => Some(Single::LastLength),
+        b'o' => Some(Single::Typed),
         _ => None,
     }
 }

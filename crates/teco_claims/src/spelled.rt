@@ -70,16 +70,17 @@ fn is_term(term: &Term) -> bool
 // Where a measure that a state has once stands among the others.
 fn place_of_single(single: Single) -> u128
     ensures value { result ≡ single_place single }
-    ensures within { result < 12 }
+    ensures within { result < 13 }
 {
     match single {
         Single::Steps => 1,
         Single::LineEnd => 2,
         Single::Held => 3,
         Single::LastLength => 5,
-        Single::Pointer => 6,
-        Single::LineStart => 9,
-        Single::Size => 11,
+        Single::Typed => 6,
+        Single::Pointer => 7,
+        Single::LineStart => 10,
+        Single::Size => 12,
     }
 }
 
@@ -93,9 +94,9 @@ fn place_of_measure(measure: Measure) -> u128
         Measure::One(single) => place_of_single(single) * STEP,
         Measure::PushedNumber(pair) => 4 * STEP + 2 * u128::from(pair),
         Measure::PushedLength(pair) => 4 * STEP + (2 * u128::from(pair) + 1),
-        Measure::Number(register) => 7 * STEP + register.index() as u128,
-        Measure::Turns(begin) => 8 * STEP + u128::from(begin),
-        Measure::Length(register) => 10 * STEP + register.index() as u128,
+        Measure::Number(register) => 8 * STEP + register.index() as u128,
+        Measure::Turns(begin) => 9 * STEP + u128::from(begin),
+        Measure::Length(register) => 11 * STEP + register.index() as u128,
     }
 }
 

@@ -24,6 +24,8 @@ pub enum Single {
     LineStart,
     /// The length of the last text found or inserted.
     LastLength,
+    /// How many bytes were typed since the entry.
+    Typed,
 }
 
 /// A measure of a state.

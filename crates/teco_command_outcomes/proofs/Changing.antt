@@ -13,7 +13,7 @@ use Rattle.teco_rows.specs.declared.measure.Measure.{Measure}
 use Rattle.teco_rows.specs.declared.measure.Measure.TheVariants.{One, Each}
 use Rattle.teco_rows.specs.declared.measure.Single.{Single}
 use Rattle.teco_rows.specs.declared.measure.Single.TheVariants.{Steps, Pointer, Size, Held, LineEnd, LineStart}
-use Rattle.teco_rows.specs.declared.measure.Single.TheVariants.{LastLength, CodeHere, CodeBefore}
+use Rattle.teco_rows.specs.declared.measure.Single.TheVariants.{LastLength, CodeHere, CodeBefore, Typed}
 use Rattle.teco_rows.specs.declared.row.Clause.{Clause}
 use Rattle.teco_rows.specs.declared.row.Places.{Places}
 use Rattle.teco_rows.specs.declared.row.Step.{Step}
@@ -22,7 +22,6 @@ use Rattle.teco_rows.specs.Rows.{AreMet, Before, changed}
 use Rattle.teco_rows.specs.States.{Point, IsLed, WaitsFor, from_end, length_of, measures_of, number_of, operators_of}
 use Rattle.teco_rows.specs.States.{single}
 use Rattle.teco_rows.proofs.Commanding.{read_at}
-use Rattle.teco_rows.proofs.Describing.{described}
 use Rattle.teco_rows.proofs.Leading.{answers, is_of_singles, leads, leaves, left_alone, left_of, right_of}
 use Rattle.teco_command_outcomes.specs.Changes.{Changes, IsChanged, IsChangedFrom, IsTold, answer_row, with_page}
 use Rattle.teco_command_outcomes.specs.Changes.{with_steps}
@@ -42,7 +41,7 @@ is_changed case made step operator waits led n v s steps kept unread unknown tru
         shape = record {
           operators = here.last (operators_of s.arguments.outer) s.arguments.level.operator true_of.shape.operators;
           iterations = led.iterations ∙ true_of.shape.iterations;
-          pushes = ap (λ k. s.below + k) led.pushes ∙ true_of.shape.pushes ∙ sym h.pushes;
+          pushes = ap (λ k. s.origin.pushes + k) led.pushes ∙ true_of.shape.pushes ∙ sym h.pushes;
         };
       },
     )
@@ -55,8 +54,8 @@ changes_plainly case made row given from n v s kept unread unknown true_of chang
 -- A row that says nothing but of what a state has once, where registers stay.
 pub changes_later : (row : List Clause) (b : Before) (s : Point) (steps : ℕ) (kept : Kept) (unread : ℕ)
     → kept.registers ≡ s.kept.registers → is_of_singles row ≡ true → AreMet row b
-    → ((which : Single) → Some (pos (single (with_steps s steps kept unread) which))
-    ≡ changed row b (One which) (Some (pos (single s which))))
+    → ((which : Single) → Some (single (with_steps s steps kept unread) which)
+    ≡ changed row b (One which) (Some (single s which)))
     → Changes row b s (with_steps s steps kept unread)
 changes_later row b s steps kept unread same of met singles = record {
   met = met;
@@ -84,18 +83,18 @@ changes_later row b s steps kept unread same of met singles = record {
       ∙ left_alone row b Length i _ (right_of (leaves Number row) _ texts)
   becomes (Each Turns i) = left_alone row b Turns i _ (left_of (leaves Turns row) _ levels)
   becomes (Each PushedNumber i) =
-      ap (λ r. number_of (from_end r.stack (s.below + i))) same
+      ap (λ r. number_of (from_end r.stack (s.origin.pushes + i))) same
       ∙ left_alone row b PushedNumber i _ (left_of (leaves PushedNumber row) _ pushes)
   becomes (Each PushedLength i) =
-      ap (λ r. length_of (from_end r.stack (s.below + i))) same
+      ap (λ r. length_of (from_end r.stack (s.origin.pushes + i))) same
       ∙ left_alone row b PushedLength i _ (right_of (leaves PushedNumber row) _ pushes)
   becomes (Each First i) = left_alone row b First i _ (right_of (leaves Turns row) _ levels)
   becomes (Each Value i) = left_alone row b Value i _ (left_of (leaves Value row) _ rest)
 
 pub changes_singles : (row : List Clause) (b : Before) (s : Point) (kept : Kept) (unread : ℕ)
     → kept.registers ≡ s.kept.registers → is_of_singles row ≡ true → AreMet row b
-    → ((which : Single) → Some (pos (single (with_page s kept unread) which))
-    ≡ changed row b (One which) (Some (pos (single s which))))
+    → ((which : Single) → Some (single (with_page s kept unread) which)
+    ≡ changed row b (One which) (Some (single s which)))
     → Changes row b s (with_page s kept unread)
 changes_singles row b s kept unread same of met singles =
     changes_later row b s s.steps kept unread same of met singles
@@ -103,7 +102,7 @@ changes_singles row b s kept unread same of met singles =
 -- ---- what is answered
 module _ (s : Point) (here : Places) (given unknown : ℕ → ℤ) where
   stays : (answer : Option ℤ) (which : Single)
-      → Some (pos (single (commanded s s.kept answer) which)) ≡ Some (pos (single (commanded s s.kept None) which))
+      → Some (single (commanded s s.kept answer) which) ≡ Some (single (commanded s s.kept None) which)
   stays answer Steps = refl
   stays answer Pointer = refl
   stays answer Size = refl
@@ -113,6 +112,7 @@ module _ (s : Point) (here : Places) (given unknown : ℕ → ℤ) where
   stays answer LastLength = refl
   stays answer CodeHere = refl
   stays answer CodeBefore = refl
+  stays answer Typed = refl
 
   leads_to_answer : (answer : Option ℤ) → here.level ≡ length s.arguments.outer
       → Leads (answer_row answer) (read_at s here given unknown) s s.kept answer

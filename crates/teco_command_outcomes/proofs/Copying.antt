@@ -34,7 +34,7 @@ use Rattle.teco_rows.specs.declared.measure.Family.TheVariants.{First, Value}
 use Rattle.teco_rows.specs.declared.measure.Measure.TheVariants.{Each}
 use Rattle.teco_rows.specs.declared.measure.Single.{Single}
 use Rattle.teco_rows.specs.declared.measure.Single.TheVariants.{Steps, Pointer, Size, Held, LineEnd, LineStart}
-use Rattle.teco_rows.specs.declared.measure.Single.TheVariants.{LastLength, CodeHere, CodeBefore}
+use Rattle.teco_rows.specs.declared.measure.Single.TheVariants.{LastLength, CodeHere, CodeBefore, Typed}
 use Rattle.teco_rows.specs.declared.outcomes.Outcomes.{Outcomes}
 use Rattle.teco_rows.specs.declared.row.Clause.{Clause}
 use Rattle.teco_rows.specs.declared.row.Places.{Places}
@@ -67,7 +67,7 @@ module _ (row : List Clause) (s : Point) (here : Places) (given unknown : ℕ �
   kept = kept_with_text here.register text s.kept
 
   same : (which : Single)
-      → Some (pos (single (commanded s kept None) which)) ≡ Some (pos (single (commanded s s.kept None) which))
+      → Some (single (commanded s kept None) which) ≡ Some (single (commanded s s.kept None) which)
   same Steps = refl
   same Pointer = refl
   same Size = refl
@@ -77,6 +77,7 @@ module _ (row : List Clause) (s : Point) (here : Places) (given unknown : ℕ �
   same LastLength = refl
   same CodeHere = refl
   same CodeBefore = refl
+  same Typed = refl
 
   pub text_leads : leaves Turns row ≡ true → leaves PushedNumber row ≡ true → leaves PushedLength row ≡ true
       → leaves First row ≡ true → leaves Number row ≡ true → leaves Value row ≡ true → leaves_singles row ≡ true
@@ -225,7 +226,7 @@ module _ (case : Case) (ways : List command.Way) (register : ℕ) (here : Places
 
 -- ---- what is copied
 -- a part of a text is as long as it says
-part_long : (text : List ℕ) (a b : ℕ) → a ≤ b → b ≤ length text → length (range text a b) + a ≡ b
+pub part_long : (text : List ℕ) (a b : ℕ) → a ≤ b → b ≤ length text → length (range text a b) + a ≡ b
 part_long text a b h k = omega (arith, length-take (b - a) (drop a text), length-drop a text)
 
 -- the part between two places of the buffer is copied

@@ -30,7 +30,7 @@ use Rattle.teco_command_outcomes.specs.declared.deletions.TheConstants.{CUTS_LIN
 use Rattle.teco_command_outcomes.specs.declared.deletions.TheConstants.{LINES, LINES_BACK, PART, PART_BACK}
 use Rattle.teco_rows.specs.declared.measure.Single.{Single}
 use Rattle.teco_rows.specs.declared.measure.Single.TheVariants.{Steps, Pointer, Size, Held, LineEnd, LineStart}
-use Rattle.teco_rows.specs.declared.measure.Single.TheVariants.{LastLength, CodeHere, CodeBefore}
+use Rattle.teco_rows.specs.declared.measure.Single.TheVariants.{LastLength, CodeHere, CodeBefore, Typed}
 use Rattle.teco_rows.specs.declared.measure.Measure.TheVariants.{One}
 use Rattle.teco_rows.specs.declared.outcomes.Outcomes.{Outcomes}
 use Rattle.teco_rows.specs.declared.row.Clause.{Clause}
@@ -49,7 +49,7 @@ use Rattle.teco_rows.proofs.Commanding.{read_at}
 use Rattle.teco_rows.proofs.Leading.{is_of_singles, leads_singles, performed}
 use Rattle.teco_rows.proofs.Lines.{IsEnd, IsBegin, line_end, line_begin, one_end, one_begin, end_before}
 use Rattle.teco_rows.proofs.Lines.{begin_before}
-use Rattle.teco_rows.proofs.Lines.{above_or, end_inside, top_line}
+use Rattle.teco_rows.proofs.Lines.{above_or, top_line}
 use Rattle.teco_rows.proofs.Characters.{with_codes}
 use Rattle.teco_command_outcomes.proofs.Codes.{left_before, left_here}
 use Rattle.teco_command_outcomes.proofs.Lining.{Counted, LiesAbove, above_within, ahead_within, back_within}
@@ -116,8 +116,8 @@ module _ (s : Point) (here : Places) (given : ℕ → ℤ) (a b : ℕ) (ordered 
     before_is = left_before s.kept.text a b (omega arith)
 
     cut : (row : List Clause) → is_of_singles row ≡ true → AreMet row before
-        → ((which : Single) → Some (pos (single (commanded s kept None) which))
-        ≡ changed row before (One which) (Some (pos (single (commanded s s.kept None) which))))
+        → ((which : Single) → Some (single (commanded s kept None) which)
+        ≡ changed row before (One which) (Some (single (commanded s s.kept None) which)))
         → Leads row before s kept None
     cut row of met singles = leads_singles row before s kept refl of met singles
 
@@ -135,8 +135,8 @@ module _ (s : Point) (here : Places) (given : ℕ → ℤ) (a b : ℕ) (ordered 
           f : IsEnd s.kept.text b (line_place s.kept.text b (pos 1))
           f = line_end s.kept.text b inside
 
-          singles : (which : Single) → Some (pos (single (commanded s kept None) which))
-              ≡ changed LINES before (One which) (Some (pos (single (commanded s s.kept None) which)))
+          singles : (which : Single) → Some (single (commanded s kept None) which)
+              ≡ changed LINES before (One which) (Some (single (commanded s s.kept None) which))
           singles Steps = refl
           singles Pointer = ap (λ x. Some (pos x)) at
           singles Size = ap Some (omega (arith, ints))
@@ -146,6 +146,7 @@ module _ (s : Point) (here : Places) (given : ℕ → ℤ) (a b : ℕ) (ordered 
           singles LastLength = refl
           singles CodeHere = ap Some (omega (arith, ints))
           singles CodeBefore = ap (λ x. Some (pos x)) (before_is ∙ ap (code_before s.kept.text) at)
+          singles Typed = refl
 
     pub lines_back : given 0 ≤ℤ pos 0 → b ≡ s.kept.pointer → a ≤ line_place s.kept.text s.kept.pointer (pos 0)
         → line_place s.kept.text a (pos 0) ≡ a → Leads LINES_BACK before s kept None
@@ -161,8 +162,8 @@ module _ (s : Point) (here : Places) (given : ℕ → ℤ) (a b : ℕ) (ordered 
             ),
           ),
         ) singles where
-          singles : (which : Single) → Some (pos (single (commanded s kept None) which))
-              ≡ changed LINES_BACK before (One which) (Some (pos (single (commanded s s.kept None) which)))
+          singles : (which : Single) → Some (single (commanded s kept None) which)
+              ≡ changed LINES_BACK before (One which) (Some (single (commanded s s.kept None) which))
           singles Steps = refl
           singles Pointer = ap Some (omega (arith, ints, begin_is))
           singles Size = ap Some (omega (arith, ints, long, begin_is))
@@ -173,12 +174,13 @@ module _ (s : Point) (here : Places) (given : ℕ → ℤ) (a b : ℕ) (ordered 
           singles LastLength = refl
           singles CodeHere = ap (λ x. Some (pos x)) (here_is ∙ ap (code_here s.kept.text) at)
           singles CodeBefore = ap Some (omega (arith, ints))
+          singles Typed = refl
 
     -- the line to its end
     pub keeps : a ≡ s.kept.pointer → b ≡ a → length s.kept.text ≤ a → Leads KEEPS before s kept None
     keeps at same all_of = cut KEEPS refl (omega (arith, ints), tt) singles where
-      singles : (which : Single) → Some (pos (single (commanded s kept None) which))
-          ≡ changed KEEPS before (One which) (Some (pos (single (commanded s s.kept None) which)))
+      singles : (which : Single) → Some (single (commanded s kept None) which)
+          ≡ changed KEEPS before (One which) (Some (single (commanded s s.kept None) which))
       singles Steps = refl
       singles Pointer = ap (λ x. Some (pos x)) at
       singles Size = ap (λ x. Some (pos x)) (omega (arith, long))
@@ -190,6 +192,7 @@ module _ (s : Point) (here : Places) (given : ℕ → ℤ) (a b : ℕ) (ordered 
       singles LastLength = refl
       singles CodeHere = ap (λ x. Some (pos x)) (here_is ∙ ap (code_here s.kept.text) (same ∙ at))
       singles CodeBefore = ap (λ x. Some (pos x)) (before_is ∙ ap (code_before s.kept.text) at)
+      singles Typed = refl
 
     pub cuts_line : a ≡ s.kept.pointer → b ≡ line_place s.kept.text s.kept.pointer (pos 1) → a + 1 ≤ b
         → Leads CUTS_LINE before s kept None
@@ -201,8 +204,8 @@ module _ (s : Point) (here : Places) (given : ℕ → ℤ) (a b : ℕ) (ordered 
           f : IsEnd s.kept.text b (line_place s.kept.text b (pos 1))
           f = line_end s.kept.text b inside
 
-          singles : (which : Single) → Some (pos (single (commanded s kept None) which))
-              ≡ changed CUTS_LINE before (One which) (Some (pos (single (commanded s s.kept None) which)))
+          singles : (which : Single) → Some (single (commanded s kept None) which)
+              ≡ changed CUTS_LINE before (One which) (Some (single (commanded s s.kept None) which))
           singles Steps = refl
           singles Pointer = ap (λ x. Some (pos x)) at
           singles Size = ap Some (omega (arith, ints, long))
@@ -212,6 +215,7 @@ module _ (s : Point) (here : Places) (given : ℕ → ℤ) (a b : ℕ) (ordered 
           singles LastLength = refl
           singles CodeHere = ap Some (omega (arith, ints))
           singles CodeBefore = ap (λ x. Some (pos x)) (before_is ∙ ap (code_before s.kept.text) at)
+          singles Typed = refl
 
     -- lines back, in the first line and in another
     pub cuts_top : b ≡ s.kept.pointer → a ≡ 0 → line_place s.kept.text s.kept.pointer (pos 0) ≡ 0
@@ -220,8 +224,8 @@ module _ (s : Point) (here : Places) (given : ℕ → ℤ) (a b : ℕ) (ordered 
       t : IsBegin s.kept.text a (line_place s.kept.text a (pos 0))
       t = line_begin s.kept.text a
 
-      singles : (which : Single) → Some (pos (single (commanded s kept None) which))
-          ≡ changed CUTS_TOP before (One which) (Some (pos (single (commanded s s.kept None) which)))
+      singles : (which : Single) → Some (single (commanded s kept None) which)
+          ≡ changed CUTS_TOP before (One which) (Some (single (commanded s s.kept None) which))
       singles Steps = refl
       singles Pointer = ap Some (omega (arith, ints))
       singles Size = ap Some (omega (arith, ints, long))
@@ -231,13 +235,14 @@ module _ (s : Point) (here : Places) (given : ℕ → ℤ) (a b : ℕ) (ordered 
       singles LastLength = refl
       singles CodeHere = ap (λ x. Some (pos x)) (here_is ∙ ap (code_here s.kept.text) at)
       singles CodeBefore = ap Some (omega (arith, ints))
+      singles Typed = refl
 
     pub cuts_up : b ≡ s.kept.pointer → LiesAbove s.kept.text s.kept.pointer a → Leads CUTS_UP before s kept None
     cuts_up at lies =
         cut CUTS_UP refl (omega (arith, ints), (omega (arith, ints, begin_is, lies.starts, lies.before), tt)) singles
       where
-        singles : (which : Single) → Some (pos (single (commanded s kept None) which))
-            ≡ changed CUTS_UP before (One which) (Some (pos (single (commanded s s.kept None) which)))
+        singles : (which : Single) → Some (single (commanded s kept None) which)
+            ≡ changed CUTS_UP before (One which) (Some (single (commanded s s.kept None) which))
         singles Steps = refl
         singles Pointer = ap Some (omega (arith, ints, begin_is, lies.starts))
         singles Size = ap Some (omega (arith, ints, long, begin_is, lies.starts))
@@ -249,6 +254,7 @@ module _ (s : Point) (here : Places) (given : ℕ → ℤ) (a b : ℕ) (ordered 
         singles LastLength = refl
         singles CodeHere = ap (λ x. Some (pos x)) (here_is ∙ ap (code_here s.kept.text) at)
         singles CodeBefore = ap Some (omega (arith, ints))
+        singles Typed = refl
 
     -- in the order of the places
     module _ (from : given 0 ≡ pos a) (to : given 1 ≡ pos b) where
@@ -265,8 +271,8 @@ module _ (s : Point) (here : Places) (given : ℕ → ℤ) (a b : ℕ) (ordered 
               end_before s.kept.text b s.kept.pointer _ _ f e (λ l. omega arith),
             )
 
-        singles : (which : Single) → Some (pos (single (commanded s kept None) which))
-            ≡ changed CUTS before (One which) (Some (pos (single (commanded s s.kept None) which)))
+        singles : (which : Single) → Some (single (commanded s kept None) which)
+            ≡ changed CUTS before (One which) (Some (single (commanded s s.kept None) which))
         singles Steps = refl
         singles Pointer = ap Some (omega (arith, ints))
         singles Size = ap Some (omega (arith, ints, long))
@@ -276,6 +282,7 @@ module _ (s : Point) (here : Places) (given : ℕ → ℤ) (a b : ℕ) (ordered 
         singles LastLength = refl
         singles CodeHere = ap Some (omega (arith, ints))
         singles CodeBefore = ap (λ x. Some (pos x)) (before_is ∙ ap (code_before s.kept.text) at)
+        singles Typed = refl
 
       pub cuts_past : a ≡ s.kept.pointer → line_place s.kept.text s.kept.pointer (pos 1) ≤ b
           → Leads CUTS_PAST before s kept None
@@ -287,8 +294,8 @@ module _ (s : Point) (here : Places) (given : ℕ → ℤ) (a b : ℕ) (ordered 
             f : IsEnd s.kept.text b (line_place s.kept.text b (pos 1))
             f = line_end s.kept.text b inside
 
-            singles : (which : Single) → Some (pos (single (commanded s kept None) which))
-                ≡ changed CUTS_PAST before (One which) (Some (pos (single (commanded s s.kept None) which)))
+            singles : (which : Single) → Some (single (commanded s kept None) which)
+                ≡ changed CUTS_PAST before (One which) (Some (single (commanded s s.kept None) which))
             singles Steps = refl
             singles Pointer = ap Some (omega (arith, ints))
             singles Size = ap Some (omega (arith, ints, long))
@@ -298,6 +305,7 @@ module _ (s : Point) (here : Places) (given : ℕ → ℤ) (a b : ℕ) (ordered 
             singles LastLength = refl
             singles CodeHere = ap Some (omega (arith, ints))
             singles CodeBefore = ap (λ x. Some (pos x)) (before_is ∙ ap (code_before s.kept.text) at)
+            singles Typed = refl
 
       pub parts : Leads PART before s kept None
       parts = cut PART refl (
@@ -317,8 +325,8 @@ module _ (s : Point) (here : Places) (given : ℕ → ℤ) (a b : ℕ) (ordered 
             t : IsBegin s.kept.text a (line_place s.kept.text a (pos 0))
             t = line_begin s.kept.text a
 
-            singles : (which : Single) → Some (pos (single (commanded s kept None) which))
-                ≡ changed PART before (One which) (Some (pos (single (commanded s s.kept None) which)))
+            singles : (which : Single) → Some (single (commanded s kept None) which)
+                ≡ changed PART before (One which) (Some (single (commanded s s.kept None) which))
             singles Steps = refl
             singles Pointer = ap Some (omega (arith, ints))
             singles Size = ap Some (omega (arith, ints, long))
@@ -328,6 +336,7 @@ module _ (s : Point) (here : Places) (given : ℕ → ℤ) (a b : ℕ) (ordered 
             singles LastLength = refl
             singles CodeHere = ap Some (omega (arith, ints))
             singles CodeBefore = ap Some (omega (arith, ints))
+            singles Typed = refl
 
     -- in the other order
     module _ (from : given 0 ≡ pos b) (to : given 1 ≡ pos a) where
@@ -351,8 +360,8 @@ module _ (s : Point) (here : Places) (given : ℕ → ℤ) (a b : ℕ) (ordered 
                   begin_before s.kept.text a s.kept.pointer _ _ f e (omega (arith, f.before)),
                 )
 
-            singles : (which : Single) → Some (pos (single (commanded s kept None) which))
-                ≡ changed CUTS_BACK before (One which) (Some (pos (single (commanded s s.kept None) which)))
+            singles : (which : Single) → Some (single (commanded s kept None) which)
+                ≡ changed CUTS_BACK before (One which) (Some (single (commanded s s.kept None) which))
             singles Steps = refl
             singles Pointer = ap Some (omega (arith, ints))
             singles Size = ap Some (omega (arith, ints, long))
@@ -362,6 +371,7 @@ module _ (s : Point) (here : Places) (given : ℕ → ℤ) (a b : ℕ) (ordered 
             singles LastLength = refl
             singles CodeHere = ap (λ x. Some (pos x)) (here_is ∙ ap (code_here s.kept.text) at)
             singles CodeBefore = ap Some (omega (arith, ints))
+            singles Typed = refl
 
       pub cuts_back_past : b ≡ s.kept.pointer → a + 1 ≤ line_place s.kept.text s.kept.pointer (pos 0)
           → Leads CUTS_BACK_PAST before s kept None
@@ -370,8 +380,8 @@ module _ (s : Point) (here : Places) (given : ℕ → ℤ) (a b : ℕ) (ordered 
             f : IsBegin s.kept.text a (line_place s.kept.text a (pos 0))
             f = line_begin s.kept.text a
 
-            singles : (which : Single) → Some (pos (single (commanded s kept None) which))
-                ≡ changed CUTS_BACK_PAST before (One which) (Some (pos (single (commanded s s.kept None) which)))
+            singles : (which : Single) → Some (single (commanded s kept None) which)
+                ≡ changed CUTS_BACK_PAST before (One which) (Some (single (commanded s s.kept None) which))
             singles Steps = refl
             singles Pointer = ap Some (omega (arith, ints))
             singles Size = ap Some (omega (arith, ints, long))
@@ -381,6 +391,7 @@ module _ (s : Point) (here : Places) (given : ℕ → ℤ) (a b : ℕ) (ordered 
             singles LastLength = refl
             singles CodeHere = ap (λ x. Some (pos x)) (here_is ∙ ap (code_here s.kept.text) at)
             singles CodeBefore = ap Some (omega (arith, ints))
+            singles Typed = refl
 
       pub parts_back : a + 1 ≤ b → Leads PART_BACK before s kept None
       parts_back apart = cut PART_BACK refl (
@@ -400,8 +411,8 @@ module _ (s : Point) (here : Places) (given : ℕ → ℤ) (a b : ℕ) (ordered 
             t : IsBegin s.kept.text a (line_place s.kept.text a (pos 0))
             t = line_begin s.kept.text a
 
-            singles : (which : Single) → Some (pos (single (commanded s kept None) which))
-                ≡ changed PART_BACK before (One which) (Some (pos (single (commanded s s.kept None) which)))
+            singles : (which : Single) → Some (single (commanded s kept None) which)
+                ≡ changed PART_BACK before (One which) (Some (single (commanded s s.kept None) which))
             singles Steps = refl
             singles Pointer = ap Some (omega (arith, ints))
             singles Size = ap Some (omega (arith, ints, long))
@@ -411,6 +422,7 @@ module _ (s : Point) (here : Places) (given : ℕ → ℤ) (a b : ℕ) (ordered 
             singles LastLength = refl
             singles CodeHere = ap Some (omega (arith, ints))
             singles CodeBefore = ap Some (omega (arith, ints))
+            singles Typed = refl
 
 -- ---- the part between two places, in either order
 pub ordered_part : (a b : ℕ) (kept : Kept) → a ≤ b → kept_without a b kept ≡ (deletion_between a b kept).kept

@@ -34,7 +34,7 @@ use Rattle.teco_rows.specs.declared.commands.Way as command
 use Rattle.teco_command_outcomes.specs.declared.insertions.TheConstants.{GOES_ON, PUTS, STARTS}
 use Rattle.teco_rows.specs.declared.measure.Single.{Single}
 use Rattle.teco_rows.specs.declared.measure.Single.TheVariants.{Steps, Pointer, Size, Held, LineEnd, LineStart}
-use Rattle.teco_rows.specs.declared.measure.Single.TheVariants.{LastLength, CodeHere, CodeBefore}
+use Rattle.teco_rows.specs.declared.measure.Single.TheVariants.{LastLength, CodeHere, CodeBefore, Typed}
 use Rattle.teco_rows.specs.declared.measure.Measure.TheVariants.{One}
 use Rattle.teco_rows.specs.declared.outcomes.Outcomes.{Outcomes}
 use Rattle.teco_rows.specs.declared.row.Places.{Places}
@@ -145,8 +145,8 @@ module _ (s : Point) (here : Places) (given unknown : ℕ → ℤ) (new : List �
         long : length (text_after_insertion s.kept.text s.kept.pointer new) ≡ length new + length s.kept.text
         long = grown_long s.kept.text new s.kept.pointer inside
 
-        singles : (which : Single) → Some (pos (single (commanded s (kept_with new s.kept) None) which))
-            ≡ changed GOES_ON before (One which) (Some (pos (single (commanded s s.kept None) which)))
+        singles : (which : Single) → Some (single (commanded s (kept_with new s.kept) None) which)
+            ≡ changed GOES_ON before (One which) (Some (single (commanded s s.kept None) which))
         singles Steps = refl
         singles Pointer = ap Some (omega (arith, ints))
         singles Size = ap Some (omega (arith, ints, long))
@@ -156,6 +156,7 @@ module _ (s : Point) (here : Places) (given unknown : ℕ → ℤ) (new : List �
         singles LastLength = ap Some (omega (arith, ints))
         singles CodeHere = ap (λ x. Some (pos x)) (grown_here s.kept.text new s.kept.pointer inside)
         singles CodeBefore = ap Some (omega (arith, ints, grown_before s.kept.text new s.kept.pointer inside))
+        singles Typed = refl
 
   pub starts : 1 ≤ line_place new (length new) (pos 0) → Leads STARTS before s (kept_with new s.kept) None
   starts one =
@@ -163,8 +164,8 @@ module _ (s : Point) (here : Places) (given unknown : ℕ → ℤ) (new : List �
         long : length (text_after_insertion s.kept.text s.kept.pointer new) ≡ length new + length s.kept.text
         long = grown_long s.kept.text new s.kept.pointer inside
 
-        singles : (which : Single) → Some (pos (single (commanded s (kept_with new s.kept) None) which))
-            ≡ changed STARTS before (One which) (Some (pos (single (commanded s s.kept None) which)))
+        singles : (which : Single) → Some (single (commanded s (kept_with new s.kept) None) which)
+            ≡ changed STARTS before (One which) (Some (single (commanded s s.kept None) which))
         singles Steps = refl
         singles Pointer = ap Some (omega (arith, ints))
         singles Size = ap Some (omega (arith, ints, long))
@@ -174,6 +175,7 @@ module _ (s : Point) (here : Places) (given unknown : ℕ → ℤ) (new : List �
         singles LastLength = ap Some (omega (arith, ints))
         singles CodeHere = ap (λ x. Some (pos x)) (grown_here s.kept.text new s.kept.pointer inside)
         singles CodeBefore = ap Some (omega (arith, ints, grown_before s.kept.text new s.kept.pointer inside))
+        singles Typed = refl
 
 -- ---- what is inserted
 abbrev read_by : List Term → List Term → List Term → ℕ → Valuation → ℕ → ℤ
@@ -291,9 +293,9 @@ module _ (s : Point) (here : Places) (given unknown : ℕ → ℤ) (new : List �
           )
         ]
 
-        singles : (which : Single) → Some (pos (single (commanded s (kept_with new s.kept) None) which))
-            ≡ changed PUTS (read_at s here given unknown) (One which) (Some (pos (single
-            (commanded s s.kept None) which)))
+        singles : (which : Single) → Some (single (commanded s (kept_with new s.kept) None) which)
+            ≡ changed PUTS (read_at s here given unknown) (One which) (Some (single
+            (commanded s s.kept None) which))
         singles Steps = refl
         singles Pointer = ap Some (omega (arith, ints))
         singles Size = ap Some (omega (arith, ints, long))
@@ -303,6 +305,7 @@ module _ (s : Point) (here : Places) (given unknown : ℕ → ℤ) (new : List �
         singles LastLength = ap Some (omega (arith, ints))
         singles CodeHere = ap (λ x. Some (pos x)) (grown_here s.kept.text new s.kept.pointer inside)
         singles CodeBefore = ap Some (omega (arith, ints, before_is))
+        singles Typed = refl
 
 -- what is not known of the state behind
 abbrev unknown_behind : Kept → List ℕ → ℕ → ℤ

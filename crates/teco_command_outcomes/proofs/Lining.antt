@@ -21,7 +21,7 @@ use Rattle.teco_command_outcomes.specs.declared.line_motions.TheConstants.{STAYS
 use Rattle.teco_command_outcomes.specs.declared.line_motions.TheConstants.{TOP, UP, UP_ONE}
 use Rattle.teco_rows.specs.declared.measure.Single.{Single}
 use Rattle.teco_rows.specs.declared.measure.Single.TheVariants.{Steps, Pointer, Size, Held, LineEnd, LineStart}
-use Rattle.teco_rows.specs.declared.measure.Single.TheVariants.{LastLength, CodeHere, CodeBefore}
+use Rattle.teco_rows.specs.declared.measure.Single.TheVariants.{LastLength, CodeHere, CodeBefore, Typed}
 use Rattle.teco_rows.specs.declared.measure.Measure.TheVariants.{One}
 use Rattle.teco_rows.specs.declared.outcomes.Outcomes.{Outcomes}
 use Rattle.teco_rows.specs.declared.row.Clause.{Clause}
@@ -193,8 +193,8 @@ module _ (s : Point) (here : Places) (given : ℕ → ℤ) (k : ℕ) (whole : s.
 
   pub stays : length s.kept.text ≤ s.kept.pointer → k ≡ s.kept.pointer → Leads STAYS before s kept None
   stays h at = leads_singles STAYS before s kept refl refl (omega (arith, ints), tt) singles where
-    singles : (which : Single) → Some (pos (single (commanded s kept None) which))
-        ≡ changed STAYS before (One which) (Some (pos (single (commanded s s.kept None) which)))
+    singles : (which : Single) → Some (single (commanded s kept None) which)
+        ≡ changed STAYS before (One which) (Some (single (commanded s s.kept None) which))
     singles Steps = refl
     singles Pointer = ap (λ x. Some (pos x)) at
     singles Size = refl
@@ -204,6 +204,7 @@ module _ (s : Point) (here : Places) (given : ℕ → ℤ) (k : ℕ) (whole : s.
     singles LastLength = refl
     singles CodeHere = ap (λ x. Some (pos x)) (ap (code_here s.kept.text) at)
     singles CodeBefore = ap (λ x. Some (pos x)) (ap (code_before s.kept.text) at)
+    singles Typed = refl
 
   -- a line end stands before the place
   pub steps : s.kept.pointer + 1 ≤ k → k ≡ line_place s.kept.text s.kept.pointer (pos 1)
@@ -218,8 +219,8 @@ module _ (s : Point) (here : Places) (given : ℕ → ℤ) (k : ℕ) (whole : s.
         same = one_begin s.kept.text k (line_place s.kept.text k (pos 0)) k begin_there
             (record { before = omega arith; none = λ i a b. absurd (omega arith); one = start })
 
-        singles : (which : Single) → Some (pos (single (commanded s kept None) which))
-            ≡ changed STEPS before (One which) (Some (pos (single (commanded s s.kept None) which)))
+        singles : (which : Single) → Some (single (commanded s kept None) which)
+            ≡ changed STEPS before (One which) (Some (single (commanded s s.kept None) which))
         singles Steps = refl
         singles Pointer = ap Some (omega (arith, ints))
         singles Size = refl
@@ -229,6 +230,7 @@ module _ (s : Point) (here : Places) (given : ℕ → ℤ) (k : ℕ) (whole : s.
         singles LastLength = refl
         singles CodeHere = ap Some (omega (arith, ints))
         singles CodeBefore = ap Some (omega (arith, ints))
+        singles Typed = refl
 
   -- none does
   pub last : s.kept.pointer + 1 ≤ k → k ≡ line_place s.kept.text s.kept.pointer (pos 1) → k ≡ length s.kept.text
@@ -248,8 +250,8 @@ module _ (s : Point) (here : Places) (given : ℕ → ℤ) (k : ℕ) (whole : s.
         same = one_begin s.kept.text k _ _ begin_there
             (record { before = omega (arith, begin.before); none = none; one = begin.one })
 
-        singles : (which : Single) → Some (pos (single (commanded s kept None) which))
-            ≡ changed LAST before (One which) (Some (pos (single (commanded s s.kept None) which)))
+        singles : (which : Single) → Some (single (commanded s kept None) which)
+            ≡ changed LAST before (One which) (Some (single (commanded s s.kept None) which))
         singles Steps = refl
         singles Pointer = ap Some (omega (arith, ints))
         singles Size = refl
@@ -259,6 +261,7 @@ module _ (s : Point) (here : Places) (given : ℕ → ℤ) (k : ℕ) (whole : s.
         singles LastLength = refl
         singles CodeHere = ap Some (omega (arith, ints))
         singles CodeBefore = ap Some (omega (arith, ints))
+        singles Typed = refl
 
   pub starts : k ≡ line_place s.kept.text s.kept.pointer (pos 0) → Leads STARTS before s kept None
   starts at = leads_singles STARTS before s kept refl refl tt singles where
@@ -277,8 +280,8 @@ module _ (s : Point) (here : Places) (given : ℕ → ℤ) (k : ℕ) (whole : s.
       one = λ j f. begin.one j (omega arith);
     })
 
-    singles : (which : Single) → Some (pos (single (commanded s kept None) which))
-        ≡ changed STARTS before (One which) (Some (pos (single (commanded s s.kept None) which)))
+    singles : (which : Single) → Some (single (commanded s kept None) which)
+        ≡ changed STARTS before (One which) (Some (single (commanded s s.kept None) which))
     singles Steps = refl
     singles Pointer = ap Some (omega (arith, ints))
     singles Size = refl
@@ -288,6 +291,7 @@ module _ (s : Point) (here : Places) (given : ℕ → ℤ) (k : ℕ) (whole : s.
     singles LastLength = refl
     singles CodeHere = ap Some (omega (arith, ints))
     singles CodeBefore = ap Some (omega (arith, ints))
+    singles Typed = refl
 
   pub ahead : pos 1 ≤ℤ given 0 → line_place s.kept.text s.kept.pointer (pos 1) ≤ k → Leads AHEAD before s kept None
   ahead h far =
@@ -308,8 +312,8 @@ module _ (s : Point) (here : Places) (given : ℕ → ℤ) (k : ℕ) (whole : s.
         later : line_place s.kept.text s.kept.pointer (pos 0) ≤ line_place s.kept.text k (pos 0)
         later = begin_before s.kept.text s.kept.pointer k _ _ begin begin_there (omega (arith, begin.before, end.after))
 
-        singles : (which : Single) → Some (pos (single (commanded s kept None) which))
-            ≡ changed AHEAD before (One which) (Some (pos (single (commanded s s.kept None) which)))
+        singles : (which : Single) → Some (single (commanded s kept None) which)
+            ≡ changed AHEAD before (One which) (Some (single (commanded s s.kept None) which))
         singles Steps = refl
         singles Pointer = ap Some (omega (arith, ints))
         singles Size = refl
@@ -319,6 +323,7 @@ module _ (s : Point) (here : Places) (given : ℕ → ℤ) (k : ℕ) (whole : s.
         singles LastLength = refl
         singles CodeHere = ap Some (omega (arith, ints))
         singles CodeBefore = ap Some (omega (arith, ints))
+        singles Typed = refl
 
   pub back : given 0 ≤ℤ pos 0 → k ≤ line_place s.kept.text s.kept.pointer (pos 0)
       → line_place s.kept.text k (pos 0) ≡ k → Leads BACK before s kept None
@@ -335,8 +340,8 @@ module _ (s : Point) (here : Places) (given : ℕ → ℤ) (k : ℕ) (whole : s.
         nearer = end_before s.kept.text k s.kept.pointer _ _ end_there end (λ l. omega
             (arith, end.more l, begin.before))
 
-        singles : (which : Single) → Some (pos (single (commanded s kept None) which))
-            ≡ changed BACK before (One which) (Some (pos (single (commanded s s.kept None) which)))
+        singles : (which : Single) → Some (single (commanded s kept None) which)
+            ≡ changed BACK before (One which) (Some (single (commanded s s.kept None) which))
         singles Steps = refl
         singles Pointer = ap Some (omega (arith, ints))
         singles Size = refl
@@ -346,6 +351,7 @@ module _ (s : Point) (here : Places) (given : ℕ → ℤ) (k : ℕ) (whole : s.
         singles LastLength = refl
         singles CodeHere = ap Some (omega (arith, ints))
         singles CodeBefore = ap Some (omega (arith, ints))
+        singles Typed = refl
 
   -- to the first line, and to one before
   pub top : line_place s.kept.text s.kept.pointer (pos 0) ≡ 0 → k ≡ 0 → Leads TOP before s kept None
@@ -358,8 +364,8 @@ module _ (s : Point) (here : Places) (given : ℕ → ℤ) (k : ℕ) (whole : s.
           end_inside s.kept.text s.kept.pointer k _ _ _ begin end end_there (omega arith) (omega arith),
         )
 
-    singles : (which : Single) → Some (pos (single (commanded s kept None) which))
-        ≡ changed TOP before (One which) (Some (pos (single (commanded s s.kept None) which)))
+    singles : (which : Single) → Some (single (commanded s kept None) which)
+        ≡ changed TOP before (One which) (Some (single (commanded s s.kept None) which))
     singles Steps = refl
     singles Pointer = ap Some (omega (arith, ints))
     singles Size = refl
@@ -369,6 +375,7 @@ module _ (s : Point) (here : Places) (given : ℕ → ℤ) (k : ℕ) (whole : s.
     singles LastLength = refl
     singles CodeHere = ap Some (omega (arith, ints))
     singles CodeBefore = ap Some (omega (arith, ints))
+    singles Typed = refl
 
   pub up_one : LiesAbove s.kept.text s.kept.pointer k
       → line_place s.kept.text k (pos 1) ≡ line_place s.kept.text s.kept.pointer (pos 0)
@@ -376,8 +383,8 @@ module _ (s : Point) (here : Places) (given : ℕ → ℤ) (k : ℕ) (whole : s.
   up_one lies ends_there =
       leads_singles UP_ONE before s kept refl refl (omega (arith, ints), (omega (arith, ints, lies.before), tt)) singles
     where
-      singles : (which : Single) → Some (pos (single (commanded s kept None) which))
-          ≡ changed UP_ONE before (One which) (Some (pos (single (commanded s s.kept None) which)))
+      singles : (which : Single) → Some (single (commanded s kept None) which)
+          ≡ changed UP_ONE before (One which) (Some (single (commanded s s.kept None) which))
       singles Steps = refl
       singles Pointer = ap Some (omega (arith, ints))
       singles Size = refl
@@ -387,6 +394,7 @@ module _ (s : Point) (here : Places) (given : ℕ → ℤ) (k : ℕ) (whole : s.
       singles LastLength = refl
       singles CodeHere = ap Some (omega (arith, ints))
       singles CodeBefore = ap Some (omega (arith, ints))
+      singles Typed = refl
 
   pub up : LiesAbove s.kept.text s.kept.pointer k → Leads UP before s kept None
   up lies =
@@ -412,8 +420,8 @@ module _ (s : Point) (here : Places) (given : ℕ → ℤ) (k : ℕ) (whole : s.
         nearer : line_place s.kept.text k (pos 1) ≤ line_place s.kept.text s.kept.pointer (pos 0)
         nearer = up_to (line_place s.kept.text s.kept.pointer (pos 0) - 1) (omega (arith, lies.before))
 
-        singles : (which : Single) → Some (pos (single (commanded s kept None) which))
-            ≡ changed UP before (One which) (Some (pos (single (commanded s s.kept None) which)))
+        singles : (which : Single) → Some (single (commanded s kept None) which)
+            ≡ changed UP before (One which) (Some (single (commanded s s.kept None) which))
         singles Steps = refl
         singles Pointer = ap Some (omega (arith, ints))
         singles Size = refl
@@ -423,6 +431,7 @@ module _ (s : Point) (here : Places) (given : ℕ → ℤ) (k : ℕ) (whole : s.
         singles LastLength = refl
         singles CodeHere = ap Some (omega (arith, ints))
         singles CodeBefore = ap Some (omega (arith, ints))
+        singles Typed = refl
 
 -- ---- what is gone to
 module _ (case : Case) (ways : List command.Way) (given : List (List Term)) (here : Places) (all : Outcomes)

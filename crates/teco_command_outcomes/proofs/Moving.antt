@@ -20,7 +20,7 @@ use Rattle.teco_model.specs.laws.Whole.{IsWhole}
 use Rattle.teco_rows.specs.declared.case.Case.{Case}
 use Rattle.teco_rows.specs.declared.measure.Single.{Single}
 use Rattle.teco_rows.specs.declared.measure.Single.TheVariants.{Steps, Pointer, Size, Held, LineEnd, LineStart}
-use Rattle.teco_rows.specs.declared.measure.Single.TheVariants.{LastLength, CodeHere, CodeBefore}
+use Rattle.teco_rows.specs.declared.measure.Single.TheVariants.{LastLength, CodeHere, CodeBefore, Typed}
 use Rattle.teco_rows.specs.declared.measure.Measure.TheVariants.{One, Each}
 use Rattle.teco_rows.specs.declared.measure.Family.TheVariants.{Number, Length, Turns, PushedNumber, PushedLength}
 use Rattle.teco_rows.specs.declared.measure.Family.TheVariants.{First, Value}
@@ -114,8 +114,8 @@ module _ (s : Point) (here : Places) (given unknown : ℕ → ℤ) (k : ℕ) (wh
   moved : (row : List Clause) (answer : Option ℤ) → leaves Turns row ≡ true → leaves PushedNumber row ≡ true
       → leaves PushedLength row ≡ true → leaves First row ≡ true → leaves Number row ≡ true → leaves Length row ≡ true
       → AreMet row b
-      → ((which : Single) → Some (pos (single (commanded s kept answer) which))
-      ≡ changed row b (One which) (Some (pos (single (commanded s s.kept None) which))))
+      → ((which : Single) → Some (single (commanded s kept answer) which)
+      ≡ changed row b (One which) (Some (single (commanded s s.kept None) which)))
       → ((i : ℕ) → each (commanded s kept answer) Value i
       ≡ changed row b (Each Value i) (each (commanded s s.kept None) Value i))
       → Leads row b s kept answer
@@ -170,8 +170,8 @@ module _ (s : Point) (here : Places) (given unknown : ℕ → ℤ) (k : ℕ) (wh
     )
         back (λ i. refl)))
   ] where
-    ahead : (which : Single) → Some (pos (single (commanded s kept None) which))
-        ≡ changed AHEAD b (One which) (Some (pos (single (commanded s s.kept None) which)))
+    ahead : (which : Single) → Some (single (commanded s kept None) which)
+        ≡ changed AHEAD b (One which) (Some (single (commanded s s.kept None) which))
     ahead Steps = refl
     ahead Pointer = ap Some (omega (arith, ints))
     ahead Size = refl
@@ -181,11 +181,12 @@ module _ (s : Point) (here : Places) (given unknown : ℕ → ℤ) (k : ℕ) (wh
     ahead LastLength = refl
     ahead CodeHere = ap Some (omega (arith, ints, at_it))
     ahead CodeBefore = ap Some (omega (arith, ints, before_it))
+    ahead Typed = refl
 
     within : line_place s.kept.text k (pos 1) ≡ line_place s.kept.text s.kept.pointer (pos 1)
         → line_place s.kept.text k (pos 0) ≡ line_place s.kept.text s.kept.pointer (pos 0)
-        → (which : Single) → Some (pos (single (commanded s kept None) which))
-        ≡ changed WITHIN b (One which) (Some (pos (single (commanded s s.kept None) which)))
+        → (which : Single) → Some (single (commanded s kept None) which)
+        ≡ changed WITHIN b (One which) (Some (single (commanded s s.kept None) which))
     within d f Steps = refl
     within d f Pointer = ap Some (omega (arith, ints))
     within d f Size = refl
@@ -195,9 +196,10 @@ module _ (s : Point) (here : Places) (given unknown : ℕ → ℤ) (k : ℕ) (wh
     within d f LastLength = refl
     within d f CodeHere = ap Some (omega (arith, ints, at_it))
     within d f CodeBefore = ap Some (omega (arith, ints, before_it))
+    within d f Typed = refl
 
-    back : (which : Single) → Some (pos (single (commanded s kept None) which))
-        ≡ changed BACK b (One which) (Some (pos (single (commanded s s.kept None) which)))
+    back : (which : Single) → Some (single (commanded s kept None) which)
+        ≡ changed BACK b (One which) (Some (single (commanded s s.kept None) which))
     back Steps = refl
     back Pointer = ap Some (omega (arith, ints))
     back Size = refl
@@ -207,6 +209,7 @@ module _ (s : Point) (here : Places) (given unknown : ℕ → ℤ) (k : ℕ) (wh
     back LastLength = refl
     back CodeHere = ap Some (omega (arith, ints, at_it))
     back CodeBefore = ap Some (omega (arith, ints, before_it))
+    back Typed = refl
 
   -- to the next character
   there : IsEnd s.kept.text k (line_place s.kept.text k (pos 1))
@@ -294,8 +297,8 @@ module _ (s : Point) (here : Places) (given unknown : ℕ → ℤ) (k : ℕ) (wh
             begin_most s.kept.text k _ s.kept.pointer begun (omega (arith, next)) ended,
           )
 
-          singles : (which : Single) → Some (pos (single (commanded s kept None) which))
-              ≡ changed PASSES_END b (One which) (Some (pos (single (commanded s s.kept None) which)))
+          singles : (which : Single) → Some (single (commanded s kept None) which)
+              ≡ changed PASSES_END b (One which) (Some (single (commanded s s.kept None) which))
           singles Steps = refl
           singles Pointer = ap Some (omega (arith, ints))
           singles Size = refl
@@ -305,11 +308,12 @@ module _ (s : Point) (here : Places) (given unknown : ℕ → ℤ) (k : ℕ) (wh
           singles LastLength = refl
           singles CodeHere = ap Some (omega (arith, ints, at_it))
           singles CodeBefore = ap Some (omega (arith, ints, before))
+          singles Typed = refl
     by_sort (is_low going low high) = inr (inl (moved PASSES_LOW None refl refl refl refl refl refl
         (omega (arith, ints, next, ahead), (omega (arith, ints, low), (omega (arith, ints, high), tt)))
         (singles (goes_on next going)) (λ i. refl))) where
-          singles : IsSame → (which : Single) → Some (pos (single (commanded s kept None) which))
-              ≡ changed PASSES_LOW b (One which) (Some (pos (single (commanded s s.kept None) which)))
+          singles : IsSame → (which : Single) → Some (single (commanded s kept None) which)
+              ≡ changed PASSES_LOW b (One which) (Some (single (commanded s s.kept None) which))
           singles same Steps = refl
           singles same Pointer = ap Some (omega (arith, ints))
           singles same Size = refl
@@ -319,11 +323,12 @@ module _ (s : Point) (here : Places) (given unknown : ℕ → ℤ) (k : ℕ) (wh
           singles same LastLength = refl
           singles same CodeHere = ap Some (omega (arith, ints, at_it))
           singles same CodeBefore = ap Some (omega (arith, ints, before))
+          singles same Typed = refl
     by_sort (is_high going low high) = inr (inr (moved PASSES_HIGH None refl refl refl refl refl refl
         (omega (arith, ints, next, ahead), (omega (arith, ints, low), (omega (arith, ints, high), tt)))
         (singles (goes_on next going)) (λ i. refl))) where
-          singles : IsSame → (which : Single) → Some (pos (single (commanded s kept None) which))
-              ≡ changed PASSES_HIGH b (One which) (Some (pos (single (commanded s s.kept None) which)))
+          singles : IsSame → (which : Single) → Some (single (commanded s kept None) which)
+              ≡ changed PASSES_HIGH b (One which) (Some (single (commanded s s.kept None) which))
           singles same Steps = refl
           singles same Pointer = ap Some (omega (arith, ints))
           singles same Size = refl
@@ -333,6 +338,7 @@ module _ (s : Point) (here : Places) (given unknown : ℕ → ℤ) (k : ℕ) (wh
           singles same LastLength = refl
           singles same CodeHere = ap Some (omega (arith, ints, at_it))
           singles same CodeBefore = ap Some (omega (arith, ints, before))
+          singles same Typed = refl
 
   pub returned : k + 1 ≡ s.kept.pointer
       → Leads RETURNS_END b s kept None ⊎ (Leads RETURNS_LOW b s kept None ⊎ Leads RETURNS_HIGH b s kept None)
@@ -358,8 +364,8 @@ module _ (s : Point) (here : Places) (given unknown : ℕ → ℤ) (k : ℕ) (wh
             end_least s.kept.text k _ k there (omega arith) ended,
           )
 
-          singles : (which : Single) → Some (pos (single (commanded s kept None) which))
-              ≡ changed RETURNS_END b (One which) (Some (pos (single (commanded s s.kept None) which)))
+          singles : (which : Single) → Some (single (commanded s kept None) which)
+              ≡ changed RETURNS_END b (One which) (Some (single (commanded s s.kept None) which))
           singles Steps = refl
           singles Pointer = ap Some (omega (arith, ints))
           singles Size = refl
@@ -369,13 +375,14 @@ module _ (s : Point) (here : Places) (given unknown : ℕ → ℤ) (k : ℕ) (wh
           singles LastLength = refl
           singles CodeHere = ap Some (omega (arith, ints, before))
           singles CodeBefore = ap Some (omega (arith, ints, before_it))
+          singles Typed = refl
     by_sort (is_low going low high) = inr (inl (moved RETURNS_LOW None refl refl refl refl refl refl (
       omega (arith, ints, begun.before, (came last going).start_same),
       (omega (arith, ints, low, before), (omega (arith, ints, high, before), tt)),
     )
         (singles (came last going)) (λ i. refl))) where
-          singles : IsSame → (which : Single) → Some (pos (single (commanded s kept None) which))
-              ≡ changed RETURNS_LOW b (One which) (Some (pos (single (commanded s s.kept None) which)))
+          singles : IsSame → (which : Single) → Some (single (commanded s kept None) which)
+              ≡ changed RETURNS_LOW b (One which) (Some (single (commanded s s.kept None) which))
           singles same Steps = refl
           singles same Pointer = ap Some (omega (arith, ints))
           singles same Size = refl
@@ -385,13 +392,14 @@ module _ (s : Point) (here : Places) (given unknown : ℕ → ℤ) (k : ℕ) (wh
           singles same LastLength = refl
           singles same CodeHere = ap Some (omega (arith, ints, before))
           singles same CodeBefore = ap Some (omega (arith, ints, before_it))
+          singles same Typed = refl
     by_sort (is_high going low high) = inr (inr (moved RETURNS_HIGH None refl refl refl refl refl refl (
       omega (arith, ints, begun.before, (came last going).start_same),
       (omega (arith, ints, low, before), (omega (arith, ints, high, before), tt)),
     )
         (singles (came last going)) (λ i. refl))) where
-          singles : IsSame → (which : Single) → Some (pos (single (commanded s kept None) which))
-              ≡ changed RETURNS_HIGH b (One which) (Some (pos (single (commanded s s.kept None) which)))
+          singles : IsSame → (which : Single) → Some (single (commanded s kept None) which)
+              ≡ changed RETURNS_HIGH b (One which) (Some (single (commanded s s.kept None) which))
           singles same Steps = refl
           singles same Pointer = ap Some (omega (arith, ints))
           singles same Size = refl
@@ -401,6 +409,7 @@ module _ (s : Point) (here : Places) (given unknown : ℕ → ℤ) (k : ℕ) (wh
           singles same LastLength = refl
           singles same CodeHere = ap Some (omega (arith, ints, before))
           singles same CodeBefore = ap Some (omega (arith, ints, before_it))
+          singles same Typed = refl
 
 -- ---- to a place that a number names, or off the buffer
 pub place_there : (text : List ℕ) (k : ℕ) → k ≤ length text → place_in text (pos k) ≡ Some k
@@ -482,8 +491,8 @@ module _ (case : Case) (ways : List command.Way) (place : List Term) (here : Pla
     found k e h (inr (inr leading)) = found_by 2 k BACK e h refl w2 leading
 
     stays : (which : Single)
-        → Some (pos (single (commanded s s.kept (Some (pos 0))) which)) ≡ Some (pos (single
-        (commanded s s.kept None) which))
+        → Some (single (commanded s s.kept (Some (pos 0))) which) ≡ Some (single
+        (commanded s s.kept None) which)
     stays Steps = refl
     stays Pointer = refl
     stays Size = refl
@@ -493,6 +502,7 @@ module _ (case : Case) (ways : List command.Way) (place : List Term) (here : Pla
     stays LastLength = refl
     stays CodeHere = refl
     stays CodeBefore = refl
+    stays Typed = refl
 
     -- nothing moves, and 0 is answered
     nothing : Succeeds (λ effect. Describe n all (commanded s effect.kept effect.answer)) (Ok (with_answer

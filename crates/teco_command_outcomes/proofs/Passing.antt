@@ -1,5 +1,5 @@
 -- D of one character.
-use Rattle.std.proofs.Common.{◌≡◌, ℕ, ◌+◌, ◌<◌, ◌≤◌, ℤ, pos, ◌+ℤ◌, List, [], ◌∷◌, length, true, false, Some, None}
+use Rattle.std.proofs.Common.{◌≡◌, ℕ, ◌+◌, ◌≤◌, ℤ, pos, ◌+ℤ◌, List, [], ◌∷◌, length, true, false, Some, None}
 use Rattle.std.proofs.Common.{slice_index_or, refl, sym, ap, subst, ◌∙◌, arith}
 use Rattle.std.proofs.lemmas.Int.{ints}
 use Rattle.teco_base.specs.Lines.{line_place}
@@ -12,17 +12,17 @@ use Rattle.teco_rows.specs.declared.case.Case.{Case}
 use Rattle.teco_rows.specs.declared.commands.Way as command
 use Rattle.teco_rows.specs.declared.measure.Single.{Single}
 use Rattle.teco_rows.specs.declared.measure.Single.TheVariants.{Steps, Pointer, Size, Held, LineEnd, LineStart}
-use Rattle.teco_rows.specs.declared.measure.Single.TheVariants.{LastLength, CodeHere, CodeBefore}
+use Rattle.teco_rows.specs.declared.measure.Single.TheVariants.{LastLength, CodeHere, CodeBefore, Typed}
 use Rattle.teco_rows.specs.declared.measure.Measure.TheVariants.{One}
 use Rattle.teco_rows.specs.declared.outcomes.Outcomes.{Outcomes}
 use Rattle.teco_rows.specs.declared.row.Clause.{Clause}
 use Rattle.teco_rows.specs.declared.row.Places.{Places}
 use Rattle.teco_rows.specs.Commands.{AreCommanded, Leads, commanded}
-use Rattle.teco_rows.specs.Foretold.{Begins, Describe}
+use Rattle.teco_rows.specs.Foretold.{Describe}
 use Rattle.teco_rows.specs.Rows.{Before, changed}
 use Rattle.teco_rows.specs.States.{Point, IsTrueOf, single, code_here, code_before}
 use Rattle.teco_command_outcomes.specs.declared.deletions.TheConstants.{CUTS_END, CUTS_LOW, CUTS_HIGH}
-use Rattle.teco_command_outcomes.specs.Deletions.{CutsNext, CutsTo, kept_without}
+use Rattle.teco_command_outcomes.specs.Deletions.{CutsNext, CutsTo}
 use Rattle.teco_rows.proofs.Characters.{Sort, ends_one, is_low, is_high, sort_at}
 use Rattle.teco_rows.proofs.Commanding.{read_at}
 use Rattle.teco_rows.proofs.Leading.{leads_singles}
@@ -72,8 +72,8 @@ module _ (s : Point) (here : Places) (given : ℕ → ℤ) (k : ℕ) (next : k �
       leads_singles CUTS_LOW before s kept refl refl
       (omega (arith, ints, same goes_on, there.after), (omega (arith, ints, low), (omega (arith, ints, high), tt)))
       singles where
-        singles : (which : Single) → Some (pos (single (commanded s kept None) which))
-            ≡ changed CUTS_LOW before (One which) (Some (pos (single (commanded s s.kept None) which)))
+        singles : (which : Single) → Some (single (commanded s kept None) which)
+            ≡ changed CUTS_LOW before (One which) (Some (single (commanded s s.kept None) which))
         singles Steps = refl
         singles Pointer = ap Some (omega (arith, ints))
         singles Size = ap Some (omega (arith, ints, long))
@@ -83,6 +83,7 @@ module _ (s : Point) (here : Places) (given : ℕ → ℤ) (k : ℕ) (next : k �
         singles LastLength = refl
         singles CodeHere = ap Some (omega (arith, ints))
         singles CodeBefore = ap (λ x. Some (pos x)) before_is
+        singles Typed = refl
 
   high_cut : ends s.kept.text s.kept.pointer ≡ false → 14 ≤ code_here s.kept.text s.kept.pointer
       → code_here s.kept.text s.kept.pointer ≤ 256 → Leads CUTS_HIGH before s kept None
@@ -90,8 +91,8 @@ module _ (s : Point) (here : Places) (given : ℕ → ℤ) (k : ℕ) (next : k �
       leads_singles CUTS_HIGH before s kept refl refl
       (omega (arith, ints, same goes_on, there.after), (omega (arith, ints, low), (omega (arith, ints, high), tt)))
       singles where
-        singles : (which : Single) → Some (pos (single (commanded s kept None) which))
-            ≡ changed CUTS_HIGH before (One which) (Some (pos (single (commanded s s.kept None) which)))
+        singles : (which : Single) → Some (single (commanded s kept None) which)
+            ≡ changed CUTS_HIGH before (One which) (Some (single (commanded s s.kept None) which))
         singles Steps = refl
         singles Pointer = ap Some (omega (arith, ints))
         singles Size = ap Some (omega (arith, ints, long))
@@ -101,6 +102,7 @@ module _ (s : Point) (here : Places) (given : ℕ → ℤ) (k : ℕ) (next : k �
         singles LastLength = refl
         singles CodeHere = ap Some (omega (arith, ints))
         singles CodeBefore = ap (λ x. Some (pos x)) before_is
+        singles Typed = refl
 
   end_cut : ends s.kept.text s.kept.pointer ≡ true → 11 ≤ code_here s.kept.text s.kept.pointer
       → code_here s.kept.text s.kept.pointer ≤ 13 → Leads CUTS_END before s kept None
@@ -124,8 +126,8 @@ module _ (s : Point) (here : Places) (given : ℕ → ℤ) (k : ℕ) (next : k �
               (line_end s.kept.text s.kept.pointer (omega (arith, next, inside))) (omega arith) ended,
         )
 
-        singles : (which : Single) → Some (pos (single (commanded s kept None) which))
-            ≡ changed CUTS_END before (One which) (Some (pos (single (commanded s s.kept None) which)))
+        singles : (which : Single) → Some (single (commanded s kept None) which)
+            ≡ changed CUTS_END before (One which) (Some (single (commanded s s.kept None) which))
         singles Steps = refl
         singles Pointer = ap Some (omega (arith, ints))
         singles Size = ap Some (omega (arith, ints, long))
@@ -135,6 +137,7 @@ module _ (s : Point) (here : Places) (given : ℕ → ℤ) (k : ℕ) (next : k �
         singles LastLength = refl
         singles CodeHere = ap Some (omega (arith, ints))
         singles CodeBefore = ap (λ x. Some (pos x)) before_is
+        singles Typed = refl
 
 pub cuts_next : (case : Case) (ways : List command.Way) (pointer place : List Term) (here : Places) (all : Outcomes)
     → AreCommanded case ways (pointer ∷ place ∷ []) here all.cases.items → IsWay ways 0 CUTS_END

@@ -17,7 +17,7 @@ use Rattle.teco_model.specs.declared.kind.Storage.TheVariants.{SetNumber, Add}
 use Rattle.teco_model.specs.laws.Whole.{IsWhole}
 use Rattle.teco_rows.specs.declared.measure.Single.{Single}
 use Rattle.teco_rows.specs.declared.measure.Single.TheVariants.{Steps, Pointer, Size, Held, LineEnd, LineStart}
-use Rattle.teco_rows.specs.declared.measure.Single.TheVariants.{LastLength, CodeHere, CodeBefore}
+use Rattle.teco_rows.specs.declared.measure.Single.TheVariants.{LastLength, CodeHere, CodeBefore, Typed}
 use Rattle.teco_rows.specs.declared.case.Case.{Case}
 use Rattle.teco_rows.specs.declared.commands.Taken.{Taken}
 use Rattle.teco_rows.specs.declared.outcomes.Outcomes.{Outcomes}
@@ -43,7 +43,7 @@ module _ (s : Point) (here : Places) (given unknown : ℕ → ℤ) (x : ℤ) (wh
   stored i y e = number_set s.kept.registers.pairs here.register i _ y (omega (arith, whole.count)) e
 
   singles : (answer : Option ℤ) (which : Single)
-      → Some (pos (single (commanded s kept answer) which)) ≡ Some (pos (single (commanded s s.kept None) which))
+      → Some (single (commanded s kept answer) which) ≡ Some (single (commanded s s.kept None) which)
   singles answer Steps = refl
   singles answer Pointer = refl
   singles answer Size = refl
@@ -53,6 +53,7 @@ module _ (s : Point) (here : Places) (given unknown : ℕ → ℤ) (x : ℤ) (wh
   singles answer LastLength = refl
   singles answer CodeHere = refl
   singles answer CodeBefore = refl
+  singles answer Typed = refl
 
   lengths : (i : ℕ)
       → length_of (slice_get kept.registers.pairs i) ≡ length_of (slice_get s.kept.registers.pairs i)

@@ -9,8 +9,8 @@ use Rattle.teco_edits.specs.Files.{EditsIfAny, EditsNone, EditsSubject}
 use Rattle.teco_edits.specs.declared.editing.InPlace.{InPlace}
 use Rattle.teco_library.specs.Library.{LibraryFile}
 use Rattle.teco_tools.specs.declared.fault.ToolFault.{ToolFault}
-use Rattle.teco_verdicts.specs.declared.outcome.Outcome.{Outcome}
-use Rattle.teco_verdicts.specs.declared.outcome.Outcome.TheVariants.{Refused}
+use Rattle.teco_console.specs.declared.outcome.Outcome.{Outcome}
+use Rattle.teco_console.specs.declared.outcome.Outcome.TheVariants.{Refused}
 
 -- the edits of a job are those of its task
 pub subject_edits : (given : InPlace) (task : Task) (library : LibraryFile) (job : Job) (old new : Option (List ℕ))

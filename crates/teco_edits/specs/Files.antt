@@ -20,8 +20,8 @@ use Rattle.teco_edits.specs.declared.editing.Tally.{Tally}
 use Rattle.teco_library.specs.Library.{LibraryFile}
 use Rattle.teco_pages.specs.HostFiles.{Telling}
 use Rattle.teco_tools.specs.declared.fault.ToolFault.{ToolFault}
-use Rattle.teco_verdicts.specs.declared.outcome.Outcome.{Outcome}
-use Rattle.teco_verdicts.specs.declared.outcome.Outcome.TheVariants.{Done, Coded, Refused}
+use Rattle.teco_console.specs.declared.outcome.Outcome.{Outcome}
+use Rattle.teco_console.specs.declared.outcome.Outcome.TheVariants.{Done, Coded, Refused}
 
 -- ---- outcomes
 -- the outcome of the greater status

@@ -4,9 +4,9 @@ use std::alloc::{AllocError, Global};
 use std::fs::Files;
 use std::io::{Input, Read};
 use std::{fmt, fs, io, str};
+use teco_console::{Voice, read_file};
 use teco_source::Shown;
 use teco_tools::ToolFault;
-use teco_verdicts::{Voice, read_file};
 
 /// How many bytes of the names in a folder are read at a time.
 const ROOM: usize = 1 << 15;

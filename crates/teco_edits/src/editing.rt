@@ -8,7 +8,7 @@ ghost use Rattle.teco_edits.specs.Files.{EditsOne, EditsSubject, EditsTask, IsFi
 ghost use Rattle.teco_edits.specs.Files.{ShowsEnded, is_change, is_done, is_made, listed, outcome_of, shown_typed};
 ghost use Rattle.teco_edits.specs.Files.{tally_with};
 ghost use Rattle.teco_pages.specs.HostFiles.{Notes};
-ghost use Rattle.teco_verdicts.specs.declared.outcome.Outcome.TheVariants.{Refused};
+ghost use Rattle.teco_console.specs.declared.outcome.Outcome.TheVariants.{Refused};
 
 use crate::backups::taken_backup;
 use crate::choosing::Chosen;
@@ -25,11 +25,12 @@ use teco_applied::{
 };
 use teco_apply::{Drops, Ending, NAME, Pages, Replaces};
 use teco_base::bytes::{ESC, LF};
+use teco_console::{Console, Outcome, Premise, Sourced, Voice};
 use teco_pages::{Backup, Closed, Closing, FileHost, Handling, Host, ProcessFacts, System};
 use teco_session::SessionFault;
 use teco_source::Shown;
 use teco_tools::ToolFault;
-use teco_verdicts::{Console, Outcome, Premise, Sourced, Voice, tell_promise};
+use teco_verdicts::tell_promise;
 
 /// How files are kept as they were.
 #[derive(Clone, Copy)]

@@ -4,9 +4,9 @@ use std::collections::BTreeSet;
 use std::fs::Files;
 use std::io::Write;
 use std::str;
+use teco_console::Voice;
 use teco_pages::{ProcessFacts, folder_of, remove_strays, sync_folder};
 use teco_source::Shown;
-use teco_verdicts::Voice;
 
 /// The folders of the files that are edited: those that were looked through for what killed runs
 /// left, and those in which files were replaced.

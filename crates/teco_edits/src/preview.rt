@@ -7,9 +7,9 @@ use crate::diff::is_binary;
 use std::alloc::{AllocError, Global};
 use std::io;
 use teco_applied::{Job, Names, Work, edit_by};
+use teco_console::{Outcome, Voice};
 use teco_pages::{Failed, FileHost, Host, System};
 use teco_tools::{OUTPUT, Streams, ToolFault};
-use teco_verdicts::{Outcome, Voice};
 
 /// The text of a file, and what a macro makes of it.
 #[derive(Drop)]

@@ -1,8 +1,8 @@
 //! How far an edit of many files has come.
 use std::io::Write;
 use std::time::{Clock, Duration};
+use teco_console::Voice;
 use teco_source::Shown;
-use teco_verdicts::Voice;
 
 /// How many milliseconds an edit lasts before it is shown, and each state is shown at least.
 const FIRST: u64 = 1000;

@@ -4,7 +4,7 @@ use memchr::memmem;
 use std::alloc::{AllocError, Global};
 use std::str;
 use teco_base::Reg;
-use teco_verdicts::Setting;
+use teco_console::Setting;
 
 /// What comments begin with that are examples.
 pub const WORD: &[u8] = b"EXAMPLE";

@@ -7,12 +7,13 @@ use std::alloc::{AllocError, Global};
 use std::io::{Input, Write};
 use std::rt::Files;
 use teco_base::Reg;
+use teco_console::{Console, Outcome, Request, Sourced};
 use teco_edits::changed_lines;
 use teco_library::Library;
 use teco_model::{Element, Kind};
 use teco_source::Shown;
 use teco_tools::{Case, ToolFault};
-use teco_verdicts::{Console, Outcome, Request, Sourced, read_library, refuse_macro};
+use teco_verdicts::{read_library, refuse_macro, verified_by};
 
 /// How many pieces a text has at most.
 const LONGEST: u32 = 4;
@@ -379,7 +380,7 @@ fn fuzz_library<O: Write + Drop, E: Write + Drop>(
     case: Option<Case>,
 ) -> Result<Outcome, ToolFault> {
     let alloc = console.alloc;
-    let verdict = sourced.method.verify(alloc, &sourced.library, entry);
+    let verdict = verified_by(alloc, &sourced.library, entry, sourced.method);
     match verdict.err() {
         None => fuzz_accepted(console, sourced, entry, case),
         Some(refusal) => Ok(refuse_macro(console, sourced, entry, refusal)?),

@@ -4,13 +4,14 @@ use std::alloc::{AllocError, Global};
 use teco_applied::{Names, call, open_pages};
 use teco_apply::Pages;
 use teco_base::{Code, Reg};
+use teco_console::Sourced;
 use teco_library::Library;
 use teco_model::Needs;
 use teco_pages::MemHost;
 use teco_run::Machine;
 use teco_text::GapText;
 use teco_tools::{Case, Start, ToolFault, code_of, machine_with, prepare, within_limit};
-use teco_verdicts::Sourced;
+use teco_verdicts::verified_by;
 
 /// How many steps the run of a macro on an example may take.
 const LIMIT: u64 = 100_000_000;
@@ -51,7 +52,7 @@ impl Subject {
 
 // The pages that a macro of a library is run on.
 fn pages_of(alloc: Global, sourced: &Sourced, entry: Reg) -> Pages {
-    match sourced.method.verify(alloc, &sourced.library, entry) {
+    match verified_by(alloc, &sourced.library, entry, sourced.method) {
         Ok(accepted) => pages_for(accepted.promise().needs()),
         Err(_) => Pages::Whole,
     }

@@ -6,11 +6,12 @@ use std::fmt;
 use std::io::{Input, Write};
 use std::rt::Files;
 use teco_base::{Code, Reg};
+use teco_console::{Console, Outcome, Request, Sourced, letters};
 use teco_edits::{Look, write_diff};
 use teco_explain::note_of_code;
 use teco_source::{Position, Shown, Source};
 use teco_tools::{Case, ToolFault};
-use teco_verdicts::{Console, Outcome, Request, Sourced, letters, read_library};
+use teco_verdicts::read_library;
 
 /// Which examples of a library are tried, and how.
 #[derive(Clone, Copy)]

@@ -168,15 +168,15 @@ fn of_bounds(refusal: Refusal) -> Note {
     match refusal {
         Refusal::Fall => Note {
             summary: "nothing is known to shrink from turn to turn",
-            meaning: "An iteration without a count must come nearer to the end of the text in \
-                each turn: by a search, or by C or D behind the test .-Z; and not by L, K or P alone, \
-                which may stay where they are.",
+            meaning: "In each turn of an iteration without a count something must fall, such as what is \
+                ahead: by a search, or by C, D, L or K where a test such as .-Z; has shown that text is \
+                left. The first edition of the rules does not count L, K and P.",
             example: "@^UA~<Ix$>~",
             remedy: "Give the iteration a count that is surely enough, as in Z<..>, or move by \
                 what a search found and don't go back before it.",
         },
         Refusal::Bound => Note {
-            summary: "no bound was found in three tries",
+            summary: "no bound was found",
             meaning: "What is held grows from turn to turn by an amount that itself grows.",
             example: "@^UA~3<HXBGB>~",
             remedy: "Keep what is inserted in a turn at a fixed length, or empty the register that grows.",

@@ -31,7 +31,7 @@ use Rattle.teco_rows.specs.declared.measure.Measure.{Measure}
 use Rattle.teco_rows.specs.declared.measure.Measure.TheVariants.{One, Each}
 use Rattle.teco_rows.specs.declared.measure.Single.{Single}
 use Rattle.teco_rows.specs.declared.measure.Single.TheVariants.{Steps, Pointer, Size, Held, LineEnd, LineStart}
-use Rattle.teco_rows.specs.declared.measure.Single.TheVariants.{LastLength, CodeHere, CodeBefore}
+use Rattle.teco_rows.specs.declared.measure.Single.TheVariants.{LastLength, CodeHere, CodeBefore, Typed}
 use Rattle.teco_rows.specs.declared.outcomes.Outcomes.{Outcomes}
 use Rattle.teco_flow_outcomes.specs.declared.pairs.TheConstants.{PAIRS}
 use Rattle.teco_rows.specs.declared.row.Clause.{Clause}
@@ -92,6 +92,7 @@ module _ (row : List Clause) (of : IsOfLevels row) (s : Point) (here : Places) (
     becomes (One LastLength) = single_left row b LastLength _ _ of.singles refl
     becomes (One CodeHere) = single_left row b CodeHere _ _ of.singles refl
     becomes (One CodeBefore) = single_left row b CodeBefore _ _ of.singles refl
+    becomes (One Typed) = single_left row b Typed _ _ of.singles refl
     becomes (Each Number i) = left_alone row b Number i _ of.numbers
     becomes (Each Length i) = left_alone row b Length i _ of.lengths
     becomes (Each Turns i) = left_alone row b Turns i _ of.turns
@@ -297,7 +298,7 @@ is_opened case made step row at deeper n v s true_of =
     (record {
       operators = deeper.operators ∙ ap (λ o. o ++ None ∷ []) true_of.shape.operators;
       iterations = deeper.iterations ∙ true_of.shape.iterations;
-      pushes = ap (λ k. s.below + k) deeper.pushes ∙ true_of.shape.pushes;
+      pushes = ap (λ k. s.origin.pushes + k) deeper.pushes ∙ true_of.shape.pushes;
     })
 
 pub opens : (case made : Case) (conditions : List (List Term)) (all : Outcomes) → IsOpened case made

@@ -19,7 +19,7 @@ use Rattle.teco_rows.specs.declared.measure.Family.TheVariants.{First, Value}
 use Rattle.teco_rows.specs.declared.measure.Measure.{Measure}
 use Rattle.teco_rows.specs.declared.measure.Measure.TheVariants.{One, Each}
 use Rattle.teco_rows.specs.declared.measure.Single.TheVariants.{Steps, Pointer, Size, Held, LineEnd, LineStart}
-use Rattle.teco_rows.specs.declared.measure.Single.TheVariants.{LastLength, CodeHere, CodeBefore}
+use Rattle.teco_rows.specs.declared.measure.Single.TheVariants.{LastLength, CodeHere, CodeBefore, Typed}
 use Rattle.teco_flow_outcomes.specs.declared.ranges.Range.{Range}
 use Rattle.teco_flow_outcomes.specs.declared.ranges.Ranges.{Ranges}
 use Rattle.teco_rows.specs.declared.row.Clause.{Clause}
@@ -88,7 +88,7 @@ is_turned case made step whole iterations has at clauses here given = record { d
       (record {
         operators = has.last (operators_of s.arguments.outer) s.arguments.level.operator true_of.shape.operators;
         iterations = has.count ∙ sym long;
-        pushes = ap (λ k. s.below + k) has.pushes ∙ true_of.shape.pushes;
+        pushes = ap (λ k. s.origin.pushes + k) has.pushes ∙ true_of.shape.pushes;
       })
 
 -- a row says nothing but of turns
@@ -131,6 +131,7 @@ module _ (row : List Clause) (b : Before) (of : IsOfTurns row) (s : Point) (loop
   turns_become turns (One LastLength) = sym (single_alone row b LastLength _ of.singles)
   turns_become turns (One CodeHere) = sym (single_alone row b CodeHere _ of.singles)
   turns_become turns (One CodeBefore) = sym (single_alone row b CodeBefore _ of.singles)
+  turns_become turns (One Typed) = sym (single_alone row b Typed _ of.singles)
   turns_become turns (Each Number i) = left_alone row b Number i _ of.numbers
   turns_become turns (Each Length i) = left_alone row b Length i _ of.lengths
   turns_become turns (Each Turns i) = turns i
@@ -304,5 +305,5 @@ is_later case made step operator row waits led n v s true_of =
           led.last (operators_of s.arguments.outer) s.arguments.level.operator true_of.shape.operators
           ∙ ap (λ o. operators_of s.arguments.outer ++ o ∷ []) (sym (waits s true_of.shape));
       iterations = led.iterations ∙ true_of.shape.iterations;
-      pushes = ap (λ k. s.below + k) led.pushes ∙ true_of.shape.pushes;
+      pushes = ap (λ k. s.origin.pushes + k) led.pushes ∙ true_of.shape.pushes;
     })

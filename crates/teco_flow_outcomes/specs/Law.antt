@@ -18,7 +18,7 @@ use Rattle.teco_model.specs.declared.skip.Route.TheVariants.{Nowhere}
 use Rattle.teco_rows.specs.declared.case.Case.{Case}
 use Rattle.teco_rows.specs.declared.outcomes.Outcomes.{Outcomes}
 use Rattle.teco_rows.specs.Foretold.{Begins}
-use Rattle.teco_rows.specs.States.{Point, Describes}
+use Rattle.teco_rows.specs.States.{Origin, Point, Describes}
 
 -- the iterations that are open in texts, the innermost first
 abbrev pub loops_in : List Frame → List Loop
@@ -30,12 +30,12 @@ abbrev pub unread_in : Option Input → ℕ
 unread_in None = 0
 unread_in (Some input) = length input.unread
 
--- A state as cases see it, so many steps after the entry, where so many pairs were pushed before.
-abbrev pub point_of : ℕ → ℕ → State → Point
-point_of steps below s = record {
+-- A state as cases see it, so many steps after the entry, where there was what is said.
+abbrev pub point_of : ℕ → Origin → State → Point
+point_of steps origin s = record {
   steps = steps;
   unread = unread_in s.world.files.input;
-  below = below;
+  origin = origin;
   kept = s.world.kept;
   arguments = s.arguments;
   loops = s.frames.running.loops ++ loops_in s.frames.callers;
@@ -79,22 +79,22 @@ frames_on place loops frames =
     record frames { running = record frames.running { place = place; loops = loops } }
 
 -- one of the cases describes a state a step later, in which the running text goes on at a place
-pub record Arrives (n : ℕ) (cases : List Case) (place steps below : ℕ) (s t : State) : Type 0 where
-  pub described : Any (λ case. Describes n case (point_of (steps + 1) below t)) cases
+pub record Arrives (n : ℕ) (cases : List Case) (place steps : ℕ) (origin : Origin) (s t : State) : Type 0 where
+  pub described : Any (λ case. Describes n case (point_of (steps + 1) origin t)) cases
   pub there : t.frames ≡ frames_on place t.frames.running.loops s.frames
   pub left : t.left ≡ s.left
 
 -- it does so elsewhere than behind the element
-abbrev pub ArrivesAway : ℕ → List Case → Element → ℕ → ℕ → State → State → Type 0
-ArrivesAway n cases e steps below s t =
+abbrev pub ArrivesAway : ℕ → List Case → Element → ℕ → Origin → State → State → Type 0
+ArrivesAway n cases e steps origin s t =
     (place : ℕ)
     × (place_away e.kind e s.frames.running ≡ Some place)
-    × Arrives n cases place steps below s t
+    × Arrives n cases place steps origin s t
 
 -- the next state is behind the element or elsewhere, and one of the cases of that way describes it
-abbrev pub Goes : ℕ → Outcomes → Element → ℕ → ℕ → State → State → Type 0
-Goes n all e steps below s t =
-    Arrives n all.cases.items e.next steps below s t ⊎ ArrivesAway n all.away.items e steps below s t
+abbrev pub Goes : ℕ → Outcomes → Element → ℕ → Origin → State → State → Type 0
+Goes n all e steps origin s t =
+    Arrives n all.cases.items e.next steps origin s t ⊎ ArrivesAway n all.away.items e steps origin s t
 
 -- a step comes to a next state of a property
 abbrev pub StepsTo : (State → Type 0) → Outcome → Type 0
@@ -105,6 +105,6 @@ StepsTo P outcome = ⊥
 -- of the cases of the way that it goes describes the next state.
 abbrev pub Law : Element → Case → Outcomes → Type 0
 Law e case all =
-    (n : ℕ) (v : Valuation) (s : State) (steps below : ℕ)
-    → StandsAt e s → Begins n v case all (point_of steps below s)
-    → StepsTo (Goes n all e steps below s) (step s)
+    (n : ℕ) (v : Valuation) (s : State) (steps : ℕ) (origin : Origin)
+    → StandsAt e s → Begins n v case all (point_of steps origin s)
+    → StepsTo (Goes n all e steps origin s) (step s)

@@ -1,4 +1,5 @@
 // From a macro to claims.
+use crate::potentials::Known;
 use crate::promises::all_promises;
 use crate::reason::{Reason, reason_for};
 use crate::written::claims_of;
@@ -85,9 +86,6 @@ const WAYS: [Way; ATTEMPTS] = [
 
 // The most registers that tell cut points apart.
 const MOST_FLAGS: usize = 4;
-
-// How often facts are narrowed.
-const NARROWINGS: usize = 2;
 
 // A bound is steep where it passes 64 bits at this N: from the fifth power on.
 const STEEP_AT: u64 = 1 << 13;
@@ -258,43 +256,56 @@ fn flags_of(nodes: &Nodes<'_>, alloc: Global) -> Result<Vec<Flag>, Stop> {
     Ok(left)
 }
 
-// A try with the cut points so far; where it stops for good, it notes why.
-fn try_once(
-    search: &mut Search<'_>,
-    narrows: bool,
-    reason: &mut Option<Reason>,
-) -> Result<Claims, Stop> {
-    let (mut keys, is_widened) = search.settled()?;
-    let mut is_due = narrows && is_widened;
-    for _ in 0..NARROWINGS {
-        if is_due {
-            (keys, is_due) = search.narrowed(keys)?;
+// Why a search stops, if that is to be told.
+#[derive(Drop)]
+struct Report {
+    is_wanted: bool,
+    reason: Option<Reason>,
+}
+
+impl Report {
+    fn new(is_wanted: bool) -> Report {
+        Report {
+            is_wanted,
+            reason: None,
         }
     }
+}
+
+// A try with the cut points so far; where it stops for good, it reports why.
+fn try_once(search: &mut Search<'_>, narrows: bool, report: &mut Report) -> Result<Claims, Stop> {
+    let (mut keys, is_widened) = search.settled()?;
+    if narrows && is_widened {
+        (keys, _) = search.narrowed(keys)?;
+    }
     let web = search.web(&keys)?;
-    match all_promises(&web, &keys, &search.tame, &mut search.work, search.alloc) {
-        Ok(promises) => claims_of(search, &keys, &promises),
+    let mut known = Known::new(search.work, search.alloc);
+    let found = all_promises(&web, &keys, &mut search.tame, &mut known, search.alloc);
+    search.work = known.work;
+    match found {
+        Ok(promises) => claims_of(search, &keys, &known, &promises),
         Err(stop) => {
-            *reason = reason_for(search, &web, &keys, stop)?;
+            if report.is_wanted {
+                report.reason = reason_for(search, &web, &keys, &mut known, stop)?;
+            }
             Err(stop)
         }
     }
 }
 
 // Tries, with a cut point more where one is asked for.
-fn tried(search: &mut Search<'_>, reason: &mut Option<Reason>) -> Result<Claims, Refusal> {
+fn tried(search: &mut Search<'_>, report: &mut Report) -> Result<Claims, Refusal> {
     let mut narrows = true;
     for _ in 0..TRIES {
-        match try_once(search, narrows, reason) {
+        match try_once(search, narrows, report) {
             Ok(claims) => return Ok(claims),
             Err(Stop::Refused(refusal)) => return Err(refusal),
-            Err(Stop::Endless { number, .. }) => return Err(Refusal::Steps(number)),
             Err(Stop::CutAt(number)) => {
                 if let Some(mark) = search.is_cut.get_mut(number) {
                     *mark = true;
                 }
             }
-            Err(Stop::Wild(place)) => search.tame.retain(|other| *other != place),
+            Err(Stop::Wild(_)) => {}
             Err(Stop::Unstable) => {
                 if !narrows {
                     return Err(Refusal::TooMuch);
@@ -318,13 +329,18 @@ fn tame_of(spoken: &[bool], is_tame: bool, alloc: Global) -> Result<Vec<u32>, St
     Ok(tame)
 }
 
-// The search for claims of a macro, in a way, which tells why it stopped where that can be told. All
+// That nothing is claimed yet of typed bytes, for as long as a macro is searched.
+fn unclaimed(_used: &[bool]) -> Option<&[u64]> {
+    None
+}
+
+// The search for claims of a macro, in a way, which reports why it stopped where that can be told. All
 // but the first and the last way may take half as much.
 fn searched(
     called: &Called<'_>,
     way: Way,
     is_whole: bool,
-    reason: &mut Option<Reason>,
+    report: &mut Report,
     alloc: Global,
 ) -> Result<Claims, Stop> {
     check_pushes(called.nodes, alloc)?;
@@ -341,6 +357,7 @@ fn searched(
             cuts: &[],
             commands: &[],
             size: &[],
+            types: unclaimed(&used),
         },
         argument: called.argument,
         is_cut: first_cuts(called.nodes, way.cuts, alloc)?,
@@ -354,7 +371,7 @@ fn searched(
         work: if is_whole { WORK } else { WORK / 2 },
         alloc,
     };
-    Ok(tried(&mut search, reason)?)
+    Ok(tried(&mut search, report)?)
 }
 
 /// How many ways there are to look for claims.
@@ -368,7 +385,7 @@ pub fn infer_by(called: &Called<'_>, attempt: usize, alloc: Global) -> Result<Cl
         return Err(Refusal::TooMuch);
     };
     let is_whole = attempt == 0 || way.is_last;
-    match searched(called, *way, is_whole, &mut None, alloc) {
+    match searched(called, *way, is_whole, &mut Report::new(false), alloc) {
         Ok(claims) => {
             let is_steep = claims.commands.at(STEEP_AT).is_none();
             if is_steep && !way.is_last {
@@ -382,24 +399,26 @@ pub fn infer_by(called: &Called<'_>, attempt: usize, alloc: Global) -> Result<Cl
 }
 
 /// Why no claims of a macro are found in the quickest way, as far as that can be told.
-pub fn reason_of(called: &Called<'_>, alloc: Global) -> Option<Reason> {
-    let mut reason = None;
-    match searched(called, WAYS[0], true, &mut reason, alloc) {
+pub fn why_unfound(called: &Called<'_>, alloc: Global) -> Option<Reason> {
+    let mut report = Report::new(true);
+    match searched(called, WAYS[0], true, &mut report, alloc) {
         Ok(_) => None,
-        Err(_) => reason,
+        Err(_) => report.reason,
     }
 }
 
-/// Whether the next way is worth its time behind this refusal, where the first way had another: the
-/// last way is for macros of which the first finds steep bounds.
-pub fn is_worth_another(first: Refusal, refusal: Refusal, next: usize) -> bool {
+/// The way that is worth its time behind one that had this refusal, where the first way had another; none
+/// if there is none. Where the first finds steep bounds, that is the second, and then the last.
+pub fn next_attempt(first: Refusal, refusal: Refusal, attempt: usize) -> Option<usize> {
+    let next = attempt.saturating_add(1);
+    let last = ATTEMPTS - 1;
     if first == Refusal::NotAccepted(PathFault::TooLong) {
-        return true;
+        let next = if attempt == 0 { next } else { last };
+        return if attempt < last { Some(next) } else { None };
     }
-    let is_over = next.saturating_add(1) >= ATTEMPTS;
-    !is_over
-        && !matches!(
-            refusal,
-            Refusal::NotTold(_) | Refusal::NotOpen(_) | Refusal::TooMuch | Refusal::Memory
-        )
+    match refusal {
+        Refusal::NotTold(_) | Refusal::NotOpen(_) | Refusal::TooMuch | Refusal::Memory => None,
+        _ if next < last => Some(next),
+        _ => None,
+    }
 }

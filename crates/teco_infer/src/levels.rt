@@ -5,6 +5,7 @@ use crate::potentials::{Known, Sought, lowest, product};
 use crate::wanted::{Scope, Wanted};
 use std::alloc::Global;
 use teco_bounds::fault::Stop;
+use teco_bounds::keys::STEPS;
 use teco_bounds::legs::{Leg, Web};
 use teco_bounds::programs::Entry;
 use teco_bounds::reduced::Limits;
@@ -38,9 +39,9 @@ impl Level {
 }
 
 // What is wanted of programs here.
-pub fn wanted_of(highest: u32) -> Wanted {
+pub fn wanted_of(highest: u32) -> Wanted<'static> {
     Wanted {
-        place: 0,
+        place: STEPS,
         sign: 1,
         degree: 1,
         highest,

@@ -11,9 +11,10 @@ mod promises;
 mod reason;
 mod turns;
 mod wanted;
+mod ways;
 mod worth;
 mod written;
 
-pub use infer::{ATTEMPTS, infer_by, is_worth_another, reason_of};
+pub use infer::{ATTEMPTS, infer_by, next_attempt, why_unfound};
 pub use reason::Reason;
 pub use teco_bounds::fault::Refusal;

@@ -2,7 +2,7 @@
 use crate::wanted::{Scope, Wanted};
 use std::alloc::Global;
 use teco_bounds::fault::{Refusal, Stop};
-use teco_bounds::keys::{least_forms, power_of};
+use teco_bounds::keys::{STEPS, least_forms, power_of};
 use teco_bounds::legs::{Leg, Start, Web};
 use teco_bounds::numbers::common;
 use teco_bounds::programs::{Draft, Entry, add_form};
@@ -36,7 +36,7 @@ pub struct Promise {
 const PLAIN: u128 = 100;
 
 // The most pivots of a program that is to make claims plain.
-const PLAIN_PIVOTS: usize = 200;
+const PLAIN_PIVOTS: usize = 60;
 
 // What is claimed at keys besides facts, and what of it is used to find more: forms over the places
 // of measures, by the key.
@@ -44,6 +44,8 @@ const PLAIN_PIVOTS: usize = 200;
 pub struct Known {
     pub claims: Vec<(usize, Form)>,
     pub told: Vec<(usize, Form)>,
+    // The places of the turns, numbers and lengths of which a bound was found.
+    pub bounded: Vec<u32>,
     // How many rows programs may still go through.
     pub work: usize,
 }
@@ -55,6 +57,15 @@ fn is_plain(form: &Form) -> bool {
 }
 
 impl Known {
+    pub fn new(work: usize, alloc: Global) -> Known {
+        Known {
+            claims: Vec::new(alloc),
+            told: Vec::new(alloc),
+            bounded: Vec::new(alloc),
+            work,
+        }
+    }
+
     // Takes from the work that is left.
     pub fn spend(&mut self, work: usize) -> Result<(), Stop> {
         self.work = self
@@ -137,7 +148,7 @@ fn generators(
     start: &Start,
     key: usize,
     known: &Known,
-    wanted: &Wanted,
+    wanted: &Wanted<'_>,
     alloc: Global,
 ) -> Result<Vec<Form>, Stop> {
     let scope = wanted.scope;
@@ -190,7 +201,7 @@ impl Unknowns {
         web: &Web,
         known: &Known,
         draft: &mut Draft,
-        wanted: &Wanted,
+        wanted: &Wanted<'_>,
     ) -> Result<Unknowns, Stop> {
         let alloc = draft.alloc;
         let degree = wanted.degree;
@@ -425,7 +436,7 @@ impl<'a> Sought<'a> {
     pub fn of_facts(
         web: &'a Web,
         known: &'a Known,
-        wanted: &Wanted,
+        wanted: &Wanted<'_>,
         alloc: Global,
     ) -> Result<Sought<'a>, Stop> {
         let mut draft = Draft::new(alloc);
@@ -490,12 +501,12 @@ impl<'a> Sought<'a> {
         entries: &mut Vec<Entry>,
         key: usize,
         forms: &[Option<Form>],
-        part: (&Wanted, i128),
+        part: (&Wanted<'_>, i128),
     ) -> Result<(), Stop> {
         let alloc = self.draft.alloc;
         let (wanted, times) = part;
         self.unknowns.add(entries, key, forms, times, alloc)?;
-        if wanted.place != 0 && key != 0 {
+        if !wanted.is_count() && key != 0 {
             if let Some(form) = form_at(forms, wanted.place as usize, alloc)? {
                 let signed = times.saturating_mul(wanted.sign);
                 add_form(entries, &form, 0, None, signed)?;
@@ -505,7 +516,7 @@ impl<'a> Sought<'a> {
     }
 
     // The sum at the start of a path.
-    fn begin(&self, source: usize, wanted: &Wanted) -> Result<Vec<Entry>, Stop> {
+    fn begin(&self, source: usize, wanted: &Wanted<'_>) -> Result<Vec<Entry>, Stop> {
         let mut entries = Vec::new(self.draft.alloc);
         if let Some(start) = self.web.starts.get(source) {
             self.add_sum(&mut entries, source, &start.forms, (wanted, 1))?;
@@ -513,16 +524,16 @@ impl<'a> Sought<'a> {
         Ok(entries)
     }
 
-    // That the sum does not grow on a path, even with its steps, if they count.
-    fn add_leg(&mut self, leg: &Leg, wanted: &Wanted) -> Result<(), Stop> {
+    // That the sum does not grow on a path, even with what it adds to a count, if that is promised.
+    fn add_leg(&mut self, leg: &Leg, wanted: &Wanted<'_>) -> Result<(), Stop> {
         let alloc = self.draft.alloc;
-        if leg.target.is_none() && wanted.place != 0 {
+        if leg.target.is_none() && !wanted.is_count() {
             return Ok(());
         }
         let mut entries = self.begin(leg.source, wanted)?;
-        if wanted.place == 0 {
-            if let Some(steps) = form_at(&leg.forms, 0, alloc)? {
-                add_form(&mut entries, &steps, 0, None, -1)?;
+        if wanted.is_count() {
+            if let Some(more) = form_at(&leg.forms, wanted.place as usize, alloc)? {
+                add_form(&mut entries, &more, 0, None, -1)?;
             }
         }
         if let Some(target) = leg.target {
@@ -532,7 +543,12 @@ impl<'a> Sought<'a> {
     }
 
     // That the sum is no less than the measure where it was raised, unless it is so behind that.
-    fn add_peaks(&mut self, leg: &Leg, wanted: &Wanted, is_done: &mut [bool]) -> Result<(), Stop> {
+    fn add_peaks(
+        &mut self,
+        leg: &Leg,
+        wanted: &Wanted<'_>,
+        is_done: &mut [bool],
+    ) -> Result<(), Stop> {
         let alloc = self.draft.alloc;
         let mut at = leg.peak;
         let web = self.web;
@@ -566,14 +582,14 @@ impl<'a> Sought<'a> {
 
     // That the polynomial's number alone is no less than the steps to the first keys: what a square
     // says of these is hard to show.
-    fn add_first_steps(&mut self, wanted: &Wanted) -> Result<(), Stop> {
-        if wanted.place != 0 || wanted.degree == 1 || wanted.only.is_some() {
+    fn add_first_steps(&mut self, wanted: &Wanted<'_>) -> Result<(), Stop> {
+        if wanted.place != STEPS || wanted.degree == 1 || wanted.only.is_some() {
             return Ok(());
         }
         let mut least = 0i128;
         for leg in &self.web.legs {
             if leg.source == 0 {
-                if let Some(steps) = form_at(&leg.forms, 0, self.draft.alloc)? {
+                if let Some(steps) = form_at(&leg.forms, STEPS as usize, self.draft.alloc)? {
                     least = least.max(constant(&steps));
                 }
             }
@@ -582,13 +598,13 @@ impl<'a> Sought<'a> {
     }
 
     // That the polynomial is no less than the measure at the entry.
-    fn add_entry(&mut self, wanted: &Wanted) -> Result<(), Stop> {
+    fn add_entry(&mut self, wanted: &Wanted<'_>) -> Result<(), Stop> {
         let alloc = self.draft.alloc;
         let web = self.web;
         let Some(start) = web.starts.first() else {
             return Ok(());
         };
-        if wanted.place == 0 || wanted.is_loose {
+        if wanted.is_count() || wanted.is_loose {
             return Ok(());
         }
         let mut entries = self.begin(0, wanted)?;
@@ -598,13 +614,13 @@ impl<'a> Sought<'a> {
         self.imply(0, &start.constraints, entries)
     }
 
-    // What is claimed at a key: the polynomial, less the sum and the steps.
+    // What is claimed at a key: the polynomial, less the sum and the measure.
     fn claim(
         &self,
         key: usize,
         most: &Form,
         values: &Values,
-        wanted: &Wanted,
+        wanted: &Wanted<'_>,
     ) -> Result<Form, Stop> {
         let alloc = self.draft.alloc;
         let sum = self.unknowns.form(key, values, alloc)?;
@@ -632,7 +648,7 @@ impl<'a> Sought<'a> {
         &mut self,
         values: &Values,
         promise: Promise,
-        wanted: &Wanted,
+        wanted: &Wanted<'_>,
     ) -> Result<Option<Promise>, Stop> {
         self.unknowns.round(&mut self.draft, values)?;
         if let Some(values) = self.draft.solved(wanted.pivots.min(PLAIN_PIVOTS))? {
@@ -645,7 +661,7 @@ impl<'a> Sought<'a> {
     }
 
     // What the values of a program promise.
-    fn promise(&self, values: &Values, wanted: &Wanted) -> Result<Promise, Stop> {
+    fn promise(&self, values: &Values, wanted: &Wanted<'_>) -> Result<Promise, Stop> {
         let alloc = self.draft.alloc;
         let numerators = self.unknowns.polynomial(values, alloc)?;
         let mut claims = Vec::new(alloc);
@@ -674,17 +690,17 @@ impl<'a> Sought<'a> {
 fn sought_of<'a>(
     web: &'a Web,
     known: &'a Known,
-    wanted: &Wanted,
+    wanted: &Wanted<'_>,
     alloc: Global,
 ) -> Result<Sought<'a>, Stop> {
     let mut sought = Sought::of_facts(web, known, wanted, alloc)?;
     let mut is_done = Vec::from_elem(alloc, false, web.record.peaks.len())?;
     for (at, leg) in web.legs.iter().enumerate() {
-        if wanted.only.is_some_and(|only| !only.has(web, at, leg)) {
+        if !wanted.counts(at) {
             continue;
         }
         sought.add_leg(leg, wanted)?;
-        if wanted.place != 0 && !wanted.is_loose {
+        if !wanted.is_count() && !wanted.is_loose {
             sought.add_peaks(leg, wanted, &mut is_done)?;
         }
     }
@@ -699,7 +715,7 @@ fn sought_of<'a>(
 }
 
 // What a program promises, if its values are found.
-fn solved(sought: &mut Sought<'_>, wanted: &Wanted) -> Result<Option<Promise>, Stop> {
+fn solved(sought: &mut Sought<'_>, wanted: &Wanted<'_>) -> Result<Option<Promise>, Stop> {
     let Some(values) = sought.draft.solved(wanted.pivots)? else {
         return Ok(None);
     };
@@ -714,7 +730,7 @@ fn solved(sought: &mut Sought<'_>, wanted: &Wanted) -> Result<Option<Promise>, S
 fn tried(
     web: &Web,
     known: &Known,
-    wanted: &Wanted,
+    wanted: &Wanted<'_>,
     alloc: Global,
 ) -> Result<(Option<Promise>, usize), Stop> {
     let mut sought = sought_of(web, known, wanted, alloc)?;
@@ -733,7 +749,7 @@ fn tried(
 pub fn promised(
     web: &Web,
     known: &mut Known,
-    wanted: &Wanted,
+    wanted: &Wanted<'_>,
     alloc: Global,
 ) -> Result<Option<Promise>, Stop> {
     let (promise, work) = tried(web, known, wanted, alloc)?;

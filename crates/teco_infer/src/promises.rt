@@ -1,13 +1,15 @@
-// What is promised of a macro: how much it holds, and how many commands it takes.
+// What is promised of a macro: how much it holds, how many commands it takes, and how many bytes it
+// types.
 use crate::invariants::add_invariants;
 use crate::potentials::{Known, Promise, promised, rounded_up};
 use crate::turns::add_turns;
-use crate::wanted::{Only, Scope, Wanted};
+use crate::wanted::{Scope, Wanted};
+use crate::ways::endless;
 use crate::worth::promised_by_levels;
 use std::alloc::Global;
 use teco_base::LIMIT;
 use teco_bounds::fault::{Refusal, Stop};
-use teco_bounds::keys::{HELD, power_of};
+use teco_bounds::keys::{HELD, STEPS, TYPED, is_count, power_of};
 use teco_bounds::legs::Web;
 use teco_bounds::measures::{TURNS, family_of};
 use teco_bounds::reduced::Limits;
@@ -23,9 +25,6 @@ const PIVOTS: usize = 4000;
 
 const FEW_PIVOTS: usize = 500;
 
-// How many paths round a loop are tried alone, where its steps have no bound.
-const MOST_WAYS: usize = 12;
-
 // The most rows of a program, and where it may only better what was found.
 const ROWS: usize = 2000;
 
@@ -34,13 +33,12 @@ const FEW_ROWS: usize = 250;
 // With more paths than this, each as often as the degree is, none of a higher degree is sought.
 const MOST_LEGS: usize = 160;
 
-// All that was found: what is claimed at each key besides facts, the polynomials of the commands and
-// of the size.
+// The polynomials of the commands and of the size, and of the bytes typed, if a bound on them is found.
 #[derive(Drop)]
 pub struct Promises {
-    pub known: Known,
     pub commands: Vec<u64>,
     pub size: Vec<u64>,
+    pub types: Option<Vec<u64>>,
 }
 
 // The coefficients of a promise's polynomial, rounded up.
@@ -142,16 +140,21 @@ fn is_less(one: &Promise, other: &Promise) -> bool {
     false
 }
 
-// Whether none is less: what is held may be N.
+// Whether none is less: what is held may be N, and what is counted none.
 fn is_least(promise: &Promise) -> bool {
+    let least = if is_count(promise.place) {
+        0
+    } else {
+        promise.divisor
+    };
     match promise.numerators.as_slice() {
-        [number, times, ..] => promise.place != 0 && *number == 0 && *times <= promise.divisor,
+        [number, times, ..] => *number == 0 && *times <= least,
         _ => false,
     }
 }
 
 // What is wanted of a measure: at first, or where that may only better what was found.
-fn wanted_of(place: u32, degree: u32, scope: Scope, is_first: bool) -> Wanted {
+fn wanted_of(place: u32, degree: u32, scope: Scope, is_first: bool) -> Wanted<'static> {
     Wanted {
         place,
         sign: 1,
@@ -202,7 +205,7 @@ fn least_promise(
 }
 
 // That a measure, taken so often, is within a polynomial at keys.
-fn loosely(place: u32, sign: i128) -> Wanted {
+fn loosely(place: u32, sign: i128) -> Wanted<'static> {
     Wanted {
         place,
         sign,
@@ -230,39 +233,68 @@ fn is_near(keys: &Keys, place: u32, sign: i128) -> bool {
     })
 }
 
-// Shows that the numbers are tame that were taken to be so: they are within what may be held.
+// Shows that a number is tame that was taken to be so, and raises the size to it; says whether it is.
+fn shows_tame(
+    web: &Web,
+    keys: &Keys,
+    place: u32,
+    known: &mut Known,
+    size: &mut Vec<u64>,
+) -> Result<bool, Stop> {
+    let alloc = web.record.alloc;
+    for sign in [1, -1] {
+        match promised(web, known, &loosely(place, sign), alloc)? {
+            Some(promise) => raise(size, &take(web, known, promise, alloc)?)?,
+            None if is_near(keys, place, sign) => {}
+            None => return Ok(false),
+        }
+    }
+    Ok(true)
+}
+
+// Shows that the numbers are tame that were taken to be so: they are within what may be held. Those
+// that are not are taken out.
 fn add_tame(
     web: &Web,
     keys: &Keys,
-    tame: &[u32],
+    tame: &mut Vec<u32>,
     known: &mut Known,
     alloc: Global,
 ) -> Result<Vec<u64>, Stop> {
     let mut size = Vec::new(alloc);
-    for place in tame {
-        for sign in [1, -1] {
-            match promised(web, known, &loosely(*place, sign), alloc)? {
-                Some(promise) => raise(&mut size, &take(web, known, promise, alloc)?)?,
-                None if is_near(keys, *place, sign) => {}
-                None => return Err(Stop::Wild(*place)),
-            }
+    let mut shown: Vec<u32> = Vec::new(alloc);
+    let mut wild = None;
+    for place in tame.iter() {
+        if shows_tame(web, keys, *place, known, &mut size)? {
+            shown.push(*place)?;
+        } else {
+            wild = wild.or(Some(*place));
         }
     }
-    Ok(size)
+    *tame = shown;
+    match wild {
+        Some(place) => Err(Stop::Wild(place)),
+        None => Ok(size),
+    }
 }
 
-// Adds bounds on turns, numbers and lengths to what is known, each sought like this one.
+// Adds bounds on turns, numbers and lengths to what is known, each sought like this one where none was
+// found before.
 fn add_factors(
     web: &Web,
     keys: &Keys,
-    like: &Wanted,
+    like: &Wanted<'_>,
     known: &mut Known,
     alloc: Global,
 ) -> Result<(), Stop> {
     for place in factors(keys, alloc)? {
+        if known.bounded.contains(&place) {
+            continue;
+        }
         let wanted = Wanted { place, ..*like };
         if let Some(promise) = promised(web, known, &wanted, alloc)? {
             let _most = take(web, known, promise, alloc)?;
+            known.bounded.push(place)?;
         }
     }
     Ok(())
@@ -275,7 +307,7 @@ fn sizes(web: &Web, keys: &Keys, known: &mut Known, alloc: Global) -> Result<Vec
     let mut left = growing(web, alloc)?;
     for degree in 1..=DEGREES {
         if degree == 2 {
-            add_factors(web, keys, &loosely(0, 1), known, alloc)?;
+            add_factors(web, keys, &loosely(STEPS, 1), known, alloc)?;
         }
         let mut later: Vec<u32> = Vec::new(alloc);
         for place in &left {
@@ -292,57 +324,6 @@ fn sizes(web: &Web, keys: &Keys, known: &mut Known, alloc: Global) -> Result<Vec
     Err(Stop::Refused(Refusal::Size))
 }
 
-// Whether some paths alone have a bound of their steps that is found.
-fn is_bounded(web: &Web, known: &mut Known, only: Only, alloc: Global) -> Result<bool, Stop> {
-    let wanted = Wanted {
-        place: 0,
-        sign: 1,
-        degree: 2,
-        highest: 2,
-        is_loose: false,
-        limits: Limits::None,
-        scope: Scope::All,
-        pivots: FEW_PIVOTS,
-        rows: ROWS,
-        only: Some(only),
-    };
-    Ok(promised(web, known, &wanted, alloc)?.is_some())
-}
-
-// The first node whose turns alone have no bound that is found, or else the last one.
-fn endless(web: &Web, known: &mut Known, alloc: Global) -> Result<usize, Stop> {
-    let mut last = 0;
-    for start in web.starts.get(1..).unwrap_or(&[]) {
-        if start.number == last {
-            continue;
-        }
-        last = start.number;
-        if !is_bounded(web, known, Only::Turns(last), alloc)? {
-            return Ok(last);
-        }
-    }
-    Ok(last)
-}
-
-// Why the steps have no bound: the loop, and the first path round it that has none by itself.
-fn unbounded(web: &Web, known: &mut Known, alloc: Global) -> Result<Stop, Stop> {
-    let number = endless(web, known, alloc)?;
-    let mut tries = MOST_WAYS;
-    for (at, leg) in web.legs.iter().enumerate() {
-        if !web.is_round(leg, number) || tries == 0 {
-            continue;
-        }
-        tries -= 1;
-        if !is_bounded(web, known, Only::Leg(at), alloc)? {
-            return Ok(Stop::Endless {
-                number,
-                leg: Some(at),
-            });
-        }
-    }
-    Ok(Stop::Endless { number, leg: None })
-}
-
 // The steps by coefficients of a higher degree.
 fn steps_by_degrees(
     web: &Web,
@@ -350,9 +331,9 @@ fn steps_by_degrees(
     known: &mut Known,
     alloc: Global,
 ) -> Result<Option<Promise>, Stop> {
-    add_factors(web, keys, &loosely(0, 1), known, alloc)?;
+    add_factors(web, keys, &loosely(STEPS, 1), known, alloc)?;
     for degree in 2..=DEGREES {
-        let promise = least_promise(web, known, 0, degree, alloc)?;
+        let promise = least_promise(web, known, STEPS, degree, alloc)?;
         if promise.is_some() {
             return Ok(promise);
         }
@@ -364,7 +345,7 @@ fn steps_by_degrees(
 fn steps_by_levels(web: &Web, known: &mut Known, alloc: Global) -> Result<Option<Promise>, Stop> {
     let like = Wanted {
         highest: 2,
-        ..loosely(0, 1)
+        ..loosely(STEPS, 1)
     };
     add_turns(web, known, &like, alloc)?;
     promised_by_levels(web, known, 2, alloc)
@@ -373,7 +354,7 @@ fn steps_by_levels(web: &Web, known: &mut Known, alloc: Global) -> Result<Option
 // The steps: where iterations are nested deeper than degrees are high, level by level.
 fn steps(web: &Web, keys: &Keys, known: &mut Known, alloc: Global) -> Result<Vec<u64>, Stop> {
     let is_deep = web.depth() > DEGREES as usize;
-    let mut found = least_promise(web, known, 0, 1, alloc)?;
+    let mut found = least_promise(web, known, STEPS, 1, alloc)?;
     if found.is_none() && is_deep && web.legs.len() <= MOST_LEGS {
         found = steps_by_levels(web, known, alloc)?;
     }
@@ -385,7 +366,7 @@ fn steps(web: &Web, keys: &Keys, known: &mut Known, alloc: Global) -> Result<Vec
     }
     match found {
         Some(promise) => take(web, known, promise, alloc),
-        None => Err(unbounded(web, known, alloc)?),
+        None => Err(Stop::Refused(Refusal::Steps(endless(web, known, alloc)?))),
     }
 }
 
@@ -398,13 +379,13 @@ fn steps_by_limits(
 ) -> Result<Option<Promise>, Stop> {
     let like = Wanted {
         limits: Limits::Numbers,
-        ..loosely(0, 1)
+        ..loosely(STEPS, 1)
     };
     add_factors(web, keys, &like, known, alloc)?;
     for degree in 1..=2 {
         let wanted = Wanted {
             limits: Limits::Numbers,
-            ..wanted_of(0, degree, Scope::All, true)
+            ..wanted_of(STEPS, degree, Scope::All, true)
         };
         let promise = promised(web, known, &wanted, alloc)?;
         if promise.is_some() {
@@ -414,41 +395,83 @@ fn steps_by_limits(
     Ok(None)
 }
 
-// The polynomials of the commands and of the size, where some numbers were taken to be tame.
-fn polynomials(
+// Whether no path types a byte.
+fn is_quiet(web: &Web) -> bool {
+    web.legs.iter().all(|leg| match leg.forms.get(TYPED as usize) {
+        Some(Some(form)) => form.terms().is_empty(),
+        _ => true,
+    })
+}
+
+// That no byte is typed.
+fn quiet(web: &Web, alloc: Global) -> Result<Promise, Stop> {
+    let mut numerators = Vec::new(alloc);
+    numerators.push(0)?;
+    let mut claims = Vec::new(alloc);
+    for _ in &web.starts {
+        let typed = Form::symbol(TYPED, alloc)?;
+        claims.push(Form::zero(alloc).sub(&typed, alloc)?)?;
+    }
+    Ok(Promise {
+        place: TYPED,
+        sign: 1,
+        numerators,
+        divisor: 1,
+        claims,
+    })
+}
+
+// The bytes typed, if a bound on them is found.
+fn typed(
     web: &Web,
     keys: &Keys,
-    tame: &[u32],
     known: &mut Known,
     alloc: Global,
-) -> Result<(Vec<u64>, Vec<u64>), Stop> {
+) -> Result<Option<Vec<u64>>, Stop> {
+    if is_quiet(web) {
+        return Ok(Some(take(web, known, quiet(web, alloc)?, alloc)?));
+    }
+    for degree in 1..=DEGREES {
+        if degree == 2 {
+            add_factors(web, keys, &loosely(STEPS, 1), known, alloc)?;
+        }
+        if let Some(promise) = least_promise(web, known, TYPED, degree, alloc)? {
+            return Ok(Some(take(web, known, promise, alloc)?));
+        }
+    }
+    Ok(None)
+}
+
+// The same, but none is told where the work that is left does not reach.
+fn types(
+    web: &Web,
+    keys: &Keys,
+    known: &mut Known,
+    alloc: Global,
+) -> Result<Option<Vec<u64>>, Stop> {
+    match typed(web, keys, known, alloc) {
+        Err(Stop::Refused(Refusal::TooMuch)) => Ok(None),
+        found => found,
+    }
+}
+
+// All promises by paths between keys, where some numbers were taken to be tame.
+pub fn all_promises(
+    web: &Web,
+    keys: &Keys,
+    tame: &mut Vec<u32>,
+    known: &mut Known,
+    alloc: Global,
+) -> Result<Promises, Stop> {
     let within = add_tame(web, keys, tame, known, alloc)?;
     add_invariants(web, known, alloc)?;
     let mut size = sizes(web, keys, known, alloc)?;
     raise(&mut size, &within)?;
     let commands = steps(web, keys, known, alloc)?;
-    Ok((commands, size))
-}
-
-// All promises by paths between keys. What programs take is taken from the work that is left.
-pub fn all_promises(
-    web: &Web,
-    keys: &Keys,
-    tame: &[u32],
-    work: &mut usize,
-    alloc: Global,
-) -> Result<Promises, Stop> {
-    let mut known = Known {
-        claims: Vec::new(alloc),
-        told: Vec::new(alloc),
-        work: *work,
-    };
-    let found = polynomials(web, keys, tame, &mut known, alloc);
-    *work = known.work;
-    let (commands, size) = found?;
+    let types = types(web, keys, known, alloc)?;
     Ok(Promises {
-        known,
         commands,
         size,
+        types,
     })
 }

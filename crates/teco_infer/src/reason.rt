@@ -1,13 +1,21 @@
 // What would show a condition that could not be shown, in the measures that claims speak of.
+use crate::potentials::Known;
+use crate::ways::unbounded;
 use crate::written::{claim_of, claimed_facts};
 use std::alloc::Global;
 use teco_bounds::fault::{Refusal, Stop};
-use teco_bounds::keys::shifted;
+use teco_bounds::keys::{is_count, shifted};
 use teco_bounds::legs::{Start, Web};
 use teco_bounds::record::Open;
 use teco_bounds::search::{Keys, Search};
 use teco_claims::Claim;
 use teco_linear::{Form, Scale};
+
+// The most ways that are told.
+const MOST_WAYS: usize = 3;
+
+// How many rows programs may go through that look for them.
+const WORK: usize = 2_000_000;
 
 /// Where a search has stopped: at which point, what is known there, and what more would do.
 #[derive(Drop)]
@@ -21,8 +29,8 @@ pub struct Reason {
     pub wanted: Option<Claim>,
     /// What is known there.
     pub known: Vec<Claim>,
-    /// The numbers of the elements on a way round the loop on which nothing is known to fall.
-    pub way: Vec<usize>,
+    /// Ways on which nothing is known to fall together, a few: the numbers of the elements on each.
+    pub ways: Vec<Vec<usize>>,
 }
 
 // The number that a form is, if it speaks of nothing.
@@ -36,15 +44,22 @@ fn number_of(form: &Form) -> Option<i64> {
     }
 }
 
+// The place of a measure that is no count, and its form, if it has one.
+fn measured(entry: (usize, &Option<Form>)) -> Option<(u32, &Form)> {
+    let (place, form) = entry;
+    let place = u32::try_from(place).ok()?;
+    if is_count(place) {
+        return None;
+    }
+    Some((place, form.as_ref()?))
+}
+
 // The measures' places of which a form is the difference, and how much more it is; where it is one
 // alone, the place of that.
 fn difference_in(form: &Form, forms: &[Option<Form>], alloc: Global) -> Result<Option<Form>, Stop> {
-    for (place, more) in forms.iter().enumerate().skip(1) {
-        let Some(more) = more else {
-            continue;
-        };
+    for (place, more) in forms.iter().enumerate().filter_map(measured) {
         let rest = form.sub(more, alloc)?;
-        let one = shifted(u32::try_from(place).ok(), 0, alloc)?;
+        let one = shifted(Some(place), 0, alloc)?;
         if let Some(number) = number_of(&rest) {
             return Ok(Some(one.add(&shifted(None, number, alloc)?, alloc)?));
         }
@@ -60,12 +75,9 @@ fn difference_in(form: &Form, forms: &[Option<Form>], alloc: Global) -> Result<O
 
 // What a form takes away, where that is a measure more or less a number.
 fn less_in(form: &Form, forms: &[Option<Form>], alloc: Global) -> Result<Option<Form>, Stop> {
-    for (place, less) in forms.iter().enumerate().skip(1) {
-        let Some(less) = less else {
-            continue;
-        };
+    for (place, less) in forms.iter().enumerate().filter_map(measured) {
         if let Some(number) = number_of(&form.add(less, alloc)?) {
-            let one = shifted(u32::try_from(place).ok(), 0, alloc)?;
+            let one = shifted(Some(place), 0, alloc)?;
             return Ok(Some(one.sub(&shifted(None, number, alloc)?, alloc)?));
         }
     }
@@ -159,33 +171,63 @@ fn unshown(
                 point: start.number,
                 wanted: claim_at(search, start, open)?,
                 known: known_at(search, keys, open.source)?,
-                way: Vec::new(search.alloc),
+                ways: Vec::new(search.alloc),
             }));
         }
     }
     Ok(None)
 }
 
-// What is known where paths begin at the first key of a node, and which way round is told.
+// What is known where paths begin at a node: at the key of the first of some, or at its first one.
+fn known_at_node(
+    search: &Search<'_>,
+    web: &Web,
+    keys: &Keys,
+    number: usize,
+    paths: &[usize],
+) -> Result<Vec<Claim>, Stop> {
+    let of_paths = paths
+        .iter()
+        .filter_map(|at| web.legs.get(*at))
+        .map(|leg| leg.source);
+    let is_there = |place: &usize| keys
+        .keys
+        .get(*place)
+        .is_some_and(|key| key.number == number);
+    match of_paths.chain(0..keys.keys.len()).find(is_there) {
+        Some(place) => known_at(search, keys, place),
+        None => Ok(Vec::new(search.alloc)),
+    }
+}
+
+// The elements on paths, each way once.
+fn ways_of(web: &Web, paths: &[usize], alloc: Global) -> Result<Vec<Vec<usize>>, Stop> {
+    let mut ways: Vec<Vec<usize>> = Vec::new(alloc);
+    for path in paths {
+        let last = web.legs.get(*path).and_then(|leg| leg.passed);
+        let way = web.record.way(last, alloc)?;
+        let is_new = ways.iter().all(|other| other.as_slice() != way.as_slice());
+        if is_new && ways.len() < MOST_WAYS {
+            ways.push(way)?;
+        }
+    }
+    Ok(ways)
+}
+
+// What is known at a node from which paths lead on without a bound.
 fn endless(
     search: &Search<'_>,
     web: &Web,
     keys: &Keys,
     number: usize,
-    leg: Option<usize>,
+    paths: &[usize],
 ) -> Result<Option<Reason>, Stop> {
-    let leg = leg.and_then(|at| web.legs.get(at));
-    let first = keys.keys.iter().position(|key| key.number == number);
-    let Some(place) = leg.map(|leg| leg.source).or(first) else {
-        return Ok(None);
-    };
-    let last = leg.and_then(|leg| leg.passed);
     Ok(Some(Reason {
         needed: None,
         point: number,
         wanted: None,
-        known: known_at(search, keys, place)?,
-        way: web.record.way(last, search.alloc)?,
+        known: known_at_node(search, web, keys, number, paths)?,
+        ways: ways_of(web, paths, search.alloc)?,
     }))
 }
 
@@ -194,12 +236,17 @@ pub fn reason_for(
     search: &Search<'_>,
     web: &Web,
     keys: &Keys,
+    known: &mut Known,
     stop: Stop,
 ) -> Result<Option<Reason>, Stop> {
     match stop {
         Stop::Refused(Refusal::Condition(number)) => unshown(search, web, keys, number),
-        Stop::Endless { number, leg } => endless(search, web, keys, number, leg),
-        Stop::Refused(Refusal::Size) => endless(search, web, keys, first_of(keys), None),
+        Stop::Refused(Refusal::Steps(number)) => {
+            known.work = WORK;
+            let paths = unbounded(web, known, number, search.alloc)?;
+            endless(search, web, keys, number, &paths)
+        }
+        Stop::Refused(Refusal::Size) => endless(search, web, keys, first_of(keys), &[]),
         _ => Ok(None),
     }
 }

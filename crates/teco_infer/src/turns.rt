@@ -70,7 +70,7 @@ fn add_arrival(sought: &mut Sought<'_>, leg: &Leg, turns: &Form) -> Result<(), S
 fn sought_of<'a>(
     web: &'a Web,
     known: &'a Known,
-    wanted: &Wanted,
+    wanted: &Wanted<'_>,
     iteration: Iteration,
 ) -> Result<Option<Sought<'a>>, Stop> {
     let alloc = web.record.alloc;
@@ -121,7 +121,7 @@ fn claims_of(
 fn tried(
     web: &Web,
     known: &Known,
-    wanted: &Wanted,
+    wanted: &Wanted<'_>,
     iteration: Iteration,
 ) -> Result<(Option<Vec<Form>>, usize), Stop> {
     let Some(sought) = sought_of(web, known, wanted, iteration)? else {
@@ -138,7 +138,12 @@ fn tried(
 }
 
 // Adds bounds on turns to what is known, each sought like this one.
-pub fn add_turns(web: &Web, known: &mut Known, wanted: &Wanted, alloc: Global) -> Result<(), Stop> {
+pub fn add_turns(
+    web: &Web,
+    known: &mut Known,
+    wanted: &Wanted<'_>,
+    alloc: Global,
+) -> Result<(), Stop> {
     for iteration in iterations(web, alloc)? {
         let (claims, work) = tried(web, known, wanted, iteration)?;
         known.spend(work)?;

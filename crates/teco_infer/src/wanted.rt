@@ -1,14 +1,11 @@
 // What is wanted of a program.
-use teco_bounds::keys::{HELD, LINE_END, LINE_START};
-use teco_bounds::legs::{Leg, Web};
+use teco_bounds::keys::{HELD, LINE_END, LINE_START, is_count};
 use teco_bounds::measures::{TURNS, family_of};
 use teco_bounds::reduced::Limits;
 
-// What is promised: that the steps, or a measure, are no more than a polynomial, by coefficients of a
-// degree in N.
+// What is promised: that a measure is no more than a polynomial, by coefficients of a degree in N.
 #[derive(Clone, Copy)]
-pub struct Wanted {
-    // 0 are the steps.
+pub struct Wanted<'a> {
     pub place: u32,
     // 1, or -1 where the measure is to be no less than the polynomial taken once less.
     pub sign: i128,
@@ -21,24 +18,19 @@ pub struct Wanted {
     // The most pivots of the program, and the most rows.
     pub pivots: usize,
     pub rows: usize,
-    // Which paths count, if not all do.
-    pub only: Option<Only>,
+    // The places of the paths that count, if not all do.
+    pub only: Option<&'a [usize]>,
 }
 
-// Which paths count: the turns at a node, or one path.
-#[derive(Clone, Copy, PartialEq, Eq)]
-pub enum Only {
-    Turns(usize),
-    Leg(usize),
-}
+impl Wanted<'_> {
+    // Whether the measure counts what a run does.
+    pub fn is_count(&self) -> bool {
+        is_count(self.place)
+    }
 
-impl Only {
-    // Whether a path counts.
-    pub fn has(self, web: &Web, at: usize, leg: &Leg) -> bool {
-        match self {
-            Only::Turns(number) => web.is_round(leg, number),
-            Only::Leg(one) => at == one,
-        }
+    // Whether the path in a place counts.
+    pub fn counts(&self, place: usize) -> bool {
+        self.only.is_none_or(|places| places.contains(&place))
     }
 }
 

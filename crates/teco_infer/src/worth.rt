@@ -5,6 +5,7 @@ use crate::potentials::{Known, Promise, Sought, lowest, product, rounded_up};
 use crate::wanted::{Scope, Wanted};
 use std::alloc::Global;
 use teco_bounds::fault::Stop;
+use teco_bounds::keys::STEPS;
 use teco_bounds::legs::{Leg, Web};
 use teco_bounds::programs::add_form;
 use teco_bounds::steps::constant;
@@ -40,7 +41,7 @@ fn add_cost(
             .add(&mut entries, target, &leg.forms, -1, alloc)?;
     }
     let mut number = 0;
-    if let Some(steps) = form_at(&leg.forms, 0, alloc)? {
+    if let Some(steps) = form_at(&leg.forms, STEPS as usize, alloc)? {
         add_form(&mut entries, &steps, 0, None, -1)?;
         number = constant(&steps).max(0);
     }
@@ -321,7 +322,7 @@ fn promise_of(web: &Web, levels: &Levels, paid: &Paid, alloc: Global) -> Result<
     }
     let divisor = paid.divisor.first().copied().unwrap_or(1);
     Ok(Promise {
-        place: 0,
+        place: STEPS,
         sign: 1,
         numerators,
         divisor: i128::try_from(divisor).unwrap_or(1),

@@ -1,10 +1,12 @@
 // What was found as claims of a certificate.
+use crate::potentials::Known;
 use crate::promises::Promises;
 use teco_base::Reg;
 use teco_bounds::bounds::{Bounds, NONE};
 use teco_bounds::fault::{Refusal, Stop};
 use teco_bounds::keys::{
-    HELD, Key, LAST_LENGTH, LINE_END, LINE_START, POINTER, SIZE, add_always, bound_form, symbol_of,
+    HELD, Key, LAST_LENGTH, LINE_END, LINE_START, POINTER, SIZE, STEPS, TYPED, add_always,
+    bound_form, symbol_of,
 };
 use teco_bounds::measures::{
     LENGTH, NUMBER, PUSHED_LENGTH, PUSHED_NUMBER, SINGLES, TURNS, family_of, index_of,
@@ -36,13 +38,14 @@ fn polynomial(coefficients: &[u64]) -> Option<Poly> {
 // The codes of characters have no name.
 fn single_of(place: u32) -> Option<Single> {
     match place {
-        0 => Some(Single::Steps),
+        STEPS => Some(Single::Steps),
         POINTER => Some(Single::Pointer),
         SIZE => Some(Single::Size),
         HELD => Some(Single::Held),
         LINE_END => Some(Single::LineEnd),
         LINE_START => Some(Single::LineStart),
         LAST_LENGTH => Some(Single::LastLength),
+        TYPED => Some(Single::Typed),
         _ => None,
     }
 }
@@ -161,7 +164,7 @@ fn cut(
     search: &Search<'_>,
     keys: &Keys,
     place: usize,
-    promises: &Promises,
+    known: &Known,
     with_limits: bool,
 ) -> Result<Option<Cut>, Stop> {
     let (Some(key), Some(facts)) = (keys.keys.get(place), keys.facts.get(place)) else {
@@ -173,7 +176,7 @@ fn cut(
             claims.push(claim)?;
         }
     }
-    for (at, form) in &promises.known.claims {
+    for (at, form) in &known.claims {
         if *at == place {
             match claim_of(search, key.number, form)? {
                 Some(claim) => claims.push(claim)?,
@@ -188,15 +191,24 @@ fn cut(
 }
 
 // The claims.
-pub fn claims_of(search: &Search<'_>, keys: &Keys, promises: &Promises) -> Result<Claims, Stop> {
+pub fn claims_of(
+    search: &Search<'_>,
+    keys: &Keys,
+    known: &Known,
+    promises: &Promises,
+) -> Result<Claims, Stop> {
     let (Some(commands), Some(size)) = (polynomial(&promises.commands), polynomial(&promises.size))
     else {
         return Err(Stop::Refused(Refusal::TooMuch));
     };
+    let types = match &promises.types {
+        Some(types) => polynomial(types),
+        None => None,
+    };
     let with_limits = has_limits(search, keys)?;
     let mut cuts: Vec<Cut> = Vec::new(search.alloc);
     for place in 1..keys.keys.len() {
-        if let Some(cut) = cut(search, keys, place, promises, with_limits)? {
+        if let Some(cut) = cut(search, keys, place, known, with_limits)? {
             cuts.push(cut)?;
         }
     }
@@ -204,7 +216,7 @@ pub fn claims_of(search: &Search<'_>, keys: &Keys, promises: &Promises) -> Resul
     Ok(Claims {
         commands,
         size,
-        types: None,
+        types,
         cuts,
     })
 }
@@ -263,12 +275,13 @@ fn kind_of(measure: &Measure) -> u64 {
         Measure::One(Single::Held) => 3,
         Measure::PushedNumber(_) | Measure::PushedLength(_) => 4,
         Measure::One(Single::LastLength) => 5,
-        Measure::One(Single::Pointer) => 6,
-        Measure::Number(_) => 7,
-        Measure::Turns(_) => 8,
-        Measure::One(Single::LineStart) => 9,
-        Measure::Length(_) => 10,
-        Measure::One(Single::Size) => 11,
+        Measure::One(Single::Typed) => 6,
+        Measure::One(Single::Pointer) => 7,
+        Measure::Number(_) => 8,
+        Measure::Turns(_) => 9,
+        Measure::One(Single::LineStart) => 10,
+        Measure::Length(_) => 11,
+        Measure::One(Single::Size) => 12,
     }
 }
 

@@ -18,7 +18,7 @@ use Rattle.teco_model.specs.laws.Whole.{AreBytes, IsWhole, IsWholePair}
 use Rattle.teco_rows.specs.declared.case.Case.{Case}
 use Rattle.teco_rows.specs.declared.measure.Single.{Single}
 use Rattle.teco_rows.specs.declared.measure.Single.TheVariants.{Steps, Pointer, Size, Held, LineEnd, LineStart}
-use Rattle.teco_rows.specs.declared.measure.Single.TheVariants.{LastLength, CodeHere, CodeBefore}
+use Rattle.teco_rows.specs.declared.measure.Single.TheVariants.{LastLength, CodeHere, CodeBefore, Typed}
 use Rattle.teco_rows.specs.declared.outcomes.Outcomes.{Outcomes}
 use Rattle.teco_outcomes.specs.declared.queries.TheConstants.{CHARACTER}
 use Rattle.teco_rows.specs.declared.row.Places.{Places}
@@ -133,7 +133,7 @@ mode_asked case all none gives colons e same n v s begins =
 -- ---- what is done with a value that stands
 module _ (s : Point) (here : Places) (given : ℕ → ℤ) where
   stays : (answer : Option ℤ) (which : Single)
-      → Some (pos (single (commanded s s.kept answer) which)) ≡ Some (pos (single (commanded s s.kept None) which))
+      → Some (single (commanded s s.kept answer) which) ≡ Some (single (commanded s s.kept None) which)
   stays answer Steps = refl
   stays answer Pointer = refl
   stays answer Size = refl
@@ -143,10 +143,11 @@ module _ (s : Point) (here : Places) (given : ℕ → ℤ) where
   stays answer LastLength = refl
   stays answer CodeHere = refl
   stays answer CodeBefore = refl
+  stays answer Typed = refl
 
   set_mode : (mode : ℤ) (which : Single)
-      → Some (pos (single (commanded s (record s.kept { mode = mode }) None) which))
-      ≡ Some (pos (single (commanded s s.kept None) which))
+      → Some (single (commanded s (record s.kept { mode = mode }) None) which)
+      ≡ Some (single (commanded s s.kept None) which)
   set_mode mode Steps = refl
   set_mode mode Pointer = refl
   set_mode mode Size = refl
@@ -156,6 +157,7 @@ module _ (s : Point) (here : Places) (given : ℕ → ℤ) where
   set_mode mode LastLength = refl
   set_mode mode CodeHere = refl
   set_mode mode CodeBefore = refl
+  set_mode mode Typed = refl
 
   pub mode_leads : (mode : ℤ) (unknown : ℕ → ℤ)
       → Leads [] (read_at s here given unknown) s (record s.kept { mode = mode }) None

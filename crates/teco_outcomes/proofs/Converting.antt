@@ -40,7 +40,7 @@ use Rattle.teco_rows.specs.declared.measure.Family.TheVariants.{Value}
 use Rattle.teco_rows.specs.declared.measure.Measure.TheVariants.{One}
 use Rattle.teco_rows.specs.declared.measure.Single.{Single}
 use Rattle.teco_rows.specs.declared.measure.Single.TheVariants.{Steps, Pointer, Size, Held, LineEnd, LineStart}
-use Rattle.teco_rows.specs.declared.measure.Single.TheVariants.{LastLength, CodeHere, CodeBefore}
+use Rattle.teco_rows.specs.declared.measure.Single.TheVariants.{LastLength, CodeHere, CodeBefore, Typed}
 use Rattle.teco_rows.specs.declared.levels.TheConstants.{NO}
 use Rattle.teco_rows.specs.declared.outcomes.Guarded.{Guarded}
 use Rattle.teco_rows.specs.declared.outcomes.Outcomes.{Outcomes}
@@ -218,8 +218,8 @@ module _ (s : Point) (whole : IsWhole s.kept) where
   start_is = same_start s.kept.text s.kept.pointer kept.pointer order inside plain
 
   any_singles : (n : ℕ) (v : Valuation) (here : Places) (which : Single)
-      → Some (pos (single (record s { kept = kept; unread = s.unread }) which))
-      ≡ changed READS (read_given [] n v s behind_it here) (One which) (Some (pos (single s which)))
+      → Some (single (record s { kept = kept; unread = s.unread }) which)
+      ≡ changed READS (read_given [] n v s behind_it here) (One which) (Some (single s which))
   any_singles n v here Steps = refl
   any_singles n v here Pointer = ap Some (omega (arith, ints))
   any_singles n v here Size = refl
@@ -229,10 +229,11 @@ module _ (s : Point) (whole : IsWhole s.kept) where
   any_singles n v here LastLength = refl
   any_singles n v here CodeHere = ap Some (omega (arith, ints))
   any_singles n v here CodeBefore = ap Some (omega (arith, ints))
+  any_singles n v here Typed = refl
 
   digit_singles : (n : ℕ) (v : Valuation) (here : Places) (which : Single)
-      → Some (pos (single (record s { kept = kept; unread = s.unread }) which))
-      ≡ changed READS_DIGIT (read_given [] n v s behind_it here) (One which) (Some (pos (single s which)))
+      → Some (single (record s { kept = kept; unread = s.unread }) which)
+      ≡ changed READS_DIGIT (read_given [] n v s behind_it here) (One which) (Some (single s which))
   digit_singles n v here Steps = refl
   digit_singles n v here Pointer = ap Some (omega (arith, ints))
   digit_singles n v here Size = refl
@@ -242,10 +243,11 @@ module _ (s : Point) (whole : IsWhole s.kept) where
   digit_singles n v here LastLength = refl
   digit_singles n v here CodeHere = ap Some (omega (arith, ints))
   digit_singles n v here CodeBefore = ap Some (omega (arith, ints))
+  digit_singles n v here Typed = refl
 
   low_singles : (n : ℕ) (v : Valuation) (here : Places) (which : Single)
-      → Some (pos (single (record s { kept = kept; unread = s.unread }) which))
-      ≡ changed READS_LOW (read_given [] n v s behind_it here) (One which) (Some (pos (single s which)))
+      → Some (single (record s { kept = kept; unread = s.unread }) which)
+      ≡ changed READS_LOW (read_given [] n v s behind_it here) (One which) (Some (single s which))
   low_singles n v here Steps = refl
   low_singles n v here Pointer = ap Some (omega (arith, ints))
   low_singles n v here Size = refl
@@ -255,10 +257,11 @@ module _ (s : Point) (whole : IsWhole s.kept) where
   low_singles n v here LastLength = refl
   low_singles n v here CodeHere = ap Some (omega (arith, ints))
   low_singles n v here CodeBefore = ap Some (omega (arith, ints))
+  low_singles n v here Typed = refl
 
   high_singles : (n : ℕ) (v : Valuation) (here : Places) (which : Single)
-      → Some (pos (single (record s { kept = kept; unread = s.unread }) which))
-      ≡ changed READS_HIGH (read_given [] n v s behind_it here) (One which) (Some (pos (single s which)))
+      → Some (single (record s { kept = kept; unread = s.unread }) which)
+      ≡ changed READS_HIGH (read_given [] n v s behind_it here) (One which) (Some (single s which))
   high_singles n v here Steps = refl
   high_singles n v here Pointer = ap Some (omega (arith, ints))
   high_singles n v here Size = refl
@@ -268,6 +271,7 @@ module _ (s : Point) (whole : IsWhole s.kept) where
   high_singles n v here LastLength = refl
   high_singles n v here CodeHere = ap Some (omega (arith, ints))
   high_singles n v here CodeBefore = ap Some (omega (arith, ints))
+  high_singles n v here Typed = refl
 
 pub goes_behind : (case made : Case) → IsChangedFrom case READS [] made → IsBehindNumber case made
 goes_behind case made changes n v s true_of whole =
@@ -339,8 +343,8 @@ module _ (s : Point) (here : Places) (given : ℕ → ℤ) (new : List ℕ) (ins
   writes row a b c d e met =
       subst (λ r. Leads r before s (kept_with new s.kept) None) (sym e)
       (leads_singles (written a b c d) before s (kept_with new s.kept) refl refl met singles) where
-        singles : (which : Single) → Some (pos (single (commanded s (kept_with new s.kept) None) which))
-            ≡ changed (written a b c d) before (One which) (Some (pos (single (commanded s s.kept None) which)))
+        singles : (which : Single) → Some (single (commanded s (kept_with new s.kept) None) which)
+            ≡ changed (written a b c d) before (One which) (Some (single (commanded s s.kept None) which))
         singles Steps = refl
         singles Pointer = ap Some (omega (arith, ints))
         singles Size = ap Some (omega (arith, ints, long))
@@ -350,6 +354,7 @@ module _ (s : Point) (here : Places) (given : ℕ → ℤ) (new : List ℕ) (ins
         singles LastLength = ap Some (omega (arith, ints))
         singles CodeHere = ap (λ x. Some (pos x)) (grown_here s.kept.text new s.kept.pointer inside)
         singles CodeBefore = ap Some (omega (arith, ints))
+        singles Typed = refl
 
 -- a number is within bounds, and its text is not longer than they say
 pub record IsWithin (span : Span) (x : ℤ) : Type 0 where

@@ -26,7 +26,7 @@ use Rattle.teco_rows.specs.declared.measure.Family.TheVariants.{First, Value}
 use Rattle.teco_rows.specs.declared.measure.Measure.{Measure}
 use Rattle.teco_rows.specs.declared.measure.Measure.TheVariants.{One, Each}
 use Rattle.teco_rows.specs.declared.measure.Single.TheVariants.{Steps, Pointer, Size, Held, LineEnd, LineStart}
-use Rattle.teco_rows.specs.declared.measure.Single.TheVariants.{LastLength, CodeHere, CodeBefore}
+use Rattle.teco_rows.specs.declared.measure.Single.TheVariants.{LastLength, CodeHere, CodeBefore, Typed}
 use Rattle.teco_rows.specs.declared.outcomes.Outcomes.{Outcomes}
 use Rattle.teco_outcomes.specs.declared.pushes.TheConstants.{PUSHES, POPS}
 use Rattle.teco_rows.specs.declared.row.Step.{Step}
@@ -53,7 +53,7 @@ pub is_stacked : (case made : Case) (step : Step) (shape : Shape) (pushes : ℕ)
 is_stacked case made step shape pushes operator waits carries shape_is last iterations count =
     record { describes = describes } where
       describes : (n : ℕ) (v : Valuation) (s : Point) (kept : Kept) → IsTrueOf n v case s
-          → s.below + pushes ≡ length kept.registers.stack
+          → s.origin.pushes + pushes ≡ length kept.registers.stack
           → Holds step.clauses.now (read_with step n v (measures_of s) nothing)
           (measures_of (behind s (after kept s.arguments)))
           → Describes n made (behind s (after kept s.arguments))
@@ -64,7 +64,7 @@ is_stacked case made step shape pushes operator waits carries shape_is last iter
                 last (operators_of s.arguments.outer) s.arguments.level.operator true_of.shape.operators
                 ∙ ap (λ o. operators_of s.arguments.outer ++ o ∷ []) (sym (waits s true_of.shape));
             iterations = iterations ∙ true_of.shape.iterations;
-            pushes = ap (λ k. s.below + k) count ∙ long;
+            pushes = ap (λ k. s.origin.pushes + k) count ∙ long;
           }))
 
 -- counted from the oldest since the entry
@@ -118,11 +118,11 @@ module _ (n : ℕ) (v : Valuation) (s : Point) (step : Step) (register at : ℕ)
       ≡ pos (length (pair_of step.here.register s.kept.registers).text)
   length_there = worth _ _ (ap length_of there)
 
-  pub push_holds : s.below + at ≡ length s.kept.registers.stack
+  pub push_holds : s.origin.pushes + at ≡ length s.kept.registers.stack
       → Holds PUSHES b (measures_of (behind s (after (push step.here.register s.kept) s.arguments)))
   push_holds long = record { met = tt; becomes = becomes } where
-    at_place : s.below + step.here.push ≡ length s.kept.registers.stack
-    at_place = ap (λ k. s.below + k) push_is ∙ long
+    at_place : s.origin.pushes + step.here.push ≡ length s.kept.registers.stack
+    at_place = ap (λ k. s.origin.pushes + k) push_is ∙ long
 
     becomes : (m : Measure)
         → measures_of (behind s (after (push step.here.register s.kept) s.arguments)) m
@@ -136,36 +136,37 @@ module _ (n : ℕ) (v : Valuation) (s : Point) (step : Step) (register at : ℕ)
     becomes (One LastLength) = refl
     becomes (One CodeHere) = refl
     becomes (One CodeBefore) = refl
+    becomes (One Typed) = refl
     becomes (Each Number i) = refl
     becomes (Each Length i) = refl
     becomes (Each Turns i) = refl
     becomes (Each PushedNumber i) =
-        pair_more number_of refl (pair_of step.here.register s.kept.registers) s.kept.registers.stack s.below
+        pair_more number_of refl (pair_of step.here.register s.kept.registers) s.kept.registers.stack s.origin.pushes
         step.here.push i _ at_place
         (ap Some (omega (arith, ints, number_there)))
     becomes (Each PushedLength i) =
-        pair_more length_of refl (pair_of step.here.register s.kept.registers) s.kept.registers.stack s.below
+        pair_more length_of refl (pair_of step.here.register s.kept.registers) s.kept.registers.stack s.origin.pushes
         step.here.push i _ at_place
         (ap Some (omega (arith, ints, length_there)))
     becomes (Each First i) = refl
     becomes (Each Value i) = refl
 
   pub pop_holds : (pair : Pair) (rest : List Pair) → s.kept.registers.stack ≡ pair ∷ rest
-      → s.below + at ≡ length rest
+      → s.origin.pushes + at ≡ length rest
       → Holds POPS b (measures_of (behind s (after (kept_with_popped step.here.register pair rest s.kept) s.arguments)))
   pop_holds pair rest e long = record { met = tt; becomes = becomes } where
-    at_place : s.below + step.here.push ≡ length rest
-    at_place = ap (λ k. s.below + k) push_is ∙ long
+    at_place : s.origin.pushes + step.here.push ≡ length rest
+    at_place = ap (λ k. s.origin.pushes + k) push_is ∙ long
 
-    newest : from_end s.kept.registers.stack (s.below + step.here.push) ≡ Some pair
+    newest : from_end s.kept.registers.stack (s.origin.pushes + step.here.push) ≡ Some pair
     newest = ap (λ k. from_end s.kept.registers.stack k) at_place ∙ ap (λ l. from_end l (length rest)) e
         ∙ innermost pair rest
 
-    number_newest : unwrap_or (number_of (from_end s.kept.registers.stack (s.below + step.here.push))) (pos 0)
+    number_newest : unwrap_or (number_of (from_end s.kept.registers.stack (s.origin.pushes + step.here.push))) (pos 0)
         ≡ pair.number
     number_newest = worth _ _ (ap number_of newest)
 
-    length_newest : unwrap_or (length_of (from_end s.kept.registers.stack (s.below + step.here.push))) (pos 0)
+    length_newest : unwrap_or (length_of (from_end s.kept.registers.stack (s.origin.pushes + step.here.push))) (pos 0)
         ≡ pos (length pair.text)
     length_newest = worth _ _ (ap length_of newest)
 
@@ -181,6 +182,7 @@ module _ (n : ℕ) (v : Valuation) (s : Point) (step : Step) (register at : ℕ)
     becomes (One LastLength) = refl
     becomes (One CodeHere) = refl
     becomes (One CodeBefore) = refl
+    becomes (One Typed) = refl
     becomes (Each Number i) =
         number_set s.kept.registers.pairs step.here.register i pair _ (omega (arith, whole.count))
         (ap Some (omega (arith, ints, number_newest)))
@@ -189,11 +191,11 @@ module _ (n : ℕ) (v : Valuation) (s : Point) (step : Step) (register at : ℕ)
         (ap Some (omega (arith, ints, length_newest)))
     becomes (Each Turns i) = refl
     becomes (Each PushedNumber i) =
-        pair_fewer number_of refl pair rest s.below step.here.push i at_place
-        ∙ ap (λ l. if step.here.push == i then None else number_of (from_end l (s.below + i))) (sym e)
+        pair_fewer number_of refl pair rest s.origin.pushes step.here.push i at_place
+        ∙ ap (λ l. if step.here.push == i then None else number_of (from_end l (s.origin.pushes + i))) (sym e)
     becomes (Each PushedLength i) =
-        pair_fewer length_of refl pair rest s.below step.here.push i at_place
-        ∙ ap (λ l. if step.here.push == i then None else length_of (from_end l (s.below + i))) (sym e)
+        pair_fewer length_of refl pair rest s.origin.pushes step.here.push i at_place
+        ∙ ap (λ l. if step.here.push == i then None else length_of (from_end l (s.origin.pushes + i))) (sym e)
     becomes (Each First i) = refl
     becomes (Each Value i) = refl
 
@@ -218,7 +220,7 @@ pub is_popped : (case made : Case) (step : Step) (register newest : ℕ) → IsS
 is_popped case made step register newest stacked row is in' at count =
     subst (λ r. IsPopped case r made) is (λ n v s true_of whole.
     let o = first_of s.kept.registers.stack (omega (arith, true_of.shape.pushes)) in
-    let long : s.below + newest ≡ length o.1 = omega (arith, true_of.shape.pushes, ap length o.2) in (
+    let long : s.origin.pushes + newest ≡ length o.1 = omega (arith, true_of.shape.pushes, ap length o.2) in (
       o.0,
       o.1,
       o.2,

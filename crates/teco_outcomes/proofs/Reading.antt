@@ -23,7 +23,7 @@ use Rattle.teco_rows.specs.declared.commands.Taken.{Taken}
 use Rattle.teco_rows.specs.declared.commands.Way as command
 use Rattle.teco_rows.specs.declared.measure.Single.{Single}
 use Rattle.teco_rows.specs.declared.measure.Single.TheVariants.{Steps, Pointer, Size, Held, LineEnd, LineStart}
-use Rattle.teco_rows.specs.declared.measure.Single.TheVariants.{LastLength, CodeHere, CodeBefore}
+use Rattle.teco_rows.specs.declared.measure.Single.TheVariants.{LastLength, CodeHere, CodeBefore, Typed}
 use Rattle.teco_rows.specs.declared.outcomes.Outcomes.{Outcomes}
 use Rattle.teco_rows.specs.declared.row.Places.{Places}
 use Rattle.teco_rows.specs.Cases.{value_if}
@@ -58,7 +58,7 @@ code_outside (c ∷ text) (suc k) h = code_outside text k (omega arith)
 
 module _ (s : Point) (here : Places) (given : ℕ → ℤ) (at : here.level ≡ length s.arguments.outer) where
   stays : (x : ℤ) (which : Single)
-      → Some (pos (single (commanded s s.kept (Some x)) which)) ≡ Some (pos (single (commanded s s.kept None) which))
+      → Some (single (commanded s s.kept (Some x)) which) ≡ Some (single (commanded s s.kept None) which)
   stays x Steps = refl
   stays x Pointer = refl
   stays x Size = refl
@@ -68,6 +68,7 @@ module _ (s : Point) (here : Places) (given : ℕ → ℤ) (at : here.level ≡ 
   stays x LastLength = refl
   stays x CodeHere = refl
   stays x CodeBefore = refl
+  stays x Typed = refl
 
   inside_leads : (k c : ℕ) → pos s.kept.pointer +ℤ given 0 ≡ pos k → k < length s.kept.text → c < 256
       → Leads INSIDE (read_at s here given (λ i. pos c)) s s.kept (Some (pos c))
@@ -379,11 +380,11 @@ pub character_law : (e : Element) (case : Case) (taken : Taken) (form : List Ter
     → e.kind ≡ kind.Page Append → IsTaken case taken → taken.value ≡ Some form → GivesCharacter form case all
     → Law e case all
 unfolding step reply_of
-character_law e case taken form all is takes value_is gives n v s steps below stands begins =
-    subst (StepsTo (Goes n all e steps below s))
+character_law e case taken form all is takes value_is gives n v s steps origin stands begins =
+    subst (StepsTo (Goes n all e steps origin s))
     (sym (ap (outcome_at s) stands.reads ∙ ap (λ k. going.settle e s (reply_of k e s)) is
     ∙ ap (λ a. going.settle e s (a >>= (λ taken. append_reply taken.value s.left (levels_after_taking s.arguments)
-    s.world))) (takes n v (point_of steps below s) begins.true_of)
+    s.world))) (takes n v (point_of steps origin s) begins.true_of)
     ∙ ap (λ o. going.settle e s (append_reply (value_if o n v) s.left (levels_after_taking s.arguments) s.world))
     value_is))
-    (inl (record { described = gives n v (point_of steps below s) begins; there = refl; left = refl }))
+    (inl (record { described = gives n v (point_of steps origin s) begins; there = refl; left = refl }))

@@ -25,21 +25,21 @@ use Rattle.teco_rows.specs.Foretold.{Describe, Foretells, Rearranges, Succeeds}
 use Rattle.teco_flow_outcomes.specs.Flow.{IsTurnOf, Turns}
 use Rattle.teco_flow_outcomes.specs.Law.{Goes, Law, StepsTo, loops_in, point_of}
 use Rattle.teco_outcomes.specs.Queries.{Asks}
-use Rattle.teco_rows.specs.States.{Point, behind}
+use Rattle.teco_rows.specs.States.{Origin, Point, behind}
 
 -- an element that works on the editor alone goes on behind itself
 pub editor_law : (e : Element) (case : Case) (all : Outcomes) (performed : Point → Result going.After Code)
-    → ((s : State) (steps below : ℕ)
-    → reply_of e.kind e s ≡ going.on_editor s.left s.world (performed (point_of steps below s)))
+    → ((s : State) (steps : ℕ) (origin : Origin)
+    → reply_of e.kind e s ≡ going.on_editor s.left s.world (performed (point_of steps origin s)))
     → Foretells performed case all → Law e case all
 unfolding step
-editor_law e case all performed is foretells n v s steps below stands begins =
-    subst (StepsTo (Goes n all e steps below s))
-    (sym (ap (outcome_at s) stands.reads ∙ ap (going.settle e s) (is s steps below)))
-    (settled (performed (point_of steps below s)) (foretells n v (point_of steps below s) begins)) where
+editor_law e case all performed is foretells n v s steps origin stands begins =
+    subst (StepsTo (Goes n all e steps origin s))
+    (sym (ap (outcome_at s) stands.reads ∙ ap (going.settle e s) (is s steps origin)))
+    (settled (performed (point_of steps origin s)) (foretells n v (point_of steps origin s) begins)) where
       settled : (r : Result going.After Code)
-          → Succeeds (λ done. Describe n all (behind (point_of steps below s) done)) r
-          → StepsTo (Goes n all e steps below s) (going.settle e s (going.on_editor s.left s.world r))
+          → Succeeds (λ done. Describe n all (behind (point_of steps origin s) done)) r
+          → StepsTo (Goes n all e steps origin s) (going.settle e s (going.on_editor s.left s.world r))
       settled (Ok done) d = inl (record { described = d; there = refl; left = refl })
       settled (Err c) d = absurd d
 
@@ -49,7 +49,7 @@ pub argument_law : (e : Element) (case : Case) (all : Outcomes) (a : Argument) �
 unfolding reply_of
 argument_law e case all a is arranges =
     editor_law e case all (λ s. after_argument a e s.kept s.arguments)
-    (λ s steps below. ap (λ k. reply_of k e s) is)
+    (λ s steps origin. ap (λ k. reply_of k e s) is)
     (λ n v s begins. passed s n (levels_after a e.text s.arguments) (arranges n v s begins)) where
       passed : (s : Point) (n : ℕ) (r : Result Arguments Code)
           → Succeeds (λ arguments. Describe n all (behind s (going.after s.kept arguments))) r
@@ -61,21 +61,21 @@ pub value_law : (e : Element) (case : Case) (all : Outcomes) (v : Value) → e.k
     → Foretells (λ s. after_value v s.kept s.arguments) case all → Law e case all
 unfolding reply_of
 value_law e case all v is foretells =
-    editor_law e case all (λ s. after_value v s.kept s.arguments) (λ s steps below. ap (λ k. reply_of k e s) is)
+    editor_law e case all (λ s. after_value v s.kept s.arguments) (λ s steps origin. ap (λ k. reply_of k e s) is)
     foretells
 
 pub query_law : (e : Element) (case : Case) (all : Outcomes) (q : Query) → e.kind ≡ kind.Query q
     → Asks q e.colons case all → Law e case all
 unfolding reply_of
 query_law e case all q is asks =
-    editor_law e case all (λ s. after_query q e s.kept s.arguments) (λ s steps below. ap (λ k. reply_of k e s) is)
+    editor_law e case all (λ s. after_query q e s.kept s.arguments) (λ s steps origin. ap (λ k. reply_of k e s) is)
     (asks e refl)
 
 pub command_law : (e : Element) (case : Case) (all : Outcomes) (c : Command) → e.kind ≡ kind.Command c
     → Foretells (λ s. after_command c e s.kept s.arguments) case all → Law e case all
 unfolding reply_of
 command_law e case all c is foretells =
-    editor_law e case all (λ s. after_command c e s.kept s.arguments) (λ s steps below. ap (λ k. reply_of k e s) is)
+    editor_law e case all (λ s. after_command c e s.kept s.arguments) (λ s steps origin. ap (λ k. reply_of k e s) is)
     foretells
 
 -- A command that takes what is foretold, and comes to what is foretold with that.
@@ -97,23 +97,23 @@ pub stack_law : (e : Element) (case : Case) (all : Outcomes) (k : Stack) → e.k
     → Foretells (λ s. after_stack k s.kept s.arguments) case all → Law e case all
 unfolding reply_of
 stack_law e case all k is foretells =
-    editor_law e case all (λ s. after_stack k s.kept s.arguments) (λ s steps below. ap (λ k. reply_of k e s) is)
+    editor_law e case all (λ s. after_stack k s.kept s.arguments) (λ s steps origin. ap (λ k. reply_of k e s) is)
     foretells
 
 -- ---- a flow element turns
 pub flow_law : (e : Element) (case : Case) (all : Outcomes) (f : Flow) → e.kind ≡ kind.Flow f
     → Turns f e.colons case all → Law e case all
 unfolding step reply_of
-flow_law e case all f is turns n v s steps below stands begins =
-    subst (StepsTo (Goes n all e steps below s))
+flow_law e case all f is turns n v s steps origin stands begins =
+    subst (StepsTo (Goes n all e steps origin s))
     (sym (ap (outcome_at s) stands.reads ∙ ap (λ k. going.settle e s (reply_of k e s)) is))
     (settled (turn_of f e s.arguments s.frames.running)
-    (turns e s.frames.running (loops_in s.frames.callers) n v (point_of steps below s) is refl stands.matched refl
+    (turns e s.frames.running (loops_in s.frames.callers) n v (point_of steps origin s) is refl stands.matched refl
     begins)) where
       settled : (r : Result Turn Code)
           → Succeeds (IsTurnOf n all.cases.items all.away.items e s.frames.running (loops_in s.frames.callers)
-          (point_of steps below s)) r
-          → StepsTo (Goes n all e steps below s) (going.settle e s (flow_reply s.left s.world r))
+          (point_of steps origin s)) r
+          → StepsTo (Goes n all e steps origin s) (going.settle e s (flow_reply s.left s.world r))
       settled (Ok turn) (inl h) = inl (record {
         described = h.described;
         there = ap (λ (frame : Frame). record s.frames { running = frame }) h.there;

@@ -16,7 +16,7 @@ use Rattle.teco_rows.specs.States.{Point, IsTrueOf, Describes, behind, measures_
 -- Where a row holds from a state to that with this kept and so many pairs pushed, a case describes it.
 pub record IsStacked (case : Case) (step : Step) (pushes : ℕ) (made : Case) : Type 0 where
   pub describes : (n : ℕ) (v : Valuation) (s : Point) (kept : Kept)
-      → IsTrueOf n v case s → s.below + pushes ≡ length kept.registers.stack
+      → IsTrueOf n v case s → s.origin.pushes + pushes ≡ length kept.registers.stack
       → Holds step.clauses.now (read_with step n v (measures_of s) (λ i. pos 0))
       (measures_of (behind s (after kept s.arguments)))
       → Describes n made (behind s (after kept s.arguments))

@@ -140,7 +140,7 @@ fn perform(
             }
             _ => store_text(case, storage, element, taken, alloc),
         },
-        Command::Typing(typing) => type_text(case, typing, taken, alloc),
+        Command::Typing(typing) => type_text(case, typing, element, taken, alloc),
     }
 }
 

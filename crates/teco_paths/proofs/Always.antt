@@ -111,37 +111,37 @@ turns_least i s whole = least_turns (from_end s.loops i)
 
 pub pushed_number_least : (i : ℕ) → IsLeast (Each PushedNumber i) MOST_BELOW
 pushed_number_least i s whole =
-    least_number (from_end s.kept.registers.stack (s.below + i))
-    (λ p e. whole_from_end s.kept.registers.stack (s.below + i) p whole.stack e)
+    least_number (from_end s.kept.registers.stack (s.origin.pushes + i))
+    (λ p e. whole_from_end s.kept.registers.stack (s.origin.pushes + i) p whole.stack e)
 
 pub pushed_number_most : (i : ℕ) → IsMost (Each PushedNumber i) MOST_NUMBER
 pushed_number_most i s whole =
-    most_number (from_end s.kept.registers.stack (s.below + i))
-    (λ p e. whole_from_end s.kept.registers.stack (s.below + i) p whole.stack e)
+    most_number (from_end s.kept.registers.stack (s.origin.pushes + i))
+    (λ p e. whole_from_end s.kept.registers.stack (s.origin.pushes + i) p whole.stack e)
 
 pub pushed_length_least : (i : ℕ) → IsLeast (Each PushedLength i) 0
-pushed_length_least i s whole = least_length (from_end s.kept.registers.stack (s.below + i))
+pushed_length_least i s whole = least_length (from_end s.kept.registers.stack (s.origin.pushes + i))
 
 pub pushed_length_most : (i : ℕ) → IsMost (Each PushedLength i) LIMIT
 pushed_length_most i s whole =
-    most_length (from_end s.kept.registers.stack (s.below + i))
-    (λ p e. whole_from_end s.kept.registers.stack (s.below + i) p whole.stack e)
+    most_length (from_end s.kept.registers.stack (s.origin.pushes + i))
+    (λ p e. whole_from_end s.kept.registers.stack (s.origin.pushes + i) p whole.stack e)
 
 -- ---- by places
-measure_is : (k c : ℕ) → 9 ≤ k → (k - 9) % 7 ≡ c → measure_of k ≡ Each (family_of c) ((k - 9) / 7)
-measure_is k c l e = by (nat_lt k 9) refl
+measure_is : (k c : ℕ) → 10 ≤ k → (k - 10) % 7 ≡ c → measure_of k ≡ Each (family_of c) ((k - 10) / 7)
+measure_is k c l e = by (nat_lt k 10) refl
   where
-    by : (b : Bool) → nat_lt k 9 ≡ b
-        → (if b then One (single_of k) else Each (family_of ((k - 9) % 7)) ((k - 9) / 7)) ≡ Each (family_of c)
-        ((k - 9) / 7)
-    by true h = absurd (omega (arith, l, ltb-true k 9 h))
-    by false h = ap (λ c. Each (family_of c) ((k - 9) / 7)) e
+    by : (b : Bool) → nat_lt k 10 ≡ b
+        → (if b then One (single_of k) else Each (family_of ((k - 10) % 7)) ((k - 10) / 7)) ≡ Each (family_of c)
+        ((k - 10) / 7)
+    by true h = absurd (omega (arith, l, ltb-true k 10 h))
+    by false h = ap (λ c. Each (family_of c) ((k - 10) / 7)) e
 
-pub least_here : (k c least : ℕ) → 9 ≤ k → (k - 9) % 7 ≡ c → IsLeast (Each (family_of c) ((k - 9) / 7)) least
+pub least_here : (k c least : ℕ) → 10 ≤ k → (k - 10) % 7 ≡ c → IsLeast (Each (family_of c) ((k - 10) / 7)) least
     → IsLeast (measure_of k) least
 least_here k c least l e h = subst (λ m. IsLeast m least) (sym (measure_is k c l e)) h
 
-pub most_here : (k c most : ℕ) → 9 ≤ k → (k - 9) % 7 ≡ c → IsMost (Each (family_of c) ((k - 9) / 7)) most
+pub most_here : (k c most : ℕ) → 10 ≤ k → (k - 10) % 7 ≡ c → IsMost (Each (family_of c) ((k - 10) / 7)) most
     → IsMost (measure_of k) most
 most_here k c most l e h = subst (λ m. IsMost m most) (sym (measure_is k c l e)) h
 

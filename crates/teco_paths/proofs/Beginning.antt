@@ -107,14 +107,14 @@ value_of (Some range) (Some n) i asked = value_some n i
 value_of argument given i asked = absurd (grind arith)
 
 -- the argument is the value at the only level
-given_is : (given : ℕ) (s : Point) → s.arguments ≡ arguments_given (Some given) → numbers_of s 15 ≡ pos given
+given_is : (given : ℕ) (s : Point) → s.arguments ≡ arguments_given (Some given) → numbers_of s 16 ≡ pos given
 given_is given s e =
     ap (λ (a : Arguments). unwrap_or (option_and_then (λ (level : Level). level.value) (from_end (levels a) 0)) (pos 0))
     e
 
 -- ---- the texts of registers are held
 pub lengths_more : (used : List Bool) (v : Valuation) (k : ℕ)
-    → used_lengths used v (k + 1) ≡ used_lengths used v k +ℤ length_if (slice_index_or used (10 + 7 * k) false) v k
+    → used_lengths used v (k + 1) ≡ used_lengths used v k +ℤ length_if (slice_index_or used (11 + 7 * k) false) v k
 lengths_more used v k = let z : k + 1 ≡ suc k = omega arith in rw z refl
 
 abbrev texts_in : List Pair → ℕ → ℤ
@@ -122,7 +122,7 @@ texts_in pairs zero = pos 0
 texts_in pairs (suc k) = texts_in pairs k +ℤ unwrap_or (length_of (slice_get pairs k)) (pos 0)
 
 one_length : (s : Point) (k : ℕ)
-    → numbers_of s (10 + 7 * k) ≡ unwrap_or (length_of (slice_get s.kept.registers.pairs k)) (pos 0)
+    → numbers_of s (11 + 7 * k) ≡ unwrap_or (length_of (slice_get s.kept.registers.pairs k)) (pos 0)
 one_length s k =
     ap (λ m. unwrap_or (measures_of s m) (pos 0)) (ap measure_of (omega arith) ∙ measure_again (Each Length k))
 
@@ -138,7 +138,7 @@ one_more_used s k sum false most = omega (arith, ints, no_length_below (slice_ge
 used_most : (used : List Bool) (s : Point) (k : ℕ)
     → used_lengths used (numbers_of s) k ≤ℤ texts_in s.kept.registers.pairs k
 used_most used s zero = omega (arith, ints)
-used_most used s (suc k) = one_more_used s k _ (slice_index_or used (10 + 7 * k) false) (used_most used s k)
+used_most used s (suc k) = one_more_used s k _ (slice_index_or used (11 + 7 * k) false) (used_most used s k)
 
 text_of_pair : (pairs : List Pair) (k : ℕ)
     → unwrap_or (length_of (slice_get pairs k)) (pos 0) ≡ pos (length (slice_index_or pairs k empty_pair).text)
@@ -147,7 +147,7 @@ text_of_pair (p ∷ pairs) zero = refl
 text_of_pair (p ∷ pairs) (suc k) = text_of_pair pairs k
 
 -- the number of a length's place is how long the text of the register is
-long_is : (s : Point) (k : ℕ) → numbers_of s (10 + 7 * k) ≡ pos (length (text_in k s.kept))
+long_is : (s : Point) (k : ℕ) → numbers_of s (11 + 7 * k) ≡ pos (length (text_in k s.kept))
 long_is s k = one_length s k ∙ text_of_pair s.kept.registers.pairs k
 
 texts_of_more : (p : Pair) (pairs : List Pair) (k : ℕ)
@@ -175,9 +175,11 @@ module _ (lengths : List (Option ℕ)) (argument : Option ArgumentRange) (n : �
   there (Each Turns i) = ap (λ loops. is_some (option_and_then (λ loop. option_map pos loop.turns) (from_end loops i)))
       e.loops
   there (Each PushedNumber i) =
-      ap (λ o. is_some (number_of o)) (none_from_end s.kept.registers.stack (s.below + i) (omega (arith, e.below)))
+      ap (λ o. is_some (number_of o))
+      (none_from_end s.kept.registers.stack (s.origin.pushes + i) (omega (arith, e.pushes)))
   there (Each PushedLength i) =
-      ap (λ o. is_some (length_of o)) (none_from_end s.kept.registers.stack (s.below + i) (omega (arith, e.below)))
+      ap (λ o. is_some (length_of o))
+      (none_from_end s.kept.registers.stack (s.origin.pushes + i) (omega (arith, e.pushes)))
   there (Each First i) =
       ap (λ (a : Arguments). is_some (option_and_then (λ (level : Level). level.first) (from_end (levels a) i)))
       e.arguments
@@ -202,6 +204,12 @@ module _ (lengths : List (Option ℕ)) (argument : Option ArgumentRange) (form :
       → IsEntryClaim lengths argument form
   most_steps_claim is n given s e = omega (arith, ints, is n (numbers_of s), e.steps)
 
+  pub least_typed_claim : ((n : ℕ) (v : Valuation) → value form n v ≡ v 9 -ℤ pos 0) → IsEntryClaim lengths argument form
+  least_typed_claim is n given s e = omega (arith, ints, is n (numbers_of s), e.typed)
+
+  pub most_typed_claim : ((n : ℕ) (v : Valuation) → value form n v ≡ pos 0 -ℤ v 9) → IsEntryClaim lengths argument form
+  most_typed_claim is n given s e = omega (arith, ints, is n (numbers_of s), e.typed)
+
   pub most_held_claim : (used : List Bool)
       → ((n : ℕ) (v : Valuation) → value form n v ≡ (pos n -ℤ v 3) -ℤ used_lengths used v REGISTERS)
       → IsEntryClaim lengths argument form
@@ -216,24 +224,24 @@ module _ (lengths : List (Option ℕ)) (argument : Option ArgumentRange) (form :
       )
 
   module _ (register long : ℕ) (known : slice_index_or lengths register None ≡ Some long) where
-    pub least_length_claim : ((n : ℕ) (v : Valuation) → value form n v ≡ v (10 + 7 * register) -ℤ pos long)
+    pub least_length_claim : ((n : ℕ) (v : Valuation) → value form n v ≡ v (11 + 7 * register) -ℤ pos long)
         → IsEntryClaim lengths argument form
     least_length_claim is n given s e =
         omega (arith, ints, is n (numbers_of s), long_is s register, e.loaded register long known)
 
-    pub most_length_claim : ((n : ℕ) (v : Valuation) → value form n v ≡ pos long -ℤ v (10 + 7 * register))
+    pub most_length_claim : ((n : ℕ) (v : Valuation) → value form n v ≡ pos long -ℤ v (11 + 7 * register))
         → IsEntryClaim lengths argument form
     most_length_claim is n given s e =
         omega (arith, ints, is n (numbers_of s), long_is s register, e.loaded register long known)
 
 module _ (lengths : List (Option ℕ)) (range : ArgumentRange) (form : List Term) where
-  pub least_argument_claim : ((n : ℕ) (v : Valuation) → value form n v ≡ v 15 -ℤ pos range.low)
+  pub least_argument_claim : ((n : ℕ) (v : Valuation) → value form n v ≡ v 16 -ℤ pos range.low)
       → IsEntryClaim lengths (Some range) form
   least_argument_claim is n None s e = absurd e.asked
   least_argument_claim is n (Some given) s e =
       omega (arith, ints, is n (numbers_of s), given_is given s e.arguments, e.asked.low)
 
-  pub most_argument_claim : ((n : ℕ) (v : Valuation) → value form n v ≡ pos range.high -ℤ v 15)
+  pub most_argument_claim : ((n : ℕ) (v : Valuation) → value form n v ≡ pos range.high -ℤ v 16)
       → IsEntryClaim lengths (Some range) form
   most_argument_claim is n None s e = absurd e.asked
   most_argument_claim is n (Some given) s e =
@@ -252,7 +260,7 @@ is_entry_cut lengths argument cut operators iterations pushes present claims n g
   shape = record {
     operators = operators ∙ waits_none given s.arguments e.arguments;
     iterations = iterations ∙ sym (ap length e.loops);
-    pushes = omega (arith, pushes, e.below);
+    pushes = omega (arith, pushes, e.pushes);
   };
   present = has_present lengths argument n given s e cut.present.items present;
   claims = λ k d l. claims k d l n given s e;
@@ -286,10 +294,10 @@ not_family has PushedLength i l = refl
 not_family has First i l = refl
 not_family has Value i l = not_first has i l
 
-pub not_there : (has : Bool) (k : ℕ) → 9 + 7 * REGISTERS ≤ k → is_there has (measure_of k) ≡ false
-not_there has k l = by (nat_lt k 9) refl
+pub not_there : (has : Bool) (k : ℕ) → 10 + 7 * REGISTERS ≤ k → is_there has (measure_of k) ≡ false
+not_there has k l = by (nat_lt k 10) refl
   where
-    by : (b : Bool) → nat_lt k 9 ≡ b
-        → is_there has (if b then One (single_of k) else Each (family_of ((k - 9) % 7)) ((k - 9) / 7)) ≡ false
-    by true e = absurd (omega (arith, l, ltb-true k 9 e))
-    by false e = not_family has (family_of ((k - 9) % 7)) ((k - 9) / 7) (omega (arith, l))
+    by : (b : Bool) → nat_lt k 10 ≡ b
+        → is_there has (if b then One (single_of k) else Each (family_of ((k - 10) % 7)) ((k - 10) / 7)) ≡ false
+    by true e = absurd (omega (arith, l, ltb-true k 10 e))
+    by false e = not_family has (family_of ((k - 10) % 7)) ((k - 10) / 7) (omega (arith, l))

@@ -34,6 +34,7 @@ use Rattle.teco_paths.proofs.Ending.{run_ends}
 use Rattle.teco_paths.proofs.Walking.{none_more, none_on, none_yet, one_step, reached_none, reaches_here, reaches_on}
 use Rattle.teco_paths.proofs.Walking.{reads_none, run_on}
 use Rattle.teco_poly.specs.Polynomial.{Polynomial, value}
+use Rattle.teco_promise.specs.Promise.{most_typed}
 use Rattle.teco_verifier.specs.expansion.Node.{Node, beginning}
 use Rattle.teco_verifier.specs.facts.Argument.{arguments_given}
 use Rattle.teco_verifier.specs.table.Printed.{steps_before}
@@ -75,7 +76,7 @@ module _ (course : Course) (argument : Option ArgumentRange) (cut : Cut) (case :
     library = library;
     entry = entry;
     n = n_of world;
-    below = length world.kept.registers.stack;
+    origin = record { pushes = length world.kept.registers.stack; typed = length world.kept.typed };
     needs = course.needs;
   }
 
@@ -95,7 +96,7 @@ module _ (course : Course) (argument : Option ArgumentRange) (cut : Cut) (case :
     files = opened;
   }
 
-  entered : IsEntered course.lengths argument (n_of world) given (point_of (steps_before argument) ground.below first)
+  entered : IsEntered course.lengths argument (n_of world) given (point_of (steps_before argument) ground.origin first)
   entered = record {
     whole = ready.whole.kept;
     loaded = have_lengths library course.lengths world.kept long ready.loaded;
@@ -104,14 +105,15 @@ module _ (course : Course) (argument : Option ArgumentRange) (cut : Cut) (case :
     asked = asked;
     arguments = refl;
     loops = refl;
-    below = refl;
+    pushes = refl;
+    typed = refl;
   }
 
   pub pending_ends : paths.Ends course ground (steps_before argument) first
   pending_ends =
       run_ends course ground (record { linked = linked; needs = refl; room = ready.small }) followed 1
       (steps_before argument) case first leads at (
-        numbers_of (point_of (steps_before argument) ground.below first),
+        numbers_of (point_of (steps_before argument) ground.origin first),
         is_case (n_of world) _ ready.whole.kept ready.small (is_entry (n_of world) given _ entered),
       )
 
@@ -181,9 +183,9 @@ module _ (laws : CallLaws) (s t : State) (alike : AreAlike s t) where
       subst (λ (w : World). length w.kept.text + unread_in w.files.input ≤ held) (sym there.alike.world)
       (small there.state there.is)
 
-module _ (laws : CallLaws) (entry n : ℕ) (world : World) (most held : ℕ) (named : entry < REGISTERS)
-    (small : n < 2 ^ 31)
-    (ends : EndsBy most held 1 (start_pending entry n world)) where
+module _ (laws : CallLaws) (entry n : ℕ) (world : World) (most held : ℕ) (typed : Option ℕ)
+    (named : entry < REGISTERS) (small : n < 2 ^ 31)
+    (ends : EndsBy most held typed 1 (start_pending entry n world)) where
   abbrev called : State
   called = start (call_given entry (Some n)) world
 
@@ -206,7 +208,7 @@ module _ (laws : CallLaws) (entry n : ℕ) (world : World) (most held : ℕ) (na
       (sym (run_on 1 called digits.behind (one_step called digits.behind digits.goes) k)
       ∙ subst (λ k. Reaches k called u) e r)
 
-  pub digits_end : EndsBy most held 0 called
+  pub digits_end : EndsBy most held typed 0 called
   digits_end =
       let first = one_step called digits.behind digits.goes in
       let later = ends_alike laws digits.behind (start_pending entry n world) digits.alike ends.more ends.new ends.ends
@@ -219,6 +221,7 @@ module _ (laws : CallLaws) (entry n : ℕ) (world : World) (most held : ℕ) (na
             none_on 1 ends.more called digits.behind none_first first
             (none_alike laws digits.behind (start_pending entry n world) digits.alike ends.more ends.none);
         small = held_on;
+        types = ends.types;
         ends = record {
           last = later.last;
           steps = reaches_on 1 ends.more called digits.behind later.last first later.steps;
@@ -227,43 +230,49 @@ module _ (laws : CallLaws) (entry n : ℕ) (world : World) (most held : ℕ) (na
       }
 
 in_all : (laws : CallLaws) (entry : ℕ) (argument : Option ArgumentRange) (given : Option ℕ) (world : World)
-    (most held : ℕ)
+    (most held : ℕ) (typed : Option ℕ)
     → entry < REGISTERS → IsAsked argument given
-    → EndsBy most held (steps_before argument) (start_given entry given world)
-    → EndsBy most held 0 (start (call_given entry given) world)
-in_all laws entry None None world most held named asked ends = ends
-in_all laws entry (Some range) (Some n) world most held named asked ends =
-    digits_end laws entry n world most held named asked.small ends
-in_all laws entry argument given world most held named asked ends = absurd (grind arith)
+    → EndsBy most held typed (steps_before argument) (start_given entry given world)
+    → EndsBy most held typed 0 (start (call_given entry given) world)
+in_all laws entry None None world most held typed named asked ends = ends
+in_all laws entry (Some range) (Some n) world most held typed named asked ends =
+    digits_end laws entry n world most held typed named asked.small ends
+in_all laws entry argument given world most held typed named asked ends = absurd (grind arith)
 
 pub certain : CallLaws → (course : Course) (argument : Option ArgumentRange) (cut : Cut) (case : Case)
     → IsCaseOf course.size cut case → IsEntryCut course.lengths argument cut → Leads course 1 1 case
     → All (IsFollowed course) course.cuts
-    → IsCertain course.nodes course.lengths argument course.needs course.commands course.size
+    → IsCertain course.nodes course.lengths argument course.needs course.commands course.size course.types
 certain laws course argument cut case is_case is_entry leads followed library entry given world long linked asked ready
     opened =
-    in_all laws entry argument given world _ _ ready.named asked
+    in_all laws entry argument given world _ _ _ ready.named asked
     (pending_ends course argument cut case is_case is_entry leads followed library entry given world long linked asked
     ready opened)
 
 pub certain_end : CertainEnd
-certain_end nodes lengths argument needs commands size is library entry given world long linked asked ready opened =
+certain_end nodes lengths argument needs commands size types is library entry given world long linked asked ready
+    opened =
     let ends = is library entry given world long linked asked ready opened in
     record {
-      steps = ends.more;
-      new = ends.new;
-      few = omega (arith, ends.within);
-      none = ends.none;
-      ends = ends.ends;
+      ends = record {
+        steps = ends.more;
+        new = ends.new;
+        few = omega (arith, ends.within);
+        none = ends.none;
+        ends = ends.ends;
+      };
+      types = ends.types;
     }
 
 -- by polynomials that have the same values
 pub certain_as : (nodes : List Node) (lengths : List (Option ℕ)) (argument : Option ArgumentRange) (needs : Needs)
-    (commands size printed most : Polynomial) → ((n : ℕ) → value commands n ≡ value printed n)
-    → ((n : ℕ) → value size n ≡ value most n) → IsCertain nodes lengths argument needs commands size
-    → IsCertain nodes lengths argument needs printed most
-certain_as nodes lengths argument needs commands size printed most same held is library entry given world long linked
-    asked ready opened =
+    (commands size printed most : Polynomial) (types claimed : Option Polynomial)
+    → ((n : ℕ) → value commands n ≡ value printed n) → ((n : ℕ) → value size n ≡ value most n)
+    → ((n before : ℕ) → most_typed types n before ≡ most_typed claimed n before)
+    → IsCertain nodes lengths argument needs commands size types
+    → IsCertain nodes lengths argument needs printed most claimed
+certain_as nodes lengths argument needs commands size printed most types claimed same held typed is library entry given
+    world long linked asked ready opened =
     let ends = is library entry given world long linked asked (record {
       named = ready.named;
       loaded = ready.loaded;
@@ -272,6 +281,9 @@ certain_as nodes lengths argument needs commands size printed most same held is 
       begins = ready.begins;
       small = omega (arith, held (n_of world), ready.small);
     }) opened in
-    subst (λ m. EndsBy m (value most (n_of world)) 0 (start (call_given entry given) world)) (same (n_of world))
-    (subst (λ m. EndsBy (value commands (n_of world)) m 0 (start (call_given entry given) world))
-    (held (n_of world)) ends)
+    let n = n_of world in
+    let before = length world.kept.typed in
+    let first = start (call_given entry given) world in
+    subst (λ m. EndsBy m (value most n) (most_typed claimed n before) 0 first) (same n)
+    (subst (λ m. EndsBy (value commands n) m (most_typed claimed n before) 0 first) (held n)
+    (subst (λ m. EndsBy (value commands n) (value size n) m 0 first) (typed n before) ends))

@@ -10,14 +10,19 @@ use Rattle.teco_rows.specs.declared.case.Case.{Case}
 use Rattle.teco_rows.specs.declared.case.Shape.{Shape}
 use Rattle.teco_rows.specs.Cases.{value_if}
 use Rattle.teco_rows.specs.Measures.{place}
-use Rattle.teco_rows.specs.States.{Point, IsShape, IsTrueOf, Describes}
+use Rattle.teco_rows.specs.States.{Point, IsShape, IsTrueOf, Describes, single}
+use Rattle.teco_rows.specs.declared.measure.Single.TheVariants.{Typed}
 use Rattle.teco_paths.specs.declared.cut.Cut.{Cut}
 use Rattle.teco_paths.specs.Claims.{AreClaimed, AreFilled, AreKnown, ArePresent, AreSymbols, ClaimHolds, ComesTo}
 use Rattle.teco_paths.specs.Claims.{HasPresent, filled_by}
 use Rattle.teco_paths.specs.Facts.{IsFact}
+use Rattle.teco_paths.specs.Paths.{Course}
+use Rattle.teco_promise.specs.Promise.{IsTypedWithin, most_typed}
+use Rattle.teco_paths.specs.Steps.{TypesNoMore}
 use Rattle.teco_paths.specs.Symbols.{measure_of, numbers_of}
 use Rattle.teco_paths.proofs.Lists.{all_joined}
 use Rattle.teco_paths.proofs.Symbols.{marked, place_again, value_same}
+use Rattle.teco_poly.specs.Polynomial as poly
 use Rattle.teco_poly.specs.Polynomial.{Polynomial}
 
 -- a case of symbols is true of a state that is as a cut point says
@@ -74,7 +79,7 @@ comes case cut filled operators iterations pushes present are claims n v s true_
   shape = record {
     operators = sym operators ∙ true_of.shape.operators;
     iterations = sym iterations ∙ true_of.shape.iterations;
-    pushes = ap (λ k. s.below + k) (sym pushes) ∙ true_of.shape.pushes;
+    pushes = ap (λ k. s.origin.pushes + k) (sym pushes) ∙ true_of.shape.pushes;
   };
   present = has_present case n v s true_of cut.present.items present;
   claims = claims_hold case n v s true_of filled cut.claims.items are (claims n v true_of.fits.constraints);
@@ -90,13 +95,24 @@ bounded case most number bound measured difference bound_is measured_is differen
     let holds : pos 0 ≤ℤ value difference n d.0 = implied n d.0 d.1.fits.constraints in
     omega (arith, ints, holds, bound_is n d.0, measured_is n d.0 s d.1, difference_is n d.0)
 
+-- how many bytes are typed, where that is bounded
+pub types_within : (course : Course) (case : Case) (most : Polynomial) (bound measured difference : List Term)
+    → course.types ≡ Some most → ((n : ℕ) (v : Valuation) → value bound n v ≡ pos (poly.value most n))
+    → ((n : ℕ) (v : Valuation) (s : Point) → IsTrueOf n v case s → value measured n v ≡ single s Typed)
+    → ((n : ℕ) (v : Valuation) → value difference n v ≡ value bound n v -ℤ value measured n v)
+    → Implies case.constraints.items difference → TypesNoMore course case
+types_within course case most bound measured difference some bound_is measured_is difference_is implied n s d =
+    subst (λ types. IsTypedWithin (most_typed types n s.origin.typed) s.kept) (sym some)
+    (let holds : pos 0 ≤ℤ value difference n d.0 = implied n d.0 d.1.fits.constraints in
+    omega (arith, ints, holds, bound_is n d.0, measured_is n d.0 s d.1, difference_is n d.0))
+
 -- a copy of a shape
 pub shaped : (shape copy : Shape) (s : Point) → copy.operators.items ≡ shape.operators.items
     → copy.iterations ≡ shape.iterations → copy.pushes ≡ shape.pushes → IsShape shape s → IsShape copy s
 shaped shape copy s operators iterations pushes h = record {
   operators = operators ∙ h.operators;
   iterations = iterations ∙ h.iterations;
-  pushes = ap (λ k. s.below + k) pushes ∙ h.pushes;
+  pushes = ap (λ k. s.origin.pushes + k) pushes ∙ h.pushes;
 }
 
 -- what is claimed, and facts behind it

@@ -1,5 +1,5 @@
 -- Runs end from cut points.
-use Rattle.std.proofs.Common.{◌≡◌, ◌⊎◌, inl, inr, ℕ, zero, suc, ◌+◌, ◌-◌, ◌<◌, ◌≤◌, sym, ◌∙◌, subst, arith}
+use Rattle.std.proofs.Common.{◌≡◌, ◌⊎◌, inl, inr, ℕ, zero, suc, ◌+◌, ◌-◌, ◌<◌, ◌≤◌, Option, sym, ◌∙◌, subst, arith}
 use Rattle.std.proofs.lemmas.Bool.{cases_order}
 use Rattle.std.specs.List.{All, Any}
 use Rattle.teco_law_tables.specs.Staying.{NoFileCommands}
@@ -11,6 +11,7 @@ use Rattle.teco_flow_outcomes.specs.Law.{point_of}
 use Rattle.teco_rows.specs.States.{Describes}
 use Rattle.teco_paths.specs.Paths.{Course, Ends, IsAtCut, IsOf, CutsEnd, IsFollowed, Leads}
 use Rattle.teco_paths.specs.Runs.{Ground, IsAt, EndsBy, held_in}
+use Rattle.teco_promise.specs.Promise.{IsTypedWithin}
 use Rattle.teco_paths.proofs.Walking.{none_on, none_yet, reached_none, reaches_here, reaches_on, run_on}
 use Rattle.teco_poly.specs.Polynomial.{value}
 
@@ -19,20 +20,22 @@ small_at : (held : ℕ) (s t : State) (k : ℕ) → k ≤ 0 → Reaches k s t �
 small_at held s t zero least r small = subst (λ u. held_in u ≤ held) (reached_none s t r) small
 small_at held s t (suc k) least r small = absurd (omega (arith, least))
 
-pub ends_here : (most held steps : ℕ) (s : State) → step s ≡ End s.world → steps ≤ most → held_in s ≤ held
-    → EndsBy most held steps s
-ends_here most held steps s over within small = record {
+pub ends_here : (most held : ℕ) (typed : Option ℕ) (steps : ℕ) (s : State) → step s ≡ End s.world → steps ≤ most
+    → held_in s ≤ held → IsTypedWithin typed s.world.kept → EndsBy most held typed steps s
+ends_here most held typed steps s over within small types = record {
   more = 0;
   new = s.world;
   within = omega (arith, within);
   none = none_yet s;
   small = λ k t least r. small_at held s t k least r small;
+  types = types;
   ends = record { last = s; steps = reaches_here s; end = over };
 }
 
 -- some steps before it
-module _ (most held steps j : ℕ) (s t : State) (came : Reaches j s t)
-    (small : (k : ℕ) (u : State) → k < j → Reaches k s u → held_in u ≤ held) (later : EndsBy most held (steps + j) t)
+module _ (most held : ℕ) (typed : Option ℕ) (steps j : ℕ) (s t : State) (came : Reaches j s t)
+    (small : (k : ℕ) (u : State) → k < j → Reaches k s u → held_in u ≤ held)
+    (later : EndsBy most held typed (steps + j) t)
   where
     small_on : (k : ℕ) (u : State) → k ≤ j + later.more → Reaches k s u → held_in u ≤ held
     small_on k u least r = by (cases_order k j)
@@ -46,13 +49,14 @@ module _ (most held steps j : ℕ) (s t : State) (came : Reaches j s t)
         by (inr (inl less)) = small k u less r
         by (inr (inr more)) = behind (k - j) (omega (arith, more))
 
-    pub ends_on : NoFileCommands s j → EndsBy most held steps s
+    pub ends_on : NoFileCommands s j → EndsBy most held typed steps s
     ends_on none = record {
       more = j + later.more;
       new = later.new;
       within = omega (arith, later.within);
       none = none_on j later.more s t none came later.none;
       small = small_on;
+      types = later.types;
       ends = record {
         last = later.ends.last;
         steps = reaches_on j later.more s t later.ends.last came later.ends.steps;
@@ -97,7 +101,7 @@ module _ (course : Course) (ground : Ground) (of : IsOf course ground)
       from_cut steps s any (λ k t least r other. cuts_end left (steps + k) t (omega (arith, few, least)) other)
 
   pub run_ends : (number steps : ℕ) (case : Case) (s : State) → Leads course 1 number case
-      → IsAt course.nodes ground number s → Describes ground.n case (point_of steps ground.below s)
+      → IsAt course.nodes ground number s → Describes ground.n case (point_of steps ground.origin s)
       → Ends course ground steps s
   run_ends number steps case s leads at described =
       leads ground steps s of at described

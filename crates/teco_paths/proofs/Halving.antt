@@ -1,5 +1,5 @@
 -- A path goes on where it does so with either of two constraints of which one holds.
-use Rattle.std.proofs.Common.{◌≡◌, ℕ, zero, suc, ◌<◌, List, [], ◌∷◌, length, subst, sym, refl, arith}
+use Rattle.std.proofs.Common.{◌≡◌, List, [], ◌∷◌, subst, sym, refl, arith}
 use Rattle.std.specs.List.{All}
 use Rattle.std.specs.Prelude.{ℤ, pos, negsuc}
 use Rattle.std.proofs.lemmas.Int.{ints}
@@ -22,10 +22,10 @@ halves_lead spot one other ahead end are one_there one_with other_there other_wi
     by : (k : ℤ) → value end ground.n d.0 ≡ k → Ends course ground steps s
     by (pos k) is =
         otherwise ground steps s of (subst (λ number. IsAt course.nodes ground number s) (sym other_there) at)
-        (d.0, other_with ground.n d.0 (point_of steps ground.below s) d.1 (omega (arith, ints, is))) cuts
+        (d.0, other_with ground.n d.0 (point_of steps ground.origin s) d.1 (omega (arith, ints, is))) cuts
     by (negsuc k) is =
         leads ground steps s of (subst (λ number. IsAt course.nodes ground number s) (sym one_there) at)
-        (d.0, one_with ground.n d.0 (point_of steps ground.below s) d.1 (omega (arith, ints, is, are ground.n d.0)))
+        (d.0, one_with ground.n d.0 (point_of steps ground.origin s) d.1 (omega (arith, ints, is, are ground.n d.0)))
         cuts
 
 pub both_lead : (course : Course) (one other : Spot) (spots : List Spot) → spots ≡ one ∷ other ∷ []

@@ -33,7 +33,8 @@ pub left_none : (nodes : List Node) (number : ℕ) (away : Bool) (cases rest : L
     → length rest ≡ 0 → AreLeft nodes number away cases rest spots → AreKept nodes number away cases spots
 left_none nodes number away cases rest spots none left ground steps s t st any = by (left ground steps s t st any)
   where
-    by : Any (λ c. Describes ground.n c (point_of steps ground.below t)) rest ⊎ Any (IsThere nodes ground steps t) spots
+    by : Any (λ c. Describes ground.n c (point_of steps ground.origin t)) rest
+        ⊎ Any (IsThere nodes ground steps t) spots
         → Any (IsThere nodes ground steps t) spots
     by (inl a) = absurd (omega (arith, a.2, none))
     by (inr a) = a
@@ -48,7 +49,7 @@ module _ (nodes : List Node) (number : ℕ) (away : Bool) (cases rest : List Cas
   one_kept ground steps s t st any = by (left ground steps s t st any)
     where
       Is : Case → Type 0
-      Is c = Describes ground.n c (point_of steps ground.below t)
+      Is c = Describes ground.n c (point_of steps ground.origin t)
 
       There : Spot → Type 0
       There = IsThere nodes ground steps t
@@ -72,13 +73,13 @@ pub spots_both : (nodes : List Node) (number : ℕ) (outcomes : Outcomes) (here 
 spots_both nodes number outcomes here there behind elsewhere all e one_may other_may one other ground steps s t = by
   where
     by : (away : Bool) → Steps nodes ground number away s t
-        → Any (λ case. Describes ground.n case (point_of steps ground.below t)) (cases_by away outcomes)
+        → Any (λ case. Describes ground.n case (point_of steps ground.origin t)) (cases_by away outcomes)
         → Any (IsThere nodes ground steps t) all
     by false st any =
         subst (Any (IsThere nodes ground steps t)) (sym e)
         (any_front (IsThere nodes ground steps t) behind elsewhere
-        (one ground steps s t st (one_may ground.n (point_of steps ground.below t) any)))
+        (one ground steps s t st (one_may ground.n (point_of steps ground.origin t) any)))
     by true st any =
         subst (Any (IsThere nodes ground steps t)) (sym e)
         (any_back (IsThere nodes ground steps t) behind elsewhere
-        (other ground steps s t st (other_may ground.n (point_of steps ground.below t) any)))
+        (other ground steps s t st (other_may ground.n (point_of steps ground.origin t) any)))

@@ -25,6 +25,7 @@ use Rattle.teco_model.specs.Step.{step}
 use Rattle.teco_model.proofs.Chains.{bound, some_of}
 use Rattle.teco_rows.specs.declared.case.Case.{Case}
 use Rattle.teco_rows.specs.declared.outcomes.Outcomes.{Outcomes}
+use Rattle.teco_rows.specs.States.{Origin}
 use Rattle.teco_flow_outcomes.specs.Law.{Goes, IsOfIteration, Law, LeadsOn, StandsAt, StepsTo}
 use Rattle.teco_search_outcomes.specs.PageSearches.{Comes, LongLaw}
 use Rattle.teco_search_outcomes.specs.Pages.{IsOpenFor, PageLaw}
@@ -185,11 +186,11 @@ open_for page.Yank needs files met opened = ap is_some (opened.input met).1
 open_for page.Append needs files met opened = ap is_some (opened.input met).1
 
 -- an element of one step
-at_once : (n : ℕ) (all : Outcomes) (e : Element) (steps below : ℕ) (s : State)
-    → StepsTo (Goes n all e steps below s) (step s)
-    → (more : ℕ) × Comes more (Goes n all e (steps + more) below s) s (step s)
-at_once n all e steps below s h =
-    let same : steps ≡ steps + 0 = omega arith in (0, subst (λ k. StepsTo (Goes n all e k below s) (step s)) same h)
+at_once : (n : ℕ) (all : Outcomes) (e : Element) (steps : ℕ) (origin : Origin) (s : State)
+    → StepsTo (Goes n all e steps origin s) (step s)
+    → (more : ℕ) × Comes more (Goes n all e (steps + more) origin s) s (step s)
+at_once n all e steps origin s h =
+    let same : steps ≡ steps + 0 = omega arith in (0, subst (λ k. StepsTo (Goes n all e k origin s) (step s)) same h)
 
 module _ (sound : NodesAreSound) (nodes : List Node) (needs : Needs) (number : ℕ) (e : Element) (case : Case)
     (all : Outcomes)
@@ -197,8 +198,9 @@ module _ (sound : NodesAreSound) (nodes : List Node) (needs : Needs) (number : �
   pub law_at_element : HasPair e.kind → Law e case all → LawAt nodes needs number e case all
   law_at_element pair law ground v s steps same linked at begins =
       let n = node_of nodes number one last in
-      at_once ground.n all e steps ground.below s
-      (law ground.n v s steps ground.below (stands_at sound nodes number e read ground s linked at n.0 n.1 pair) begins)
+      at_once ground.n all e steps ground.origin s
+      (law ground.n v s steps ground.origin
+      (stands_at sound nodes number e read ground s linked at n.0 n.1 pair) begins)
 
   pub law_at_search : (x : Search) (answers : Bool) → e.kind ≡ kind.Search x
       → ((node : Node) (f : Element) → numbered nodes number ≡ Some node → node.element ≡ Some f
@@ -208,8 +210,8 @@ module _ (sound : NodesAreSound) (nodes : List Node) (needs : Needs) (number : �
       → SearchLaw answers e case all → LawAt nodes needs number e case all
   law_at_search x answers kind_is colon inside law ground v s steps same linked at begins =
       let n = node_of nodes number one last in
-      at_once ground.n all e steps ground.below s
-      (law ground.n v s steps ground.below (reads sound nodes number e read ground s linked at n.0 n.1)
+      at_once ground.n all e steps ground.origin s
+      (law ground.n v s steps ground.origin (reads sound nodes number e read ground s linked at n.0 n.1)
       (is_asked sound nodes number e read ground s linked at n.0 n.1 x kind_is answers
       (colon n.0 e n.1 (read n.0 n.1))
       (λ none. ltb-true 0 (length n.0.stand.position.running.starts) (sym (inside none n.0 n.1))) answers refl)
@@ -224,7 +226,7 @@ module _ (sound : NodesAreSound) (nodes : List Node) (needs : Needs) (number : �
       → needs.output ≡ true → LongLaw answers e case all → LawAt nodes needs number e case all
   law_at_long_search x answers kind_is colon inside met law ground v s steps same linked at begins =
       let n = node_of nodes number one last in
-      law ground.n v s steps ground.below (reads sound nodes number e read ground s linked at n.0 n.1)
+      law ground.n v s steps ground.origin (reads sound nodes number e read ground s linked at n.0 n.1)
       (is_asked sound nodes number e read ground s linked at n.0 n.1 x kind_is answers
       (colon n.0 e n.1 (read n.0 n.1))
       (λ none. ltb-true 0 (length n.0.stand.position.running.starts) (sym (inside none n.0 n.1))) answers refl)
@@ -235,8 +237,8 @@ module _ (sound : NodesAreSound) (nodes : List Node) (needs : Needs) (number : �
       → LawAt nodes needs number e case all
   law_at_page p kind_is met law ground v s steps same linked at begins =
       let n = node_of nodes number one last in
-      at_once ground.n all e steps ground.below s
-      (law ground.n v s steps ground.below (record {
+      at_once ground.n all e steps ground.origin s
+      (law ground.n v s steps ground.origin (record {
         stands = stands_at sound nodes number e read ground s linked at n.0 n.1 (subst HasPair (sym kind_is) tt);
         begins = at.begins;
         file = open_for p needs s.world.files met (subst (λ (x : Needs). AreOpen x s.world.files) same at.files);

@@ -162,7 +162,7 @@ module _ (along : StepsGoAlongNodes) (nodes : List Node) (number : ℕ) (away : 
     module _ (iterations : IterationsAreOpen) (few : (node : Node) → numbered nodes number ≡ Some node
         → length node.ways ≤ 2)
         (ground : Ground) (k : ℕ) (s t : State) (st : Steps nodes ground number away s t)
-        (shape : IsShape case.shape (point_of k ground.below t)) where
+        (shape : IsShape case.shape (point_of k ground.origin t)) where
       by_open : (this that this_way that_way : ℕ) → AreApart nodes case.shape.iterations this that
           → ((way : ℕ) → (way ≡ 0) ⊎ (way ≡ 1) → (way ≡ this_way) ⊎ (way ≡ that_way))
           → slice_get st.node.ways this_way ≡ Some this → slice_get st.node.ways that_way ≡ Some that

@@ -12,7 +12,8 @@ use Rattle.teco_paths.specs.declared.spot.Spot.{Spot}
 use Rattle.teco_paths.specs.Claims.{ComesTo, IsCaseOf}
 use Rattle.teco_paths.specs.Paths.{Arrives, Course, IsFollowed, Leads, LeadsOn}
 use Rattle.teco_paths.specs.Runs.{IsAt, held_in}
-use Rattle.teco_paths.specs.Steps.{GoOn, IsInTime, IsSharper, IsSmall, IsThere}
+use Rattle.teco_promise.specs.Promise.{most_typed}
+use Rattle.teco_paths.specs.Steps.{GoOn, IsInTime, IsSharper, IsSmall, IsThere, TypesNoMore}
 use Rattle.teco_paths.proofs.Ending.{cut_here, cuts_later, cuts_on, ends_here, ends_on}
 use Rattle.teco_paths.proofs.Lists.{all_both, over_behind}
 use Rattle.teco_paths.specs.Symbols.{numbers_of}
@@ -29,7 +30,8 @@ leads_by course number case spots small go all ground steps s of at d cuts =
     let there : IsThere course.nodes ground (steps + j) g.next any.1 = any.4 in
     let leads : LeadsOn course any.1 = subst (LeadsOn course) any.3 (all any.0 any.1 any.2) in
     let held : held_in s ≤ value course.size ground.n = small ground.n _ d in
-    ends_on (value course.commands ground.n) (value course.size ground.n) steps j s g.next g.goes
+    ends_on (value course.commands ground.n) (value course.size ground.n)
+    (most_typed course.types ground.n ground.origin.typed) steps j s g.next g.goes
     (λ k u less r. omega (arith, held, g.small k u (omega (arith, less)) r))
     (leads ground (steps + j) g.next of
     (record { stands = there.stands; begins = g.begins; loaded = g.loaded; whole = g.whole; files = g.files })
@@ -46,27 +48,28 @@ pub sharper_leads : (course : Course) (number : ℕ) (case sharp : Case) → IsS
     → LeadsOn course (record { number = number; case = sharp })
     → LeadsOn course (record { number = number; case = case })
 sharper_leads course number case sharp is leads ground steps s of at d cuts =
-    leads ground steps s of at (is ground.n (point_of steps ground.below s) at.whole.world.kept d) cuts
+    leads ground steps s of at (is ground.n (point_of steps ground.origin s) at.whole.world.kept d) cuts
 
 -- at the end
 pub over_leads : RunsEnd → (course : Course) (spot : Spot) → 0 < spot.number → spot.number - 1 ≡ length course.nodes
-    → IsInTime course spot.case → IsSmall course spot.case → LeadsOn course spot
-over_leads ends course spot some number_is in_time small ground steps s linked at d cuts =
+    → IsInTime course spot.case → IsSmall course spot.case → TypesNoMore course spot.case → LeadsOn course spot
+over_leads ends course spot some number_is in_time small types ground steps s linked at d cuts =
     let k : spot.number ≡ length course.nodes + 1 = omega (arith, some, number_is) in
     let there : numbered (stands course.nodes ground.entry) (length course.nodes + 1) ≡ _ =
     ap (numbered (stands course.nodes ground.entry)) (sym k) ∙ at.stands.at in
     let over_is = over_behind course.nodes ground.entry at.stands.stand there in
-    ends_here (value course.commands ground.n) (value course.size ground.n) steps s
+    ends_here (value course.commands ground.n) (value course.size ground.n)
+    (most_typed course.types ground.n ground.origin.typed) steps s
     (ends ground.entry s (ap (λ (x : Stand). x.position) (sym over_is) ∙ at.stands.position))
-    (in_time ground.n _ d) (small ground.n _ d)
+    (in_time ground.n _ d) (small ground.n _ d) (types ground.n (point_of steps ground.origin s) d)
 
 -- at a cut point
 pub arrives : (course : Course) (spot : Spot) (cut : Cut) → spot.number ≡ cut.number → ComesTo spot.case cut
     → IsInTime course spot.case → Arrives course spot cut
 arrives course spot cut e comes in_time ground steps s at d = record {
   at = subst (λ k. IsAt course.nodes ground k s) e at;
-  claimed = comes ground.n d.0 (point_of steps ground.below s) d.1;
-  within = in_time ground.n (point_of steps ground.below s) d;
+  claimed = comes ground.n d.0 (point_of steps ground.origin s) d.1;
+  within = in_time ground.n (point_of steps ground.origin s) d;
 }
 
 pub cut_leads : (course : Course) (spot : Spot) (k : ℕ) (cut : Cut) → k < length course.cuts
@@ -79,8 +82,8 @@ pub cut_followed : (course : Course) (cut : Cut) (case : Case) → IsCaseOf cour
     → Leads course 1 cut.number case → IsFollowed course cut
 cut_followed course cut case is leads ground steps s of at cuts =
     leads ground steps s of at.at (
-      numbers_of (point_of steps ground.below s),
-      is ground.n (point_of steps ground.below s) at.at.whole.world.kept of.room at.claimed,
+      numbers_of (point_of steps ground.origin s),
+      is ground.n (point_of steps ground.origin s) at.at.whole.world.kept of.room at.claimed,
     )
     cuts
 

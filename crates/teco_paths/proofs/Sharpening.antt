@@ -1,14 +1,12 @@
 -- What is known of a case besides.
-use Rattle.std.proofs.Common.{◌≡◌, ◌⊎◌, inl, inr, ℕ, ◌+◌, ◌<◌, ◌≤◌, subst, sym, arith, List, [], ◌∷◌, ◌++◌, length}
+use Rattle.std.proofs.Common.{◌≡◌, ◌⊎◌, inl, inr, ℕ, ◌+◌, ◌<◌, ◌≤◌, arith, List, length}
 use Rattle.std.specs.Prelude.{ℤ, pos, ◌+ℤ◌, ◌-ℤ◌, ◌≤ℤ◌}
 use Rattle.std.proofs.lemmas.Bool.{cases_order}
 use Rattle.std.proofs.lemmas.Int.{ints}
-use Rattle.std.specs.List.{All}
 use Rattle.teco_base.specs.Lines.{line_place}
 use Rattle.teco_linear.specs.declared.term.Term.{Term}
 use Rattle.teco_linear.specs.Form.{Valuation, value}
-use Rattle.teco_linear.specs.Implied.{Holds, Implies}
-use Rattle.teco_model.specs.laws.Whole.{IsWhole}
+use Rattle.teco_linear.specs.Implied.{Implies}
 use Rattle.teco_rows.specs.declared.case.Case.{Case}
 use Rattle.teco_rows.specs.declared.measure.Single.{Single}
 use Rattle.teco_rows.specs.declared.measure.Single.TheVariants.{Pointer, Size, LineEnd}
@@ -19,7 +17,7 @@ use Rattle.teco_paths.specs.Steps.{IsSharper, IsWith}
 -- a form is the measure that a state has once
 abbrev Measures : Case → Single → List Term → Type 0
 Measures case which form =
-    (n : ℕ) (v : Valuation) (s : Point) → IsTrueOf n v case s → value form n v ≡ pos (single s which)
+    (n : ℕ) (v : Valuation) (s : Point) → IsTrueOf n v case s → value form n v ≡ single s which
 
 -- in front of the end of the buffer a line goes on
 ends_behind : (text : List ℕ) (p e : ℕ) → IsEnd text p e → p + 1 ≤ length text → p + 1 ≤ e

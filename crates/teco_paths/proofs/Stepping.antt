@@ -130,9 +130,9 @@ module _ (laws : Laws) (nodes : List Node) (number : ℕ) (case : Case) (all : O
     (asked : AreMet case all) (are : AreSpots nodes number all spots)
     (ground : Ground) (steps : ℕ) (s : State) (linked : AreLinked ground.library ground.entry nodes)
     (at : IsAt nodes ground number s) (v : Valuation)
-    (true_of : IsTrueOf ground.n v case (point_of steps ground.below s))
+    (true_of : IsTrueOf ground.n v case (point_of steps ground.origin s))
     (node : Node) (is : numbered nodes number ≡ Some node) where
-  begins : Begins ground.n v case all (point_of steps ground.below s)
+  begins : Begins ground.n v case all (point_of steps ground.origin s)
   begins = record {
     whole = at.whole.world.kept;
     true_of = true_of;
@@ -226,7 +226,7 @@ module _ (laws : Laws) (nodes : List Node) (number : ℕ) (case : Case) (all : O
       -- a step whose state is known
       going : (away : Bool) → t.left ≡ None
           → ((e : Element) → node.element ≡ Some e → IsTold e.kind → GoesBy away e u t)
-          → Any (λ made. Describes ground.n made (point_of (steps + (k + 1)) ground.below t)) (cases_by away all)
+          → Any (λ made. Describes ground.n made (point_of (steps + (k + 1)) ground.origin t)) (cases_by away all)
           → GoesOn nodes ground steps s spots
       going away done along described = record {
         more = k;
@@ -281,13 +281,13 @@ module _ (laws : Laws) (nodes : List Node) (number : ℕ) (case : Case) (all : O
           (from_frames away e t s.frames u.frames (sym mid.frames) h)
 
       described_there : (t : State) (cases : List Case)
-          → Any (λ made. Describes ground.n made (point_of ((steps + k) + 1) ground.below t)) cases
-          → Any (λ made. Describes ground.n made (point_of (steps + (k + 1)) ground.below t)) cases
+          → Any (λ made. Describes ground.n made (point_of ((steps + k) + 1) ground.origin t)) cases
+          → Any (λ made. Describes ground.n made (point_of (steps + (k + 1)) ground.origin t)) cases
       described_there t cases h =
           let z : (steps + k) + 1 ≡ steps + (k + 1) = omega arith in
-          subst (λ j. Any (λ made. Describes ground.n made (point_of j ground.below t)) cases) z h
+          subst (λ j. Any (λ made. Describes ground.n made (point_of j ground.origin t)) cases) z h
 
-      by_goes : (t : State) → step u ≡ Next t → Goes ground.n all e (steps + k) ground.below s t
+      by_goes : (t : State) → step u ≡ Next t → Goes ground.n all e (steps + k) ground.origin s t
           → GoesOn nodes ground steps s spots
       by_goes t goes (inl a) =
           going k u mid t goes unwritten_here unfiled_here false (a.left ∙ at.begins) (goes_by false t a.there)
@@ -299,16 +299,16 @@ module _ (laws : Laws) (nodes : List Node) (number : ℕ) (case : Case) (all : O
 
     -- the steps at the element, one by one
     comes : (more k total : ℕ) (u : State) → k + more ≡ total → Midway k u
-        → Comes more (Goes ground.n all e (steps + total) ground.below s) s (step u)
+        → Comes more (Goes ground.n all e (steps + total) ground.origin s) s (step u)
         → GoesOn nodes ground steps s spots
     comes zero k total u sum mid h =
         let z : total ≡ k = omega (arith, sum) in
-        let next = steps_to (Goes ground.n all e (steps + total) ground.below s) (step u) h in
+        let next = steps_to (Goes ground.n all e (steps + total) ground.origin s) (step u) h in
         by_goes k u mid next.0 next.1
-        (subst (λ j. Goes ground.n all e (steps + j) ground.below s next.0) z next.2)
+        (subst (λ j. Goes ground.n all e (steps + j) ground.origin s next.0) z next.2)
     comes (suc more) k total u sum mid h =
         let next =
-        steps_to (λ t. IsStill s t × Comes more (Goes ground.n all e (steps + total) ground.below s) s (step t))
+        steps_to (λ t. IsStill s t × Comes more (Goes ground.n all e (steps + total) ground.origin s) s (step t))
         (step u) h in
         comes more (suc k) total next.0 (omega (arith, sum))
         (midway_next k u mid next.0 next.1 unwritten_here unfiled_here next.2.0) next.2.1
@@ -323,17 +323,17 @@ module _ (laws : Laws) (nodes : List Node) (number : ℕ) (case : Case) (all : O
     passed : (t : State) → step s ≡ Next t → t.left ≡ None
         → ((e : Element) → node.element ≡ Some e → IsTold e.kind → ⊥)
         → writes_macro ground.library node.element ≡ false
-        → point_of (steps + 1) ground.below t
-        ≡ turned (point_of steps ground.below s) s.arguments (s.frames.running.loops ++ loops_in s.frames.callers)
+        → point_of (steps + 1) ground.origin t
+        ≡ turned (point_of steps ground.origin s) s.arguments (s.frames.running.loops ++ loops_in s.frames.callers)
         → GoesOn nodes ground steps s spots
     passed t goes done untold unwritten same =
-        by (passes ground.n v (point_of steps ground.below s) begins)
+        by (passes ground.n v (point_of steps ground.origin s) begins)
       where
         by : Any (λ made. Describes ground.n made
-            (turned (point_of steps ground.below s) s.arguments (s.frames.running.loops ++ loops_in s.frames.callers)))
+            (turned (point_of steps ground.origin s) s.arguments (s.frames.running.loops ++ loops_in s.frames.callers)))
             all.cases.items
             ⊎ Any (λ made. Describes ground.n made
-            (turned (point_of steps ground.below s) s.arguments
+            (turned (point_of steps ground.origin s) s.arguments
             (s.frames.running.loops ++ loops_in s.frames.callers))) all.away.items
             → GoesOn nodes ground steps s spots
         by (inl d) =
@@ -425,7 +425,7 @@ module _ (laws : Laws) (nodes : List Node) (number : ℕ) (case : Case) (all : O
     return_goes =
         passed passes (ap changes_files element_is) returned returns at.begins untold_end
         (ap (writes_macro ground.library) element_is)
-        (ap (λ loops. record (point_of (steps + 1) ground.below returned) { loops = loops }) same_loops)
+        (ap (λ loops. record (point_of (steps + 1) ground.origin returned) { loops = loops }) same_loops)
 
   by_read : Passes case all → length node.ways ≡ 1 → (read : Option Element) → node.element ≡ read → IsEndOrCall read
       → GoesOn nodes ground steps s spots

@@ -6,7 +6,7 @@ use Rattle.std.proofs.lemmas.Bool.{ltb-true, ltb-false}
 use Rattle.teco_linear.specs.declared.term.Term.{Term}
 use Rattle.teco_linear.specs.Form.{Valuation, symbol_value, term_value, value}
 use Rattle.teco_rows.specs.declared.measure.Single.TheVariants.{Steps, Pointer, Size, Held, LineEnd, LineStart}
-use Rattle.teco_rows.specs.declared.measure.Single.TheVariants.{LastLength, CodeHere, CodeBefore}
+use Rattle.teco_rows.specs.declared.measure.Single.TheVariants.{LastLength, CodeHere, CodeBefore, Typed}
 use Rattle.teco_rows.specs.declared.measure.Family.{Family}
 use Rattle.teco_rows.specs.declared.measure.Family.TheVariants.{Number, Length, Turns, PushedNumber, PushedLength}
 use Rattle.teco_rows.specs.declared.measure.Family.TheVariants.{First, Value}
@@ -16,7 +16,7 @@ use Rattle.teco_rows.specs.Measures.{single_code, family_code, place}
 use Rattle.teco_rows.specs.States.{Point, measures_of}
 use Rattle.teco_paths.specs.Symbols.{single_of, family_of, measure_of, numbers_of}
 
-single_again : (k : ℕ) → k < 9 → single_code (single_of k) ≡ k
+single_again : (k : ℕ) → k < 10 → single_code (single_of k) ≡ k
 single_again zero l = refl
 single_again (suc zero) l = refl
 single_again (suc (suc zero)) l = refl
@@ -26,7 +26,8 @@ single_again (suc (suc (suc (suc (suc zero))))) l = refl
 single_again (suc (suc (suc (suc (suc (suc zero)))))) l = refl
 single_again (suc (suc (suc (suc (suc (suc (suc zero))))))) l = refl
 single_again (suc (suc (suc (suc (suc (suc (suc (suc zero)))))))) l = refl
-single_again (suc (suc (suc (suc (suc (suc (suc (suc (suc k))))))))) l = absurd (omega (arith, l))
+single_again (suc (suc (suc (suc (suc (suc (suc (suc (suc zero))))))))) l = refl
+single_again (suc (suc (suc (suc (suc (suc (suc (suc (suc (suc k)))))))))) l = absurd (omega (arith, l))
 
 family_again : (k : ℕ) → k < 7 → family_code (family_of k) ≡ k
 family_again zero l = refl
@@ -40,15 +41,15 @@ family_again (suc (suc (suc (suc (suc (suc (suc k))))))) l = absurd (omega (arit
 
 -- each place has its measure
 pub place_again : (k : ℕ) → place (measure_of k) ≡ k
-place_again k = among (nat_lt k 9) refl
+place_again k = among (nat_lt k 10) refl
   where
-    among : (b : Bool) → nat_lt k 9 ≡ b
-        → place (if b then One (single_of k) else Each (family_of ((k - 9) % 7)) ((k - 9) / 7)) ≡ k
-    among true l = single_again k (ltb-true k 9 l)
+    among : (b : Bool) → nat_lt k 10 ≡ b
+        → place (if b then One (single_of k) else Each (family_of ((k - 10) % 7)) ((k - 10) / 7)) ≡ k
+    among true l = single_again k (ltb-true k 10 l)
     among false l =
-        let most : 9 ≤ k = ltb-false k 9 l in
-        let code : family_code (family_of ((k - 9) % 7)) ≡ (k - 9) % 7 = family_again ((k - 9) % 7) (omega arith) in
-        ap (λ c. 9 + 7 * ((k - 9) / 7) + c) code ∙ omega (arith, most)
+        let most : 10 ≤ k = ltb-false k 10 l in
+        let code : family_code (family_of ((k - 10) % 7)) ≡ (k - 10) % 7 = family_again ((k - 10) % 7) (omega arith) in
+        ap (λ c. 10 + 7 * ((k - 10) / 7) + c) code ∙ omega (arith, most)
 
 family_fits : (f : Family) → (family_code f < 7) × (family_of (family_code f) ≡ f)
 family_fits Number = (omega arith, refl)
@@ -59,17 +60,17 @@ family_fits PushedLength = (omega arith, refl)
 family_fits First = (omega arith, refl)
 family_fits Value = (omega arith, refl)
 
-each_again : (f : Family) (i k : ℕ) → k ≡ 9 + 7 * i + family_code f → measure_of k ≡ Each f i
-each_again f i k e = among (nat_lt k 9) refl
+each_again : (f : Family) (i k : ℕ) → k ≡ 10 + 7 * i + family_code f → measure_of k ≡ Each f i
+each_again f i k e = among (nat_lt k 10) refl
   where
-    among : (b : Bool) → nat_lt k 9 ≡ b
-        → (if b then One (single_of k) else Each (family_of ((k - 9) % 7)) ((k - 9) / 7)) ≡ Each f i
-    among true l = absurd (omega (arith, ltb-true k 9 l, e))
+    among : (b : Bool) → nat_lt k 10 ≡ b
+        → (if b then One (single_of k) else Each (family_of ((k - 10) % 7)) ((k - 10) / 7)) ≡ Each f i
+    among true l = absurd (omega (arith, ltb-true k 10 l, e))
     among false l =
         let fits = family_fits f in
-        let code : (k - 9) % 7 ≡ family_code f = omega (arith, fits.0, e) in
-        let index : (k - 9) / 7 ≡ i = omega (arith, fits.0, e) in
-        ap (λ c. Each (family_of c) ((k - 9) / 7)) code ∙ ap (λ g. Each g ((k - 9) / 7)) fits.1
+        let code : (k - 10) % 7 ≡ family_code f = omega (arith, fits.0, e) in
+        let index : (k - 10) / 7 ≡ i = omega (arith, fits.0, e) in
+        ap (λ c. Each (family_of c) ((k - 10) / 7)) code ∙ ap (λ g. Each g ((k - 10) / 7)) fits.1
         ∙ ap (λ j. Each f j) index
 
 -- and each measure its place
@@ -83,7 +84,8 @@ measure_again (One LineStart) = refl
 measure_again (One LastLength) = refl
 measure_again (One CodeHere) = refl
 measure_again (One CodeBefore) = refl
-measure_again (Each f i) = each_again f i (9 + 7 * i + family_code f) refl
+measure_again (One Typed) = refl
+measure_again (Each f i) = each_again f i (10 + 7 * i + family_code f) refl
 
 -- what is there where it is marked
 by_mark : (o : Option ℤ) (b : Bool) → is_some o ≡ b → (if b then Some (unwrap_or o (pos 0)) else None) ≡ o

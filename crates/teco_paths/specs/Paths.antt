@@ -14,10 +14,11 @@ use Rattle.teco_paths.specs.declared.spot.Spot.{Spot}
 use Rattle.teco_paths.specs.Claims.{AreClaimed}
 use Rattle.teco_paths.specs.Runs.{Ground, IsAt, EndsBy}
 use Rattle.teco_poly.specs.Polynomial.{Polynomial, value}
+use Rattle.teco_promise.specs.Promise.{most_typed}
 use Rattle.teco_verifier.specs.expansion.Node.{Node}
 
--- The nodes of a macro, how long the texts of its library are, which files are open, the cut points, and how many
--- steps a run may take and how much it may hold.
+-- The nodes of a macro, how long the texts of its library are, which files are open, the cut points, how many steps a
+-- run may take and how much it may hold, and how many bytes it may type, if that is claimed.
 pub record Course : Type 0 where
   pub nodes : List Node
   pub lengths : List (Option ℕ)
@@ -25,6 +26,7 @@ pub record Course : Type 0 where
   pub cuts : List Cut
   pub commands : Polynomial
   pub size : Polynomial
+  pub types : Option Polynomial
 
 -- A run is of the nodes of a course, with its files open, and the size may be held.
 pub record IsOf (course : Course) (ground : Ground) : Type 0 where
@@ -34,12 +36,14 @@ pub record IsOf (course : Course) (ground : Ground) : Type 0 where
 
 -- A run ends in time from a state, so many steps after its entry.
 abbrev pub Ends : Course → Ground → ℕ → State → Type 0
-Ends course ground steps s = EndsBy (value course.commands ground.n) (value course.size ground.n) steps s
+Ends course ground steps s =
+    EndsBy (value course.commands ground.n) (value course.size ground.n)
+    (most_typed course.types ground.n ground.origin.typed) steps s
 
 -- A run comes to a cut point in time, and all is as it says.
 pub record IsAtCut (course : Course) (ground : Ground) (steps : ℕ) (s : State) (cut : Cut) : Type 0 where
   pub at : IsAt course.nodes ground cut.number s
-  pub claimed : AreClaimed ground.n cut (point_of steps ground.below s)
+  pub claimed : AreClaimed ground.n cut (point_of steps ground.origin s)
   pub within : steps ≤ value course.commands ground.n
 
 -- where a run comes to a cut point, after this many steps or more, it ends from there
@@ -55,7 +59,7 @@ abbrev pub Leads : Course → ℕ → ℕ → Case → Type 0
 Leads course least number case =
     (ground : Ground) (steps : ℕ) (s : State)
     → IsOf course ground → IsAt course.nodes ground number s
-    → Describes ground.n case (point_of steps ground.below s) → CutsEnd course ground least steps s
+    → Describes ground.n case (point_of steps ground.origin s) → CutsEnd course ground least steps s
     → Ends course ground steps s
 
 -- and so from a spot
@@ -73,5 +77,5 @@ IsFollowed course cut =
 abbrev pub Arrives : Course → Spot → Cut → Type 0
 Arrives course spot cut =
     (ground : Ground) (steps : ℕ) (s : State)
-    → IsAt course.nodes ground spot.number s → Describes ground.n spot.case (point_of steps ground.below s)
+    → IsAt course.nodes ground spot.number s → Describes ground.n spot.case (point_of steps ground.origin s)
     → IsAtCut course ground steps s cut

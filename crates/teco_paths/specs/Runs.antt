@@ -1,5 +1,5 @@
 -- Runs of a macro among the nodes of its expansion.
-use Rattle.std.specs.Prelude.{◌≡◌, ℕ, ◌+◌, ◌≤◌, List, length, Some, None}
+use Rattle.std.specs.Prelude.{◌≡◌, ℕ, ◌+◌, ◌≤◌, List, length, Option, Some, None}
 use Rattle.teco_law_facts.specs.SoundSteps.{AreOpen}
 use Rattle.teco_law_facts.specs.Wholeness.{IsWholeState}
 use Rattle.teco_law_tables.specs.Staying.{NoFileCommands}
@@ -7,15 +7,17 @@ use Rattle.teco_model.specs.Macros.{Library, IsLoaded, Needs}
 use Rattle.teco_model.specs.Run.{Reaches, Ends}
 use Rattle.teco_model.specs.State.{World, State}
 use Rattle.teco_flow_outcomes.specs.Law.{unread_in}
+use Rattle.teco_promise.specs.Promise.{IsTypedWithin}
+use Rattle.teco_rows.specs.States.{Origin}
 use Rattle.teco_verifier.specs.expansion.Node.{Node, Stand, stands, numbered}
 use Rattle.teco_verifier.specs.expansion.Position.{position_of}
 
--- What a run is of: the library and the entry, N, how many pairs were pushed before it, and which files are open.
+-- What a run is of: the library and the entry, N, what there was at the entry, and which files are open.
 pub record Ground : Type 0 where
   pub library : Library
   pub entry : ℕ
   pub n : ℕ
-  pub below : ℕ
+  pub origin : Origin
   pub needs : Needs
 
 -- a state stands where a number does
@@ -36,12 +38,13 @@ pub record IsAt (nodes : List Node) (ground : Ground) (number : ℕ) (s : State)
 abbrev pub held_in : State → ℕ
 held_in s = length s.world.kept.text + unread_in s.world.files.input
 
--- So many steps after its entry a run comes to its end in time, without a code, by no command of files, and holds no
--- more than it may on the way.
-pub record EndsBy (most held steps : ℕ) (s : State) : Type 0 where
+-- So many steps after its entry a run comes to its end in time, without a code, by no command of files, holds no more
+-- than it may on the way, and has typed no more in the end.
+pub record EndsBy (most held : ℕ) (typed : Option ℕ) (steps : ℕ) (s : State) : Type 0 where
   pub more : ℕ
   pub new : World
   pub within : steps + more ≤ most
   pub none : NoFileCommands s more
   pub small : (k : ℕ) (t : State) → k ≤ more → Reaches k s t → held_in t ≤ held
+  pub types : IsTypedWithin typed new.kept
   pub ends : Ends s more new

@@ -35,6 +35,7 @@ use Rattle.teco_paths.specs.declared.spot.Spot.{Spot}
 use Rattle.teco_paths.specs.Runs.{Ground, StandsBy, IsAt, held_in}
 use Rattle.teco_paths.specs.Paths.{Course}
 use Rattle.teco_poly.specs.Polynomial.{value}
+use Rattle.teco_promise.specs.Promise.{IsTypedWithin, most_typed}
 use Rattle.teco_verifier.specs.expansion.Names.{written_by}
 use Rattle.teco_verifier.specs.expansion.Node.{Node, numbered}
 
@@ -73,8 +74,8 @@ abbrev pub LawAt : List Node → Needs → ℕ → Element → Case → Outcomes
 LawAt nodes needs number e case all =
     (ground : Ground) (v : Valuation) (s : State) (steps : ℕ)
     → ground.needs ≡ needs → AreLinked ground.library ground.entry nodes → IsAt nodes ground number s
-    → Begins ground.n v case all (point_of steps ground.below s)
-    → (more : ℕ) × Comes more (Goes ground.n all e (steps + more) ground.below s) s (step s)
+    → Begins ground.n v case all (point_of steps ground.origin s)
+    → (more : ℕ) × Comes more (Goes ground.n all e (steps + more) ground.origin s) s (step s)
 
 -- A state of a run stands where a number does, and may be at an element of several steps there.
 pub record IsDuring (nodes : List Node) (ground : Ground) (number : ℕ) (s : State) : Type 0 where
@@ -101,7 +102,7 @@ cases_by true outcomes = outcomes.away.items
 abbrev pub IsTarget : List Node → ℕ → Bool → Case → ℕ → Type 0
 IsTarget nodes number away case target =
     (ground : Ground) (steps : ℕ) (s t : State)
-    → Steps nodes ground number away s t → IsShape case.shape (point_of steps ground.below t)
+    → Steps nodes ground number away s t → IsShape case.shape (point_of steps ground.origin t)
     → StandsBy nodes ground target t
 
 -- so many iterations are open at a node
@@ -132,14 +133,14 @@ IsTest nodes number =
 -- a spot is where a state stands, and describes it
 pub record IsThere (nodes : List Node) (ground : Ground) (steps : ℕ) (t : State) (spot : Spot) : Type 0 where
   pub stands : StandsBy nodes ground spot.number t
-  pub described : Describes ground.n spot.case (point_of steps ground.below t)
+  pub described : Describes ground.n spot.case (point_of steps ground.origin t)
 
 -- Where one of the cases describes the state that such a step comes to, one of the spots is there.
 abbrev pub AreKept : List Node → ℕ → Bool → List Case → List Spot → Type 0
 AreKept nodes number away cases spots =
     (ground : Ground) (steps : ℕ) (s t : State)
     → Steps nodes ground number away s t
-    → Any (λ case. Describes ground.n case (point_of steps ground.below t)) cases
+    → Any (λ case. Describes ground.n case (point_of steps ground.origin t)) cases
     → Any (IsThere nodes ground steps t) spots
 
 -- the constraints of a guarded condition imply it
@@ -187,8 +188,8 @@ abbrev pub AreLeft : List Node → ℕ → Bool → List Case → List Case → 
 AreLeft nodes number away cases rest spots =
     (ground : Ground) (steps : ℕ) (s t : State)
     → Steps nodes ground number away s t
-    → Any (λ case. Describes ground.n case (point_of steps ground.below t)) cases
-    → Any (λ case. Describes ground.n case (point_of steps ground.below t)) rest
+    → Any (λ case. Describes ground.n case (point_of steps ground.origin t)) cases
+    → Any (λ case. Describes ground.n case (point_of steps ground.origin t)) rest
     ⊎ Any (IsThere nodes ground steps t) spots
 
 -- of either way
@@ -196,7 +197,7 @@ abbrev pub AreSpots : List Node → ℕ → Outcomes → List Spot → Type 0
 AreSpots nodes number outcomes spots =
     (ground : Ground) (steps : ℕ) (s t : State) (away : Bool)
     → Steps nodes ground number away s t
-    → Any (λ case. Describes ground.n case (point_of steps ground.below t)) (cases_by away outcomes)
+    → Any (λ case. Describes ground.n case (point_of steps ground.origin t)) (cases_by away outcomes)
     → Any (IsThere nodes ground steps t) spots
 
 -- no state is as a case says
@@ -253,7 +254,7 @@ abbrev pub GoOn : List Node → Needs → ℕ → Case → List Spot → Type 0
 GoOn nodes needs number case spots =
     (ground : Ground) (steps : ℕ) (s : State)
     → ground.needs ≡ needs → AreLinked ground.library ground.entry nodes → IsAt nodes ground number s
-    → Describes ground.n case (point_of steps ground.below s) → GoesOn nodes ground steps s spots
+    → Describes ground.n case (point_of steps ground.origin s) → GoesOn nodes ground steps s spots
 
 -- no more is held than may be
 abbrev pub IsSmall : Course → Case → Type 0
@@ -264,3 +265,8 @@ IsSmall course case =
 abbrev pub IsInTime : Course → Case → Type 0
 IsInTime course case =
     (n : ℕ) (s : Point) → Describes n case s → s.steps ≤ value course.commands n
+
+-- no more bytes were typed
+abbrev pub TypesNoMore : Course → Case → Type 0
+TypesNoMore course case =
+    (n : ℕ) (s : Point) → Describes n case s → IsTypedWithin (most_typed course.types n s.origin.typed) s.kept

@@ -1,5 +1,6 @@
 //! The claims of a certificate.
-ghost use Rattle.std.specs.Prelude.{◌≡◌, ℕ, IfOk, OnOk};
+ghost use Rattle.std.specs.Prelude.{◌≡◌, ℕ, IfOk, OnOk, option_map};
+ghost use Rattle.teco_promise.specs.Promise.{most_typed};
 ghost use Rattle.teco_paths.specs.Sure.{IsCertain};
 ghost use Rattle.teco_poly.specs.Polynomial as poly;
 
@@ -16,6 +17,7 @@ use std::alloc::Global;
 use teco_claims::Claims;
 use teco_expansion::Nodes;
 use teco_model::{ArgumentRange, Needs};
+use teco_poly::Poly;
 
 /// The nodes of a macro, and what is known where it is called: the lengths of the library's texts by
 /// the places of their registers, the argument that is declared, and which files are open.
@@ -34,6 +36,31 @@ struct Prepared {
     used: Vec<bool>,
     commands: Vec<u64>,
     size: Vec<u64>,
+    types: Option<Vec<u64>>,
+}
+
+// Coefficients that are lent, if there are some.
+fn lent(coefficients: &Option<Vec<u64>>) -> Option<&[u64]>
+    ensures { option_map (λ t. t.now) result ≡ option_map (λ t. t.items) coefficients.now }
+{
+    match coefficients {
+        Some(coefficients) => Some(coefficients.as_slice()),
+        None => None,
+    }
+}
+
+// The coefficients of a polynomial, if there is one.
+fn coefficients_if(polynomial: &Option<Poly>, alloc: Global) -> Result<Option<Vec<u64>>, PathFault>
+    ensures { IfOk result (λ found. (n before : ℕ)
+        → most_typed (option_map (λ t. t.items) found) n before ≡ most_typed polynomial.now n before) }
+{
+    match polynomial {
+        Some(polynomial) => {
+            let found = coefficients(polynomial, alloc)?;
+            Ok(Some(found))
+        }
+        None => Ok(None),
+    }
 }
 
 // The shapes of states at the nodes.
@@ -46,6 +73,7 @@ fn stands(called: &Called<'_>, prepared: &Prepared, alloc: Global) -> Result<Vec
         cuts: &prepared.cuts,
         commands: &prepared.commands,
         size: &prepared.size,
+        types: lent(&prepared.types),
     };
     let first = entry_cut(called.lengths, called.argument, &prepared.used, alloc)?;
     let entry = case_of(&prepared.size, &first, alloc)?;
@@ -56,18 +84,21 @@ fn stands(called: &Called<'_>, prepared: &Prepared, alloc: Global) -> Result<Vec
 fn with_cuts(prepared: Prepared, cuts: Vec<Cut>) -> Prepared
     ensures commands { result.commands.items ≡ prepared.commands.items }
     ensures size { result.size.items ≡ prepared.size.items }
+    ensures types { result.types ≡ prepared.types }
 {
     let Prepared {
         cuts: _none,
         used,
         commands,
         size,
+        types,
     } = prepared;
     Prepared {
         cuts,
         used,
         commands,
         size,
+        types,
     }
 }
 
@@ -77,22 +108,27 @@ fn bounds(nodes: &Nodes<'_>, claimed: &Claims, alloc: Global) -> Result<Prepared
         → poly.value prepared.commands.items n ≡ poly.value claimed.now.commands n) }
     ensures size { IfOk result (λ prepared. (n : ℕ)
         → poly.value prepared.size.items n ≡ poly.value claimed.now.size n) }
+    ensures types { IfOk result (λ prepared. (n before : ℕ)
+        → most_typed (option_map (λ t. t.items) prepared.types) n before ≡ most_typed claimed.now.types n before) }
 {
     let commands = coefficients(&claimed.commands, alloc)?;
     let size = coefficients(&claimed.size, alloc)?;
+    let types = coefficients_if(&claimed.types, alloc)?;
     let used = used(nodes, claimed, alloc)?;
     Ok(Prepared {
         cuts: Vec::new(alloc),
         used,
         commands,
         size,
+        types,
     })
 }
 
 // Follows all paths by them.
 fn check_prepared(called: &Called<'_>, prepared: &Prepared, alloc: Global) -> Result<(), PathFault>
     ensures { OnOk result (IsCertain called.now.nodes.now called.now.lengths.now called.now.argument
-        called.now.needs prepared.now.commands.items prepared.now.size.items) }
+        called.now.needs prepared.now.commands.items prepared.now.size.items
+        (option_map (λ t. t.items) prepared.now.types)) }
 {
     let course = Course {
         nodes: called.nodes,
@@ -102,15 +138,17 @@ fn check_prepared(called: &Called<'_>, prepared: &Prepared, alloc: Global) -> Re
         cuts: &prepared.cuts,
         commands: &prepared.commands,
         size: &prepared.size,
+        types: lent(&prepared.types),
     };
     check_claims(&course, called.argument, alloc)
 }
 
 /// Follows all paths of a macro by the claims of a certificate. Where nothing is refused, every run of
-/// it ends within the commands that the certificate says, and holds no more than it says.
+/// it ends within the commands that the certificate says, holds no more than it says, and types no
+/// more bytes, if it says how many.
 pub fn check_claimed(called: &Called<'_>, claimed: &Claims, alloc: Global) -> Result<(), PathFault>
     ensures { OnOk result (IsCertain called.now.nodes.now called.now.lengths.now called.now.argument
-        called.now.needs claimed.now.commands claimed.now.size) }
+        called.now.needs claimed.now.commands claimed.now.size claimed.now.types) }
 {
     let first = bounds(called.nodes, claimed, alloc)?;
     let stands = stands(called, &first, alloc)?;

@@ -11,9 +11,9 @@ use teco_linear::{Form, LinearFault, Term};
 use teco_model::Needs;
 
 /// The nodes of a macro, the lengths of the library's texts by the places of their registers, the
-/// files that are open, which measures the macro uses, by their places, the cut points, and how many
-/// commands a run may take and how much it may hold: polynomials in N, each by its coefficients, that
-/// of the constant first.
+/// files that are open, which measures the macro uses, by their places, the cut points, how many
+/// commands a run may take and how much it may hold, and how many bytes it may type, if that is
+/// claimed: polynomials in N, each by its coefficients, that of the constant first.
 #[derive(Drop)]
 pub struct Course<'a> {
     pub nodes: &'a Nodes<'a>,
@@ -23,9 +23,11 @@ pub struct Course<'a> {
     pub cuts: &'a [Cut],
     pub commands: &'a [u64],
     pub size: &'a [u64],
+    pub types: Option<&'a [u64]>,
 }
 
 impl<'a> Model for Course<'a> {
+    ghost use Rattle.std.specs.Prelude.{option_map};
     ghost use Rattle.teco_paths.specs.Paths as model;
 
     ghost Value = { model.Course };
@@ -37,6 +39,7 @@ impl<'a> Model for Course<'a> {
       cuts = c.cuts.now;
       commands = c.commands.now;
       size = c.size.now;
+      types = option_map (λ t. t.now) c.types;
     } };
 }
 

@@ -19,18 +19,20 @@ use teco_linear::{Form, Term};
 use teco_model::ArgumentRange;
 use teco_rows::case::Shape;
 
-// The places of the steps that were done, of what is held, of the length of the first register's
-// text, and of the pending argument.
+// The places of the steps that were done, of what is held, of the bytes that were typed, of the
+// length of the first register's text, and of the pending argument.
 const STEPS: u32 = 0;
 
 const HELD: u32 = 3;
 
-const FIRST_LENGTH: u32 = 10;
+const TYPED: u32 = 9;
 
-const ARGUMENT: u32 = 15;
+const FIRST_LENGTH: u32 = 11;
+
+const ARGUMENT: u32 = 16;
 
 // How many places there are at an entry.
-pub const PLACES: usize = 9 + 7 * REGISTERS;
+pub const PLACES: usize = 10 + 7 * REGISTERS;
 
 // How many steps were done there.
 fn steps_done(argument: Option<ArgumentRange>) -> u32
@@ -63,7 +65,7 @@ fn most_held(alloc: Global) -> Result<Form, PathFault>
 fn length_used(used: &[bool], register: u32, alloc: Global) -> Result<Form, PathFault>
     requires { register < REGISTERS }
     ensures { IfOk result (λ form. (n : ℕ) (v : Valuation)
-        → value form n v ≡ length_if (slice_index_or used.now (10 + 7 * register) false) v register) }
+        → value form n v ≡ length_if (slice_index_or used.now (11 + 7 * register) false) v register) }
 {
     let place = FIRST_LENGTH + 7 * register;
     if used.get(place as usize) == Some(&true) {
@@ -158,6 +160,8 @@ fn entry_claims(
     let mut claims = length_claims(lengths, alloc)?;
     claims.push(no_less(STEPS, done, alloc)?)?;
     claims.push(no_more(STEPS, done, alloc)?)?;
+    claims.push(no_less(TYPED, 0, alloc)?)?;
+    claims.push(no_more(TYPED, 0, alloc)?)?;
     claims.push(most_in_all(used, alloc)?)?;
     add_range(&mut claims, argument, alloc)?;
     Ok(claims)
@@ -167,11 +171,11 @@ fn entry_claims(
 fn is_present(has_argument: bool, place: usize) -> bool
     ensures { result ≡ is_there has_argument (measure_of place) }
 {
-    if place < 9 {
+    if place < 10 {
         return true;
     }
-    let index = (place - 9) / 7;
-    match (place - 9) % 7 {
+    let index = (place - 10) / 7;
+    match (place - 10) % 7 {
         0 => index < REGISTERS,
         1 => index < REGISTERS,
         2 => false,

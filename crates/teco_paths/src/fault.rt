@@ -29,6 +29,9 @@ pub enum PathFault {
     /// More steps may be done than are claimed.
     #[error("more commands may come to element {0} than are claimed")]
     Commands(usize),
+    /// More bytes may be typed than are claimed.
+    #[error("more bytes may be typed than are claimed")]
+    Types,
     /// The claims at an element are not implied where a path comes to it.
     #[error("the claims at element {0} are not implied")]
     Claims(usize),

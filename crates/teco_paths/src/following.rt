@@ -11,7 +11,7 @@ use crate::halves::halves;
 use crate::light::lighter;
 use crate::sharp::sharpened;
 use crate::spot::Spot;
-use crate::steps::{behind, is_in_time, is_small};
+use crate::steps::{behind, is_in_time, is_small, types_no_more};
 use std::alloc::Global;
 use teco_rows::case::Case;
 
@@ -28,7 +28,18 @@ fn is_over(course: &Course<'_>, spot: &Spot, alloc: Global) -> Result<bool, Path
     }
     let is_timely = is_in_time(course, &spot.case, alloc)?;
     let is_within = is_small(course, &spot.case, alloc)?;
-    Ok(is_timely && is_within)
+    let is_quiet = types_no_more(course, &spot.case, alloc)?;
+    Ok(is_timely && is_within && is_quiet)
+}
+
+// Why a path may not be over at the end.
+fn not_over(course: &Course<'_>, spot: &Spot, alloc: Global) -> Result<PathFault, PathFault> {
+    let is_quiet = types_no_more(course, &spot.case, alloc)?;
+    if is_quiet {
+        Ok(PathFault::Commands(spot.number))
+    } else {
+        Ok(PathFault::Types)
+    }
 }
 
 // Whether it has come to a cut point, in time.
@@ -77,7 +88,8 @@ fn spots_ahead(course: &Course<'_>, spot: &Spot, alloc: Global) -> Result<Vec<Sp
         return Ok(Vec::new(alloc));
     }
     if spot.number > course.nodes.len() {
-        return Err(PathFault::Commands(spot.number));
+        let refused = not_over(course, spot, alloc)?;
+        return Err(refused);
     }
     if has_cut(course, spot.number) {
         return halves(spot, alloc);

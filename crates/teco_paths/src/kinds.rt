@@ -69,6 +69,17 @@ pub fn highest_in(form: &Form) -> u32 {
     most
 }
 
+/// The highest power of N that stands at no symbol in a form.
+pub fn highest_alone(form: &Form) -> u32 {
+    let mut most = 0;
+    for term in form.terms() {
+        if term.symbol.is_none() {
+            most = most.max(term.power);
+        }
+    }
+    most
+}
+
 /// The kinds of these forms, each once, that of constants first.
 pub fn kinds_of(forms: &[&Form], alloc: Global) -> Result<Vec<Kind>, PathFault> {
     let mut kinds = Vec::new(alloc);

@@ -27,4 +27,5 @@ pub mod steps;
 pub mod targets;
 pub mod translated;
 mod used;
+mod useful;
 pub mod verdict;

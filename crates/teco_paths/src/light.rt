@@ -44,7 +44,25 @@ fn is_of(constraint: &Form, is_live: &[bool]) -> bool {
         })
 }
 
-/// The case without the constraints of symbols by which no measure is given, where it has many.
+// Whether a constraint stands among these.
+fn is_among(constraint: &Form, others: &[Form]) -> bool {
+    others
+        .iter()
+        .any(|other| other.terms() == constraint.terms())
+}
+
+// Which constraints are of use: each once, those of marked symbols alone.
+fn of_use(constraints: &[Form], is_live: &[bool], alloc: Global) -> Result<Vec<bool>, PathFault> {
+    let mut are_of_use = Vec::new(alloc);
+    for (place, constraint) in constraints.iter().enumerate() {
+        let before = constraints.get(..place).unwrap_or(&[]);
+        are_of_use.push(is_of(constraint, is_live) && !is_among(constraint, before))?;
+    }
+    Ok(are_of_use)
+}
+
+/// The case without the constraints of symbols by which no measure is given, and each of the others
+/// once, where it has many.
 pub fn lighter(case: Case, alloc: Global) -> Result<Case, PathFault>
     ensures { IfOk result (λ light. IsSharper case light) }
 {
@@ -58,7 +76,13 @@ pub fn lighter(case: Case, alloc: Global) -> Result<Case, PathFault>
         mut constraints,
         shape,
     } = case;
-    constraints.retain(|form| is_of(form, &is_live));
+    let are_of_use = of_use(&constraints, &is_live, alloc)?;
+    let mut place = 0usize;
+    constraints.retain(|_form| {
+        let is_of_use = are_of_use.get(place) == Some(&true);
+        place = place.saturating_add(1);
+        is_of_use
+    });
     Ok(Case {
         symbols,
         forms,

@@ -2,8 +2,9 @@
 
 use crate::chains::{chain, is_difference};
 use crate::fault::PathFault;
-use crate::kinds::{Kind, highest, highest_in, kinds_of};
+use crate::kinds::{Kind, highest, highest_alone, highest_in, kinds_of};
 use crate::relevant::{near, relevant};
+use crate::useful::useful;
 use std::alloc::Global;
 use teco_linear::{Form, Multiplier};
 use teco_simplex::{Answer, Program, Relation, Row, Sign, SimplexFault, Values};
@@ -218,10 +219,12 @@ fn is_mixed(constraint: &Form) -> bool {
 }
 
 // The powers that are tried: as few as the target has first, which keeps numbers small, then those of
-// all constraints, and last one more, as the highest terms of a mixed constraint may cancel.
+// all constraints, or what N^2 needs that stands alone, and last one more, as the highest terms of a
+// mixed constraint may cancel.
 fn tried_powers(constraints: &[Form], places: &[usize], target: &Form, has_more: bool) -> [u32; 3] {
     let least = highest_in(target).min(MOST_POWER);
-    let most = highest(constraints).max(least).min(MOST_POWER);
+    let alone = highest_alone(target).saturating_sub(1);
+    let most = highest(constraints).max(least).max(alone).min(MOST_POWER);
     let is_any_mixed = has_more
         && places.iter().any(|place| constraints.get(*place).is_some_and(|form| is_mixed(form)));
     let more = if least > 0 && is_any_mixed {
@@ -259,6 +262,11 @@ fn is_limit(constraint: &Form) -> bool {
     constraint.terms().iter().any(|term| term.symbol.is_none()
         && term.power == 0
         && term.coefficient.unsigned_abs() >= LIMITS)
+}
+
+// Whether one of these constraints has.
+fn is_any_limit(constraints: &[Form], places: &[usize]) -> bool {
+    places.iter().any(|place| constraints.get(*place).is_some_and(|form| is_limit(form)))
 }
 
 // The constraints that say something, each once.
@@ -334,7 +342,8 @@ fn reached(
 }
 
 // By linear programs of more and more constraints: first of those that speak of the seeds' symbols
-// alone, and last, if that is wanted, of all that are connected with the seeds.
+// alone, and last, if that is wanted, of all that are connected with the seeds. What has no limits was
+// tried without them before.
 fn by_steps(
     constraints: &[Form],
     seeds: &[Form],
@@ -345,15 +354,19 @@ fn by_steps(
     let mut tried = 0;
     for steps in 0..=reach.most() {
         let places = reached(constraints, seeds, steps, reach, alloc)?;
-        if places.len() <= tried {
+        let is_new = !reach.has_limits || is_any_limit(constraints, &places);
+        if places.len() <= tried || !is_new {
             continue;
         }
         tried = places.len();
         if reach.is_chained && are_differences(constraints, &places, target) {
             continue;
         }
+        let Some(useful) = useful(constraints, &places, target, alloc)? else {
+            continue;
+        };
         let has_more = steps == NEAR && !reach.has_limits;
-        let found = by_program(constraints, &places, target, has_more, alloc)?;
+        let found = by_program(constraints, &useful, target, has_more, alloc)?;
         if found.is_some() {
             return Ok(found);
         }

@@ -60,13 +60,20 @@ impl Reached {
     }
 }
 
-// The greatest symbol of some forms.
-fn most_symbol(forms: &[Form]) -> u32 {
+/// The greatest symbol of a form, or 0.
+pub fn greatest_symbol(form: &Form) -> u32 {
+    let mut most = 0;
+    for term in form.terms() {
+        most = most.max(term.symbol.unwrap_or(0));
+    }
+    most
+}
+
+/// The greatest symbol of some forms, or 0.
+pub fn most_symbol(forms: &[Form]) -> u32 {
     let mut most = 0;
     for form in forms {
-        for term in form.terms() {
-            most = most.max(term.symbol.unwrap_or(0));
-        }
+        most = most.max(greatest_symbol(form));
     }
     most
 }

@@ -5,7 +5,7 @@ ghost use Rattle.std.specs.List.{All};
 ghost use Rattle.teco_model.specs.Element.{seen};
 ghost use Rattle.teco_paths.specs.Paths.{Leads, LeadsOn};
 ghost use Rattle.teco_paths.specs.Steps.{AreKept, AreSpots, GoOn, IsAskedAt, IsInTime, IsPlain, IsRead};
-ghost use Rattle.teco_paths.specs.Steps.{IsSmall, IsTextEnd};
+ghost use Rattle.teco_paths.specs.Steps.{IsSmall, IsTextEnd, TypesNoMore};
 
 use crate::course::{Course, form_of};
 use crate::fault::PathFault;
@@ -79,6 +79,18 @@ pub fn is_in_time(course: &Course<'_>, case: &Case, alloc: Global) -> Result<boo
     let commands = form_of(course.commands, alloc)?;
     let steps = single(case, Single::Steps, alloc)?;
     is_so(case, &commands.sub(&steps, alloc)?, alloc)
+}
+
+/// Whether the bytes that a case says were typed are within the bound that is claimed, if one is.
+pub fn types_no_more(course: &Course<'_>, case: &Case, alloc: Global) -> Result<bool, PathFault>
+    ensures { IfOk result (λ answer. OnTrue answer (TypesNoMore course.now case.now)) }
+{
+    let Some(types) = course.types else {
+        return Ok(true);
+    };
+    let most = form_of(types, alloc)?;
+    let typed = single(case, Single::Typed, alloc)?;
+    is_so(case, &most.sub(&typed, alloc)?, alloc)
 }
 
 // The spots of both ways.

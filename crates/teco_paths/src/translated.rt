@@ -19,6 +19,7 @@ fn single_of(single: teco_claims::Single) -> Single {
         teco_claims::Single::LineEnd => Single::LineEnd,
         teco_claims::Single::LineStart => Single::LineStart,
         teco_claims::Single::LastLength => Single::LastLength,
+        teco_claims::Single::Typed => Single::Typed,
     }
 }
 

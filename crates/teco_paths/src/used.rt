@@ -35,7 +35,7 @@ fn named_by(kind: &Kind) -> Option<usize> {
 // Marks the number and the length of a register.
 fn mark(used: &mut [bool], register: usize) {
     if register < REGISTERS {
-        for place in [9 + 7 * register, 10 + 7 * register] {
+        for place in [10 + 7 * register, 11 + 7 * register] {
             if let Some(slot) = used.get_mut(place) {
                 *slot = true;
             }
@@ -77,7 +77,7 @@ fn mark_claimed(used: &mut [bool], measure: Option<Measure>) {
 pub fn used(nodes: &Nodes<'_>, claimed: &Claims, alloc: Global) -> Result<Vec<bool>, PathFault> {
     let mut used = Vec::new(alloc);
     for place in 0..PLACES {
-        used.push(place < 9 || (place - 9) % 7 > 1)?;
+        used.push(place < 10 || (place - 10) % 7 > 1)?;
     }
     mark_named(&mut used, nodes);
     for cut in &claimed.cuts {

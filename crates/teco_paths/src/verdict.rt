@@ -17,8 +17,8 @@ pub fn check_claims(
     argument: Option<ArgumentRange>,
     alloc: Global,
 ) -> Result<(), PathFault>
-    ensures { OnOk result
-        (IsCertain course.now.nodes course.now.lengths argument course.now.needs course.now.commands course.now.size) }
+    ensures { OnOk result (IsCertain course.now.nodes course.now.lengths argument course.now.needs
+        course.now.commands course.now.size course.now.types) }
 {
     teco_law_expansion::laws::steps_are_alike();
     teco_law_expansion::laws::runs_are_alike();

@@ -23,6 +23,8 @@ pub struct Statement<'l> {
     pub commands: Poly,
     /// The most that is held, and the length of the longest text, by N.
     pub size: Poly,
+    /// The most bytes that a run types, by N, if a bound on them is known.
+    pub types: Option<Poly>,
 }
 
 impl<'l> Model for Statement<'l> {
@@ -37,6 +39,7 @@ impl<'l> Model for Statement<'l> {
       needs = s.needs;
       commands = s.commands;
       size = s.size;
+      types = s.types;
     } };
 }
 
@@ -112,5 +115,12 @@ impl<'l> Promise<'l> {
         ensures { result ≡ self.now.size }
     {
         self.statement.size
+    }
+
+    /// The most bytes that a run types; `None` where no bound is known.
+    pub fn types(&self) -> Option<Poly>
+        ensures { result ≡ self.now.types }
+    {
+        self.statement.types
     }
 }

@@ -15,7 +15,7 @@ use Rattle.teco_rows.specs.declared.measure.Family.TheVariants.{First, Value}
 use Rattle.teco_rows.specs.declared.measure.Measure.{Measure}
 use Rattle.teco_rows.specs.declared.measure.Measure.TheVariants.{One, Each}
 use Rattle.teco_rows.specs.declared.measure.Single.TheVariants.{Steps, Pointer, Size, Held, LineEnd, LineStart}
-use Rattle.teco_rows.specs.declared.measure.Single.TheVariants.{LastLength, CodeHere, CodeBefore}
+use Rattle.teco_rows.specs.declared.measure.Single.TheVariants.{LastLength, CodeHere, CodeBefore, Typed}
 use Rattle.teco_rows.specs.declared.row.Places.{Places}
 use Rattle.teco_rows.specs.Commands.{IsAtLevel}
 use Rattle.teco_rows.specs.Cases.{value_if}
@@ -73,6 +73,7 @@ module _ (s : Point) (level : Level) (outer : List Level) (here : Places) (e : s
   without (One LastLength) = refl
   without (One CodeHere) = refl
   without (One CodeBefore) = refl
+  without (One Typed) = refl
   without (Each Number i) = refl
   without (Each Length i) = refl
   without (Each Turns i) = refl
@@ -100,7 +101,7 @@ is_outside case copy made here at is_copy empties constraints front iterations p
         operators = front (operators_of (level ∷ outer)) s.arguments.level.operator
             (same.shape.operators ∙ ap (λ ls. operators_of (s.arguments.level ∷ ls)) e);
         iterations = iterations ∙ same.shape.iterations;
-        pushes = ap (λ k. s.below + k) pushes ∙ same.shape.pushes;
+        pushes = ap (λ k. s.origin.pushes + k) pushes ∙ same.shape.pushes;
       };
     }
 
@@ -119,7 +120,7 @@ is_copy case copy forms constraints operators iterations pushes n v s true_of = 
   shape = record {
     operators = operators ∙ true_of.shape.operators;
     iterations = iterations ∙ true_of.shape.iterations;
-    pushes = ap (λ k. s.below + k) pushes ∙ true_of.shape.pushes;
+    pushes = ap (λ k. s.origin.pushes + k) pushes ∙ true_of.shape.pushes;
   };
 }
 

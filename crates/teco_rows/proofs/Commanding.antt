@@ -13,7 +13,7 @@ use Rattle.teco_model.specs.declared.arguments.Level.{Level}
 use Rattle.teco_rows.specs.declared.case.Case.{Case}
 use Rattle.teco_rows.specs.declared.commands.TheConstants.{TAKES}
 use Rattle.teco_rows.specs.declared.measure.Single.TheVariants.{Steps, Pointer, Size, Held, LineEnd, LineStart}
-use Rattle.teco_rows.specs.declared.measure.Single.TheVariants.{LastLength, CodeHere, CodeBefore}
+use Rattle.teco_rows.specs.declared.measure.Single.TheVariants.{LastLength, CodeHere, CodeBefore, Typed}
 use Rattle.teco_rows.specs.declared.measure.Family.TheVariants.{Number, Length, Turns, PushedNumber, PushedLength}
 use Rattle.teco_rows.specs.declared.measure.Family.TheVariants.{First, Value}
 use Rattle.teco_rows.specs.declared.measure.Measure.{Measure}
@@ -54,6 +54,7 @@ takes s here given unknown at (One LineStart) = refl
 takes s here given unknown at (One LastLength) = refl
 takes s here given unknown at (One CodeHere) = refl
 takes s here given unknown at (One CodeBefore) = refl
+takes s here given unknown at (One Typed) = refl
 takes s here given unknown at (Each Number i) = refl
 takes s here given unknown at (Each Length i) = refl
 takes s here given unknown at (Each Turns i) = refl

@@ -48,7 +48,7 @@ led_on n v case after step s kept level unknown led true_of same holds =
     led.carries true_of holds (record {
       operators = led.last (operators_of s.arguments.outer) s.arguments.level.operator h.operators;
       iterations = led.iterations ∙ h.iterations;
-      pushes = ap (λ k. s.below + k) led.pushes ∙ h.pushes ∙ sym same;
+      pushes = ap (λ k. s.origin.pushes + k) led.pushes ∙ h.pushes ∙ sym same;
     })
 
 pub led_to : (n : ℕ) (v : Valuation) (case after : Case) (step : Step) (s : Point) (level : Level) (unknown : ℕ → ℤ)

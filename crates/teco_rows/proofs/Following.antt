@@ -10,7 +10,7 @@ use Rattle.teco_rows.specs.declared.applied.Draft.{Draft}
 use Rattle.teco_rows.specs.declared.case.Case.{Case}
 use Rattle.teco_rows.specs.declared.measure.Single.{Single}
 use Rattle.teco_rows.specs.declared.measure.Single.TheVariants.{Steps, Pointer, Size, Held, LineEnd, LineStart}
-use Rattle.teco_rows.specs.declared.measure.Single.TheVariants.{LastLength, CodeHere, CodeBefore}
+use Rattle.teco_rows.specs.declared.measure.Single.TheVariants.{LastLength, CodeHere, CodeBefore, Typed}
 use Rattle.teco_rows.specs.declared.measure.Family.{Family}
 use Rattle.teco_rows.specs.declared.measure.Family.TheVariants.{Number, Length, Turns, PushedNumber, PushedLength}
 use Rattle.teco_rows.specs.declared.measure.Family.TheVariants.{First, Value}
@@ -27,7 +27,7 @@ use Rattle.teco_rows.specs.Measures.{single_code, family_code, place}
 use Rattle.teco_rows.specs.Rows.{index_at, measure_at, is_at, total}
 use Rattle.teco_rows.specs.Cases.{Adds, measures_by, read_by, value_if}
 
-single_below : (s : Single) → single_code s < 9
+single_below : (s : Single) → single_code s < 10
 single_below Steps = omega arith
 single_below Pointer = omega arith
 single_below Size = omega arith
@@ -37,6 +37,7 @@ single_below LineStart = omega arith
 single_below LastLength = omega arith
 single_below CodeHere = omega arith
 single_below CodeBefore = omega arith
+single_below Typed = omega arith
 
 family_below : (f : Family) → family_code f < 7
 family_below Number = omega arith
@@ -47,13 +48,13 @@ family_below PushedLength = omega arith
 family_below First = omega arith
 family_below Value = omega arith
 
-apart : (a b i : ℕ) → a < 9 → (a == 9 + 7 * i + b) ≡ false
+apart : (a b i : ℕ) → a < 10 → (a == 10 + 7 * i + b) ≡ false
 apart a b i h = grind (arith, nat_tests)
 
-apart_back : (a b i : ℕ) → a < 9 → (9 + 7 * i + b == a) ≡ false
+apart_back : (a b i : ℕ) → a < 10 → (10 + 7 * i + b == a) ≡ false
 apart_back a b i h = grind (arith, nat_tests)
 
-together : (a b i j : ℕ) → a < 7 → b < 7 → (9 + 7 * i + a == 9 + 7 * j + b) ≡ (a == b) && (i == j)
+together : (a b i j : ℕ) → a < 7 → b < 7 → (10 + 7 * i + a == 10 + 7 * j + b) ≡ (a == b) && (i == j)
 together a b i j h k = grind (arith, nat_tests)
 
 -- two measures stand in one place where they are one

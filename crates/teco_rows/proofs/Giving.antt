@@ -23,7 +23,7 @@ use Rattle.teco_rows.specs.declared.row.Of.TheVariants.{Given, Unknown}
 use Rattle.teco_rows.specs.declared.row.Clause.{Clause}
 use Rattle.teco_rows.specs.declared.row.Clause.TheVariants.{Sets, Wants}
 use Rattle.teco_rows.specs.declared.measure.Single.TheVariants.{Steps, Pointer, Size, Held, LineEnd, LineStart}
-use Rattle.teco_rows.specs.declared.measure.Single.TheVariants.{LastLength, CodeHere, CodeBefore}
+use Rattle.teco_rows.specs.declared.measure.Single.TheVariants.{LastLength, CodeHere, CodeBefore, Typed}
 use Rattle.teco_rows.specs.declared.measure.Family.TheVariants.{Number, Length, Turns, PushedNumber, PushedLength}
 use Rattle.teco_rows.specs.declared.measure.Family.TheVariants.{First, Value}
 use Rattle.teco_rows.specs.declared.measure.Measure.{Measure}
@@ -126,6 +126,7 @@ module _ (s : Point) (level : Level) (here : Places) (given unknown : ℕ
   becomes x of value e (One LastLength) = refl
   becomes x of value e (One CodeHere) = refl
   becomes x of value e (One CodeBefore) = refl
+  becomes x of value e (One Typed) = refl
   becomes x of value e (Each Number i) = refl
   becomes x of value e (Each Length i) = refl
   becomes x of value e (Each Turns i) = refl

@@ -1,5 +1,5 @@
 -- How a row leads to the state behind a command.
-use Rattle.std.proofs.Common.{◌≡◌, ℕ, ◌+◌, ◌==◌, ◌&&◌, ℤ, pos, List, [], ◌∷◌, ◌++◌, length, Result, Ok, slice_index_or}
+use Rattle.std.proofs.Common.{◌≡◌, ℕ, ◌+◌, ◌==◌, ◌&&◌, ℤ, List, [], ◌∷◌, ◌++◌, length, Result, Ok, slice_index_or}
 use Rattle.std.proofs.Common.{Bool, true, false, not, Option, Some, None, if◌then◌else◌, slice_get, refl, sym, ap}
 use Rattle.std.proofs.Common.{subst, ◌∙◌}
 use Rattle.teco_base.specs.declared.code.Code.{Code}
@@ -73,8 +73,8 @@ left_alone (Wants constant parts ∷ row) b f i x e = left_alone row b f i x e
 pub record Parts (row : List Clause) (b : Before) (s : Point) (kept : Kept) (answer : Option ℤ) : Type 0 where
   pub met : AreMet row b
   pub singles : (which : Single)
-      → Some (pos (single (commanded s kept answer) which))
-      ≡ changed row b (One which) (Some (pos (single (commanded s s.kept None) which)))
+      → Some (single (commanded s kept answer) which)
+      ≡ changed row b (One which) (Some (single (commanded s s.kept None) which))
   pub numbers : (i : ℕ)
       → number_of (slice_get kept.registers.pairs i)
       ≡ changed row b (Each Number i) (number_of (slice_get s.kept.registers.pairs i))
@@ -101,9 +101,11 @@ leads row b s kept answer turns numbers lengths firsts parts = record {
   becomes (Each Length i) = parts.lengths i
   becomes (Each Turns i) = left_alone row b Turns i _ turns
   becomes (Each PushedNumber i) =
-      ap (λ stack. number_of (from_end stack (s.below + i))) parts.stack ∙ left_alone row b PushedNumber i _ numbers
+      ap (λ stack. number_of (from_end stack (s.origin.pushes + i))) parts.stack
+      ∙ left_alone row b PushedNumber i _ numbers
   becomes (Each PushedLength i) =
-      ap (λ stack. length_of (from_end stack (s.below + i))) parts.stack ∙ left_alone row b PushedLength i _ lengths
+      ap (λ stack. length_of (from_end stack (s.origin.pushes + i))) parts.stack
+      ∙ left_alone row b PushedLength i _ lengths
   becomes (Each First i) = firsts_stay answer ∙ left_alone row b First i _ firsts where
     firsts_stay : (x : Option ℤ) → each (commanded s kept x) First i ≡ each (commanded s s.kept None) First i
     firsts_stay None = refl
@@ -119,8 +121,8 @@ is_of_singles row =
 -- such a row leads where these do, and registers stay
 pub leads_singles : (row : List Clause) (b : Before) (s : Point) (kept : Kept) → kept.registers ≡ s.kept.registers
     → is_of_singles row ≡ true → AreMet row b
-    → ((which : Single) → Some (pos (single (commanded s kept None) which))
-    ≡ changed row b (One which) (Some (pos (single (commanded s s.kept None) which))))
+    → ((which : Single) → Some (single (commanded s kept None) which)
+    ≡ changed row b (One which) (Some (single (commanded s s.kept None) which)))
     → Leads row b s kept None
 leads_singles row b s kept same of met singles =
     let texts = left_of (leaves Number row && leaves Length row) _ of in

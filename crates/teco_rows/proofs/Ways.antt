@@ -1,6 +1,6 @@
 -- The ways of a command.
 use Rattle.std.proofs.Common.{◌≡◌, ℕ, zero, suc, ◌+◌, ◌<◌, ◌≤◌, ℤ, Option, List, [], ◌∷◌, ◌++◌, length, take, get_or}
-use Rattle.std.proofs.Common.{slice_get, slice_index_or, Some, None, pos, Bool, true, false, ◌&&◌, if◌then◌else◌, refl}
+use Rattle.std.proofs.Common.{slice_get, slice_index_or, Some, None, Bool, true, false, ◌&&◌, if◌then◌else◌, refl}
 use Rattle.std.proofs.Common.{sym, ap, subst, ◌∙◌, arith, length-append, ◌⊎◌, inl, inr}
 use Rattle.std.proofs.lemmas.List.{take_more, take_all, get_or_append_left}
 use Rattle.std.proofs.Math.Seq.{get_or-append_seam}
@@ -13,7 +13,7 @@ use Rattle.teco_rows.specs.declared.outcomes.Outcomes.{Outcomes}
 use Rattle.teco_rows.specs.declared.row.Places.{Places}
 use Rattle.teco_rows.specs.declared.measure.Single.{Single}
 use Rattle.teco_rows.specs.declared.measure.Single.TheVariants.{Steps, Pointer, Size, Held, LineEnd, LineStart}
-use Rattle.teco_rows.specs.declared.measure.Single.TheVariants.{LastLength, CodeHere, CodeBefore}
+use Rattle.teco_rows.specs.declared.measure.Single.TheVariants.{LastLength, CodeHere, CodeBefore, Typed}
 use Rattle.teco_rows.specs.declared.measure.Family.TheVariants.{Number, Length, Turns, PushedNumber, PushedLength}
 use Rattle.teco_rows.specs.declared.measure.Family.TheVariants.{First, Value}
 use Rattle.teco_rows.specs.declared.measure.Measure.{Measure}
@@ -163,8 +163,8 @@ module _ (a row : List Clause) (b : Before) (s : Point) (kept : Kept) (x : ℤ) 
     (values : (i : ℕ) → each (commanded s kept (Some x)) Value i
     ≡ changed a b (Each Value i) (each (commanded s s.kept None) Value i)) where
   -- what is not the value is as without the answer
-  same : (which : Single) → Some (pos (single (commanded s kept (Some x)) which))
-      ≡ Some (pos (single (commanded s kept None) which))
+  same : (which : Single) → Some (single (commanded s kept (Some x)) which)
+      ≡ Some (single (commanded s kept None) which)
   same Steps = refl
   same Pointer = refl
   same Size = refl
@@ -174,6 +174,7 @@ module _ (a row : List Clause) (b : Before) (s : Point) (kept : Kept) (x : ℤ) 
   same LastLength = refl
   same CodeHere = refl
   same CodeBefore = refl
+  same Typed = refl
 
   through : (m : Measure) (y z : Option ℤ) → z ≡ changed row b m y → changed a b m y ≡ y
       → z ≡ changed (a ++ row) b m y

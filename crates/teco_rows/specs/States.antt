@@ -1,5 +1,5 @@
 -- States as cases see them, and when a case describes one.
-use Rattle.std.specs.Prelude.{◌≡◌, ℕ, zero, suc, ◌+◌, ℤ, pos}
+use Rattle.std.specs.Prelude.{◌≡◌, ℕ, zero, suc, ◌+◌, ℤ, pos, ◌-ℤ◌}
 use Rattle.std.specs.Prelude.{List, [], ◌∷◌, ◌++◌, length, Option, Some, None, option_map}
 use Rattle.std.specs.Prelude.{option_and_then, slice_get, ◌==◌, if◌then◌else◌}
 use Rattle.teco_base.specs.Lines.{line_place}
@@ -13,7 +13,7 @@ use Rattle.teco_model.specs.declared.arguments.Operator.{Operator}
 use Rattle.teco_model.specs.declared.flow.Loop.{Loop}
 use Rattle.teco_rows.specs.declared.measure.Single.{Single}
 use Rattle.teco_rows.specs.declared.measure.Single.TheVariants.{Steps, Pointer, Size, Held, LineEnd, LineStart}
-use Rattle.teco_rows.specs.declared.measure.Single.TheVariants.{LastLength, CodeHere, CodeBefore}
+use Rattle.teco_rows.specs.declared.measure.Single.TheVariants.{LastLength, CodeHere, CodeBefore, Typed}
 use Rattle.teco_rows.specs.declared.measure.Family.{Family}
 use Rattle.teco_rows.specs.declared.measure.Family.TheVariants.{Number, Length, Turns, PushedNumber, PushedLength}
 use Rattle.teco_rows.specs.declared.measure.Family.TheVariants.{First, Value}
@@ -24,12 +24,17 @@ use Rattle.teco_rows.specs.Rows.{Measures}
 use Rattle.teco_rows.specs.declared.row.Step.{Step}
 use Rattle.teco_rows.specs.Cases.{Fits, Carries}
 
--- What a case speaks of: how many steps were done, what is unread, how long the push-down list was at the entry, what
--- is kept, the pending arguments, and the iterations that are open in all texts, the innermost first.
+-- What there was at the entry: how many pairs were on the push-down list, and how many bytes were typed.
+pub record Origin : Type 0 where
+  pub pushes : ℕ
+  pub typed : ℕ
+
+-- What a case speaks of: how many steps were done, what is unread, what there was at the entry, what is kept, the
+-- pending arguments, and the iterations that are open in all texts, the innermost first.
 pub record Point : Type 0 where
   pub steps : ℕ
   pub unread : ℕ
-  pub below : ℕ
+  pub origin : Origin
   pub kept : Kept
   pub arguments : Arguments
   pub loops : List Loop
@@ -57,16 +62,17 @@ code_before text zero = 0
 code_before text (suc p) = code_here text p
 
 -- what a state has once
-abbrev pub single : Point → Single → ℕ
-single s Steps = s.steps
-single s Pointer = s.kept.pointer
-single s Size = length s.kept.text
-single s Held = length s.kept.text + s.unread
-single s LineEnd = line_place s.kept.text s.kept.pointer (pos 1)
-single s LineStart = line_place s.kept.text s.kept.pointer (pos 0)
-single s LastLength = s.kept.last_length
-single s CodeHere = code_here s.kept.text s.kept.pointer
-single s CodeBefore = code_before s.kept.text s.kept.pointer
+abbrev pub single : Point → Single → ℤ
+single s Steps = pos s.steps
+single s Pointer = pos s.kept.pointer
+single s Size = pos (length s.kept.text)
+single s Held = pos (length s.kept.text + s.unread)
+single s LineEnd = pos (line_place s.kept.text s.kept.pointer (pos 1))
+single s LineStart = pos (line_place s.kept.text s.kept.pointer (pos 0))
+single s LastLength = pos s.kept.last_length
+single s CodeHere = pos (code_here s.kept.text s.kept.pointer)
+single s CodeBefore = pos (code_before s.kept.text s.kept.pointer)
+single s Typed = pos (length s.kept.typed) -ℤ pos s.origin.typed
 
 -- the number and the length of the text of a pair
 abbrev pub number_of : Option Pair → Option ℤ
@@ -80,14 +86,14 @@ abbrev pub each : Point → Family → ℕ → Option ℤ
 each s Number i = number_of (slice_get s.kept.registers.pairs i)
 each s Length i = length_of (slice_get s.kept.registers.pairs i)
 each s Turns i = option_and_then (λ loop. option_map pos loop.turns) (from_end s.loops i)
-each s PushedNumber i = number_of (from_end s.kept.registers.stack (s.below + i))
-each s PushedLength i = length_of (from_end s.kept.registers.stack (s.below + i))
+each s PushedNumber i = number_of (from_end s.kept.registers.stack (s.origin.pushes + i))
+each s PushedLength i = length_of (from_end s.kept.registers.stack (s.origin.pushes + i))
 each s First i = option_and_then (λ level. level.first) (from_end (levels s.arguments) i)
 each s Value i = option_and_then (λ level. level.value) (from_end (levels s.arguments) i)
 
 -- the measures of a state
 abbrev pub measures_of : Point → Measures
-measures_of s (One which) = Some (pos (single s which))
+measures_of s (One which) = Some (single s which)
 measures_of s (Each family i) = each s family i
 
 -- the operators that wait at levels, the outermost first
@@ -99,7 +105,7 @@ operators_of (level ∷ outer) = operators_of outer ++ level.operator ∷ []
 pub record IsShape (shape : Shape) (s : Point) : Type 0 where
   pub operators : shape.operators.items ≡ operators_of (levels s.arguments)
   pub iterations : shape.iterations ≡ length s.loops
-  pub pushes : s.below + shape.pushes ≡ length s.kept.registers.stack
+  pub pushes : s.origin.pushes + shape.pushes ≡ length s.kept.registers.stack
 
 -- with these values of the symbols, and N being n, a case is true of a state
 pub record IsTrueOf (n : ℕ) (v : Valuation) (case : Case) (s : Point) : Type 0 where

@@ -30,7 +30,7 @@ pub fn measured(case: &Case, measure: Measure, alloc: Global) -> Result<Option<F
 /// The form of a measure that a state has once.
 pub fn single(case: &Case, which: Single, alloc: Global) -> Result<Form, Fault>
     ensures { IfOk result (λ form. (n : ℕ) (v : Valuation) (s : Point) → IsTrueOf n v case.now s
-        → value form n v ≡ pos (single s which)) }
+        → value form n v ≡ single s which) }
 {
     match measured(case, Measure::One(which), alloc)? {
         Some(form) => Ok(form),

@@ -23,6 +23,8 @@ pub enum Single {
     CodeHere,
     /// One more than the code of the character before the pointer, and 0 at its start.
     CodeBefore,
+    /// How many bytes were typed since the entry.
+    Typed,
 }
 
 /// A measure that there is of each register, open iteration, pushed pair or argument level.
@@ -58,7 +60,7 @@ impl Single {
     // Its number among those that a state has once.
     fn code(self) -> usize
         ensures value { result ≡ single_code self }
-        ensures within { result < 9 }
+        ensures within { result < 10 }
     {
         match self {
             Single::Steps => 0,
@@ -70,6 +72,7 @@ impl Single {
             Single::LastLength => 6,
             Single::CodeHere => 7,
             Single::CodeBefore => 8,
+            Single::Typed => 9,
         }
     }
 }
@@ -100,7 +103,7 @@ impl Measure {
     {
         match self {
             Measure::One(single) => single.code(),
-            Measure::Each(family, index) => 9 + 7 * index as usize + family.code(),
+            Measure::Each(family, index) => 10 + 7 * index as usize + family.code(),
         }
     }
 }

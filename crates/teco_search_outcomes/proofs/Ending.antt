@@ -149,7 +149,7 @@ ends_at_none (q ∷ ps) codes e = absurd (none_behind (q ∷ ps) (length (q ∷ 
 -- ---- a match that begins with another character than that at the pointer
 pub begins_later : (case : Case) (parts : List Part) (direction : Direction) (codes : Codes) (form : List Term)
     (other : Bool) → BeginsIn parts codes
-    → ((n : ℕ) (v : Valuation) (s : Point) → IsTrueOf n v case s → value form n v ≡ pos (single s CodeHere))
+    → ((n : ℕ) (v : Valuation) (s : Point) → IsTrueOf n v case s → value form n v ≡ single s CodeHere)
     → ((p : ℕ) (span : Span) → LiesTo direction p span → p ≤ span.start)
     → (other ≡ true → (n : ℕ) (v : Valuation) (code : ℕ) → All (Holds n v) case.constraints.items → IsIn codes code
     → value form n v ≢ pos code)

@@ -2,6 +2,7 @@
 use Rattle.std.proofs.Common.{◌≡◌, ℕ, zero, suc, ◌+◌, ◌==◌, ◌<◌, ◌≤◌, inl, inr, ℤ, pos, negsuc, ◌≤ℤ◌, List, [], ◌∷◌}
 use Rattle.std.proofs.Common.{◌++◌, length, Bool, true, false, is_some, not, Option, Some, None, option_map, Result, Ok}
 use Rattle.std.proofs.Common.{Err, refl, sym, ap, if◌then◌else◌, nat_le, unwrap_or, subst, ◌∙◌, arith, length-append}
+use Rattle.std.proofs.Common.{◌-ℤ◌}
 use Rattle.std.proofs.lemmas.Bool.Decides.{nat_tests}
 use Rattle.std.proofs.lemmas.Int.{ints}
 use Rattle.std.proofs.lemmas.List.{get_or_append_left}
@@ -33,7 +34,6 @@ use Rattle.teco_model.specs.Paging as paging
 use Rattle.teco_model.specs.Pattern.{Pattern, items_of, parts, pattern}
 use Rattle.teco_model.specs.Search.{kept_after, kept_at, pattern_of, search_text_of}
 use Rattle.teco_model.specs.Searching.{Miss, found_in_pages, looked, looking, miss_of, miss_where, missed, search_reply}
-use Rattle.teco_model.specs.Searching.{with_message}
 use Rattle.teco_model.specs.Searching as miss
 use Rattle.teco_model.specs.State.{Kept, Outcome, State, World}
 use Rattle.teco_model.specs.Step.{outcome_at, reply_of, step}
@@ -52,7 +52,7 @@ use Rattle.teco_rows.specs.declared.commands.Taken.{Taken}
 use Rattle.teco_rows.specs.declared.measure.Measure.TheVariants.{One}
 use Rattle.teco_rows.specs.declared.measure.Single.{Single}
 use Rattle.teco_rows.specs.declared.measure.Single.TheVariants.{Steps, Pointer, Size, Held, LineEnd, LineStart}
-use Rattle.teco_rows.specs.declared.measure.Single.TheVariants.{LastLength, CodeHere, CodeBefore}
+use Rattle.teco_rows.specs.declared.measure.Single.TheVariants.{LastLength, CodeHere, CodeBefore, Typed}
 use Rattle.teco_rows.specs.declared.outcomes.Guarded.{Guarded}
 use Rattle.teco_rows.specs.declared.outcomes.Outcomes.{Outcomes}
 use Rattle.teco_rows.specs.declared.row.Places.{Places}
@@ -60,7 +60,7 @@ use Rattle.teco_rows.specs.Cases.{Agree, value_if}
 use Rattle.teco_rows.specs.Commands.{IsTaken}
 use Rattle.teco_rows.specs.Foretold.{Begins, Describe, IsGuarded, Succeeds}
 use Rattle.teco_rows.specs.Rows.{changed}
-use Rattle.teco_rows.specs.States.{Point, IsTrueOf, Describes, single}
+use Rattle.teco_rows.specs.States.{Origin, Point, IsTrueOf, Describes, single}
 use Rattle.teco_rows.proofs.Characters.{with_codes}
 use Rattle.teco_rows.proofs.Describing.{among}
 use Rattle.teco_rows.proofs.Lines.{line_begin, line_end}
@@ -73,6 +73,7 @@ use Rattle.teco_search_outcomes.specs.declared.searches.Direction.TheVariants.{A
 use Rattle.teco_search_outcomes.specs.PageSearches.{Comes, HasMore, IsLaterPage, IsPositive}
 use Rattle.teco_search_outcomes.specs.PageSearches.{IsThrough, LongLaw}
 use Rattle.teco_search_outcomes.specs.Searches.{Ends, HasRoom, IsAsked, IsFoundBy, IsOf, IsReplacedBy}
+use Rattle.teco_search_outcomes.specs.Searches.{warned}
 use Rattle.teco_search_outcomes.proofs.Matching.{match_lies}
 use Rattle.teco_search_outcomes.proofs.Paging.{behind_there, fits, got, split, unread_there}
 use Rattle.teco_search_outcomes.proofs.Seeking.{Keeps, left_by, nonempty, own_text}
@@ -217,10 +218,10 @@ is_later_page case made changes n v s pages kept rest true_of h =
       at : (k : ℤ) → line_place kept.text kept.pointer k ≡ line_place kept.text 0 k
       at k = ap (λ p. line_place kept.text p k) h.pointer
 
-      singles : (here : Places) (which : Single) → Some (pos (single (with_steps s (s.steps + pages) kept rest) which))
+      singles : (here : Places) (which : Single) → Some (single (with_steps s (s.steps + pages) kept rest) which)
           ≡ changed LATER_PAGE (read_given [] n v s (with_codes kept.text kept.pointer (page_numbers pages kept rest))
           here) (One which)
-          (Some (pos (single s which)))
+          (Some (single s which))
       singles here Steps = ap Some (omega (arith, ints))
       singles here Pointer = ap Some (omega (arith, ints, h.pointer))
       singles here Size = ap Some (omega (arith, ints))
@@ -230,6 +231,7 @@ is_later_page case made changes n v s pages kept rest true_of h =
       singles here LastLength = ap (λ k. Some (pos k)) h.last
       singles here CodeHere = ap Some (omega (arith, ints))
       singles here CodeBefore = ap Some (omega (arith, ints))
+      singles here Typed = ap (λ x. Some (pos (length x) -ℤ pos s.origin.typed)) h.typed
 
 pub is_through : (case made : Case) → IsChangedFrom case THROUGH [] made → IsThrough case made
 is_through case made changes n v s pages kept rest true_of h =
@@ -251,9 +253,9 @@ is_through case made changes n v s pages kept rest true_of h =
       at : (k : ℤ) → line_place kept.text kept.pointer k ≡ line_place [] 0 k
       at k = ap (λ t. line_place t kept.pointer k) h.text ∙ ap (λ p. line_place [] p k) h.pointer
 
-      singles : (here : Places) (which : Single) → Some (pos (single (with_steps s (s.steps + pages) kept rest) which))
+      singles : (here : Places) (which : Single) → Some (single (with_steps s (s.steps + pages) kept rest) which)
           ≡ changed THROUGH (read_given [] n v s (with_codes kept.text kept.pointer (λ i. pos pages)) here) (One which)
-          (Some (pos (single s which)))
+          (Some (single s which))
       singles here Steps = ap Some (omega (arith, ints))
       singles here Pointer = ap Some (omega (arith, ints, h.pointer))
       singles here Size = ap Some (omega (arith, ints, empty))
@@ -263,6 +265,7 @@ is_through case made changes n v s pages kept rest true_of h =
       singles here LastLength = ap (λ k. Some (pos k)) h.last
       singles here CodeHere = ap Some (omega (arith, ints))
       singles here CodeBefore = ap Some (omega (arith, ints))
+      singles here Typed = ap (λ x. Some (pos (length x) -ℤ pos s.origin.typed)) h.typed
 
 -- what is found on a later page is kept, and a case describes the state with it
 abbrev pub KeepsLater : Search → Element → List Part → Case → Case → Case → List Guarded → Type 0
@@ -277,7 +280,8 @@ keeps_found_later e case on later ps guarded by n v t span d whole holds of =
     let kept = kept_at span t.kept in (
       kept,
       refl,
-      by n d.0 t span kept d.2 whole of (record { text = refl; pointer = refl; registers = refl; last = refl }),
+      by n d.0 t span kept d.2 whole of
+          (record { text = refl; pointer = refl; registers = refl; last = refl; typed = refl }),
     )
 
 pub keeps_replaced_later : (e : Element) (case on later : Case) (ps : List Part) (guard : Guarded)
@@ -292,7 +296,8 @@ keeps_replaced_later e case on later ps guard guarded more one by room n v t spa
       pointer = span.start + length e.second;
       last_length = length e.second;
     } in
-    let made = by n d.0 t span kept d.2 whole of (record { text = refl; pointer = refl; registers = refl; last = refl })
+    let made = by n d.0 t span kept d.2 whole of
+    (record { text = refl; pointer = refl; registers = refl; last = refl; typed = refl })
     in
     let agree : Agree case.symbols v made.0 = λ symbol less. d.1 symbol less ∙ made.1 symbol (omega arith) in
     let short : length new ≤ LIMIT = room n v (with_kept t kept) (made.0, agree, made.2) (one n v holds) in
@@ -323,7 +328,7 @@ more_here true later here gone old new more ends = record {
 more_here false later here gone old new more ends = record {
   on = λ n s d. kept_case n old new more.case _ more.cases (ends.on n s d);
   out = λ n s loop outer d h.
-      subst (Any (λ made. Describes n made (turned_point s no_arguments outer))) (sym more.away)
+      subst (Any (λ made. Describes n made (turned_point (warned s) no_arguments outer))) (sym more.away)
       (ends.out n s loop outer d h);
 }
 
@@ -336,7 +341,7 @@ more_later true later here gone old new more ends = record {
 more_later false later here gone old new more ends = record {
   on = λ n s d. among n new more.case old.cases.items [] _ more.cases (more.told n d.0 s d.1);
   out = λ n s loop outer d h.
-      subst (Any (λ made. Describes n made (turned_point s no_arguments outer))) (sym more.away)
+      subst (Any (λ made. Describes n made (turned_point (warned s) no_arguments outer))) (sym more.away)
       (ends.out n s loop outer d h);
 }
 
@@ -365,6 +370,7 @@ record Onward (u pages : ℕ) (s : State) (e : Element) (world : World) : Type 0
   left : pages + unread_in world.files.input ≤ u
   registers : world.kept.registers ≡ s.world.kept.registers
   last : world.kept.last_length ≡ s.world.kept.last_length
+  typed : world.kept.typed ≡ s.world.kept.typed
   seeks : world.kept.search_text ≡ e.text
   whole : IsWhole world.kept
   bytes : AreBytes (unread world.files)
@@ -387,6 +393,7 @@ module _ (u pages : ℕ) (s : State) (e : Element) (world : World) (on : Onward 
     left = omega (arith, there, behind, on.left, (split (unread world.files)).less some);
     registers = on.registers;
     last = on.last;
+    typed = on.typed;
     seeks = on.seeks;
     whole = record {
       inside = omega arith;
@@ -418,12 +425,12 @@ module _ (x : Search) (answering : Bool) (e : Element) (taken : Taken) (case on 
     (later_page : IsLaterPage case on) (passes : IsThrough case gone)
     (meets : Keeps x e ps Ahead case here all.guarded.items)
     (meets_later : KeepsLater x e ps case on later all.guarded.items) (ends : Ends answering here gone all)
-    (ends_later : Ends answering later gone all) (n : ℕ) (v : Valuation) (s : State) (steps below : ℕ)
+    (ends_later : Ends answering later gone all) (n : ℕ) (v : Valuation) (s : State) (steps : ℕ) (origin : Origin)
     (reads : element_at s.frames.running.text s.frames.running.place ≡ Ok (Some e))
     (asked : IsAsked answering e s.frames.running) (starts : s.left ≡ None)
-    (begins : Begins n v case all (point_of steps below s)) where
+    (begins : Begins n v case all (point_of steps origin s)) where
   abbrev point : Point
-  point = point_of steps below s
+  point = point_of steps origin s
 
   abbrev U : ℕ
   U = unread_in s.world.files.input
@@ -444,7 +451,7 @@ module _ (x : Search) (answering : Bool) (e : Element) (taken : Taken) (case on 
   -- so many pages later, and so many steps more, a case describes the state behind the last
   abbrev Q : ℕ → Outcome → Type 0
   Q pages outcome =
-      (more total : ℕ) × (total ≡ pages + more) × Comes more (Goes n all e (steps + total) below s) s outcome
+      (more total : ℕ) × (total ≡ pages + more) × Comes more (Goes n all e (steps + total) origin s) s outcome
 
   abbrev settled : Looked → Outcome
   settled look = going.settle e s (Ok (looked m left_arguments look))
@@ -459,10 +466,10 @@ module _ (x : Search) (answering : Bool) (e : Element) (taken : Taken) (case on 
   met_goes : (b : Bool) → IsAsked b e s.frames.running → (found : Case) → Ends b found gone all → (k : ℕ)
       (world : World)
       → Describes n found (with_steps point k world.kept (unread_in world.files.input))
-      → StepsTo (Goes n all e k below s)
+      → StepsTo (Goes n all e k origin s)
       (going.settle e s (Ok (miss.met m None left_arguments world)))
   met_goes true a found h k world d =
-      subst (λ m. StepsTo (Goes n all e k below s) (going.settle e s (Ok (miss.met m None left_arguments world))))
+      subst (λ m. StepsTo (Goes n all e k origin s) (going.settle e s (Ok (miss.met m None left_arguments world))))
       (sym (ap (λ b. miss_where b e s.frames.running) a))
       (inl (record {
         described = h.yes n (with_steps point k world.kept (unread_in world.files.input)) d;
@@ -471,7 +478,7 @@ module _ (x : Search) (answering : Bool) (e : Element) (taken : Taken) (case on 
       }))
   met_goes false a found h k world d =
       let l = nonempty s.frames.running.loops a.1 in
-      subst (λ m. StepsTo (Goes n all e k below s) (going.settle e s (Ok (miss.met m None left_arguments world))))
+      subst (λ m. StepsTo (Goes n all e k origin s) (going.settle e s (Ok (miss.met m None left_arguments world))))
       (sym (left_by x e s.frames.running l.0 l.1 a.2 is a.0 l.2 a.3))
       (inl (record {
         described = h.on n (with_steps point k world.kept (unread_in world.files.input)) d;
@@ -482,9 +489,9 @@ module _ (x : Search) (answering : Bool) (e : Element) (taken : Taken) (case on 
   -- no page is left
   emptied : (pages : ℕ) (world : World) (kept : Kept) → Onward U pages s e world → length (unread world.files) ≡ 0
       → kept.text ≡ [] → kept.pointer ≡ 0 → kept.registers ≡ world.kept.registers
-      → kept.last_length ≡ world.kept.last_length
+      → kept.last_length ≡ world.kept.last_length → kept.typed ≡ world.kept.typed
       → Describes n gone (with_steps point (steps + pages) kept (unread_in world.files.input))
-  emptied pages world kept o none text pointer registers last =
+  emptied pages world kept o none text pointer registers last typed =
       passes n v point pages kept (unread_in world.files.input) begins.true_of (record {
         left = omega (arith, o.left);
         none = unread_there world.files.input ∙ none;
@@ -492,26 +499,27 @@ module _ (x : Search) (answering : Bool) (e : Element) (taken : Taken) (case on 
         pointer = pointer;
         registers = registers ∙ o.registers;
         last = last ∙ o.last;
+        typed = typed ∙ o.typed;
       })
 
   through_goes : (b : Bool) → IsAsked b e s.frames.running → (found : Case) → Ends b found gone all → (pages : ℕ)
       (world : World) → Onward U pages s e world → length (unread world.files) ≡ 0
-      → StepsTo (Goes n all e (steps + pages) below s) (settled (Through world))
+      → StepsTo (Goes n all e (steps + pages) origin s) (settled (Through world))
   through_goes true a found h pages world o none =
       let kept = (looked_through world).kept in
-      subst (λ m. StepsTo (Goes n all e (steps + pages) below s)
+      subst (λ m. StepsTo (Goes n all e (steps + pages) origin s)
       (going.settle e s (Ok (missed m None left_arguments world (looked_through world)))))
       (sym (ap (λ b. miss_where b e s.frames.running) a))
       (inl (record {
         described = h.no n (with_steps point (steps + pages) kept (unread_in world.files.input))
-            (emptied pages world kept o none refl refl refl refl);
+            (emptied pages world kept o none refl refl refl refl refl);
         there = refl;
         left = sym starts;
       }))
   through_goes false a found h pages world o none =
-      let kept = (with_message (looked_through world)).kept in
+      let kept = (looked_through world).kept in
       let l = nonempty s.frames.running.loops a.1 in
-      subst (λ m. StepsTo (Goes n all e (steps + pages) below s)
+      subst (λ m. StepsTo (Goes n all e (steps + pages) origin s)
       (going.settle e s (Ok (missed m None left_arguments world (looked_through world)))))
       (sym (left_by x e s.frames.running l.0 l.1 a.2 is a.0 l.2 a.3))
       (inr (
@@ -519,7 +527,7 @@ module _ (x : Search) (answering : Bool) (e : Element) (taken : Taken) (case on 
         ap (λ k. place_away k e s.frames.running) is ∙ a.3,
         record {
           described = h.out n (with_steps point (steps + pages) kept (unread_in world.files.input)) l.0
-              (l.1 ++ loops_in s.frames.callers) (emptied pages world kept o none refl refl refl refl)
+              (l.1 ++ loops_in s.frames.callers) (emptied pages world kept o none refl refl refl refl refl)
               (ap (λ ls. ls ++ loops_in s.frames.callers) l.2);
           there = refl;
           left = sym starts;
@@ -568,6 +576,7 @@ module _ (x : Search) (answering : Bool) (e : Element) (taken : Taken) (case on 
         pointer = at;
         registers = o.registers;
         last = o.last;
+        typed = o.typed;
       }) in
       let k = meets_later n v t span d o.whole begins.guarded
       (record { exact = not (is_zero world.kept.mode); matches = matches; lies = from }) in (
@@ -621,6 +630,7 @@ module _ (x : Search) (answering : Bool) (e : Element) (taken : Taken) (case on 
       left = omega arith;
       registers = refl;
       last = refl;
+      typed = refl;
       seeks = own_text e.text s.world.kept.search_text some;
       whole = record {
         inside = begins.whole.inside;
@@ -649,7 +659,7 @@ module _ (x : Search) (answering : Bool) (e : Element) (taken : Taken) (case on 
             0,
             0,
             omega arith,
-            subst (λ j. StepsTo (Goes n all e j below s) (settled (Met (record seeking { kept = k.0 }))))
+            subst (λ j. StepsTo (Goes n all e j origin s) (settled (Met (record seeking { kept = k.0 }))))
                 (omega arith)
                 (met_goes answering asked here ends steps (record seeking { kept = k.0 }) k.2),
           ),
@@ -681,14 +691,14 @@ module _ (x : Search) (answering : Bool) (e : Element) (taken : Taken) (case on 
         }) s.world))) (none_first taken.first n v first)
         ∙ ap (λ r. going.settle e s (looking m left_arguments (r >>= (λ k. look_for x e k seeking)))) count
 
-    pub searched : (more : ℕ) × Comes more (Goes n all e (steps + more) below s) s (step s)
+    pub searched : (more : ℕ) × Comes more (Goes n all e (steps + more) origin s) s (step s)
     searched =
         let count = counted (unwrap_or (value_if taken.value n v) (pos 1)) (positive n v begins.conditions) in
         let q = first_step count.0 in
         let same : q.1 ≡ q.0 = omega (arith, q.2) in (
           q.0,
-          subst (λ k. Comes q.0 (Goes n all e (steps + k) below s) s (step s)) same
-              (subst (Comes q.0 (Goes n all e (steps + q.1) below s) s) (sym (begins_is count.0 count.1)) q.3),
+          subst (λ k. Comes q.0 (Goes n all e (steps + k) origin s) s (step s)) same
+              (subst (Comes q.0 (Goes n all e (steps + q.1) origin s) s) (sym (begins_is count.0 count.1)) q.3),
         )
 
 pub pages_law : (x : Search) (answering : Bool) (e : Element) (taken : Taken) (case on here later gone : Case)
@@ -703,7 +713,7 @@ pub pages_law : (x : Search) (answering : Bool) (e : Element) (taken : Taken) (c
     → KeepsLater x e ps case on later all.guarded.items → Ends answering here gone all → Ends answering later gone all
     → LongLaw answering e case all
 pages_law x answering e taken case on here later gone all ps replies is takes first some read positive room later_page
-    passes meets meets_later ends ends_later n v s steps below reads asked starts open' whole begins =
+    passes meets meets_later ends ends_later n v s steps origin reads asked starts open' whole begins =
     searched x answering e taken case on here later gone all ps replies is takes first some read positive room
-    later_page passes meets meets_later ends ends_later n v s steps below reads asked starts begins
+    later_page passes meets meets_later ends ends_later n v s steps origin reads asked starts begins
     (input_bytes s.world.files.input whole.files.input) open'

@@ -42,14 +42,14 @@ use Rattle.teco_rows.specs.declared.commands.Taken.{Taken}
 use Rattle.teco_rows.specs.declared.measure.Measure.TheVariants.{One}
 use Rattle.teco_rows.specs.declared.measure.Single.{Single}
 use Rattle.teco_rows.specs.declared.measure.Single.TheVariants.{Steps, Pointer, Size, Held, LineEnd, LineStart}
-use Rattle.teco_rows.specs.declared.measure.Single.TheVariants.{LastLength, CodeHere, CodeBefore}
+use Rattle.teco_rows.specs.declared.measure.Single.TheVariants.{LastLength, CodeHere, CodeBefore, Typed}
 use Rattle.teco_rows.specs.declared.outcomes.Outcomes.{Outcomes}
 use Rattle.teco_rows.specs.declared.row.Places.{Places}
 use Rattle.teco_rows.specs.Cases.{value_if}
 use Rattle.teco_rows.specs.Commands.{IsTaken, commanded, taken_by}
 use Rattle.teco_rows.specs.Foretold.{Describe, IsOne, Succeeds}
 use Rattle.teco_rows.specs.Rows.{changed}
-use Rattle.teco_rows.specs.States.{Point, IsTrueOf, Describes, single, code_here, code_before}
+use Rattle.teco_rows.specs.States.{Origin, Point, IsTrueOf, Describes, single, code_here, code_before}
 use Rattle.teco_rows.proofs.Characters.{with_codes}
 use Rattle.teco_rows.proofs.Describing.{among}
 use Rattle.teco_rows.proofs.Giving.{describes_one}
@@ -157,9 +157,9 @@ module _ (s : Point) (bytes : List ℕ) (same : s.unread ≡ length bytes) where
         parts : IsSplit (length (before_form_feed bytes)) (length (behind_form_feed bytes)) (length bytes)
         parts = split bytes
 
-        singles : (here : Places) (which : Single) → Some (pos (single (with_page s kept rest) which))
+        singles : (here : Places) (which : Single) → Some (single (with_page s kept rest) which)
             ≡ changed TURNED (read_given [] n v s (with_codes kept.text kept.pointer (unknowns_of bytes)) here)
-            (One which) (Some (pos (single s which)))
+            (One which) (Some (single s which))
         singles here Steps = refl
         singles here Pointer = ap Some (omega (arith, ints))
         singles here Size = ap Some (omega (arith, ints))
@@ -169,6 +169,7 @@ module _ (s : Point) (bytes : List ℕ) (same : s.unread ≡ length bytes) where
         singles here LastLength = refl
         singles here CodeHere = ap Some (omega (arith, ints))
         singles here CodeBefore = ap Some (omega (arith, ints))
+        singles here Typed = refl
 
   emptied_describes : (n : ℕ) (v : Valuation) (case made : Case) → length bytes ≡ 0 → IsChanged case EMPTIED [] made
       → IsTrueOf n v case s → Describes n made (with_next_page s bytes)
@@ -180,9 +181,9 @@ module _ (s : Point) (bytes : List ℕ) (same : s.unread ≡ length bytes) where
         parts : IsSplit (length (before_form_feed bytes)) (length (behind_form_feed bytes)) (length bytes)
         parts = split bytes
 
-        singles : (here : Places) (which : Single) → Some (pos (single (with_page s kept rest) which))
+        singles : (here : Places) (which : Single) → Some (single (with_page s kept rest) which)
             ≡ changed EMPTIED (read_given [] n v s (with_codes kept.text kept.pointer (λ i. pos 0)) here) (One which)
-            (Some (pos (single s which)))
+            (Some (single s which))
         singles here Steps = refl
         singles here Pointer = ap Some (omega (arith, ints))
         singles here Size = ap Some (omega (arith, ints, parts.within, none))
@@ -192,6 +193,7 @@ module _ (s : Point) (bytes : List ℕ) (same : s.unread ≡ length bytes) where
         singles here LastLength = refl
         singles here CodeHere = ap Some (omega (arith, ints))
         singles here CodeBefore = ap Some (omega (arith, ints))
+        singles here Typed = refl
 
 pub turns_page : (case emptied turned none some : Case) (cases : List Case) → IsChangedFrom case EMPTIED [] emptied
     → IsChangedFrom case TURNED [] turned → IsTold emptied None none → IsTold turned None some
@@ -234,9 +236,9 @@ fits text h =
     let few : nat_le (length text) LIMIT ≡ true = grind (arith, nat_tests) in
     ap (λ b. if b then Ok text else Err code.Ful) few
 
-module _ (case : Case) (all : Outcomes) (n : ℕ) (v : Valuation) (s : State) (steps below : ℕ) where
+module _ (case : Case) (all : Outcomes) (n : ℕ) (v : Valuation) (s : State) (steps : ℕ) (origin : Origin) where
   abbrev point : Point
-  point = point_of steps below s
+  point = point_of steps origin s
 
   abbrev bytes : List ℕ
   bytes = unread s.world.files
@@ -272,23 +274,23 @@ HasRoomForPage case all =
 
 pub writes_page : (case : Case) (all : Outcomes) → TurnsPage case all.cases.items → HasRoomForPage case all
     → (taken : Taken) → IsOnce taken → Writes page_turned taken case all
-writes_page case all turns room taken is n v s steps below open' begins =
-    subst (Succeeds (IsDoneAtOnce n all (point_of steps below s)))
+writes_page case all turns room taken is n v s steps origin open' begins =
+    subst (Succeeds (IsDoneAtOnce n all (point_of steps origin s)))
     (sym (once page_turned (value_if taken.first n v) (value_if taken.value n v) s.world _
     (ap (λ o. value_if o n v) is.first) (is.count n v) open'
     (ap (λ r. r >>= (λ turned. Ok (world_after_writing (written_page (page_of_buffer s.world.kept)) turned)))
-    (next_is case all n v s steps below (room n v (point_of steps below s) begins.true_of begins.conditions)))))
-    (record { left = refl; described = next_described case all n v s steps below turns begins.true_of })
+    (next_is case all n v s steps origin (room n v (point_of steps origin s) begins.true_of begins.conditions)))))
+    (record { left = refl; described = next_described case all n v s steps origin turns begins.true_of })
 
 pub writes_buffer : (case after : Case) (wanted : List (List Term)) (all : Outcomes) → IsTold case None after
     → IsOne wanted after all → (taken : Taken) → IsOnce taken → Writes page_written taken case all
-writes_buffer case after wanted all told one taken is n v s steps below open' begins =
-    subst (Succeeds (IsDoneAtOnce n all (point_of steps below s)))
+writes_buffer case after wanted all told one taken is n v s steps origin open' begins =
+    subst (Succeeds (IsDoneAtOnce n all (point_of steps origin s)))
     (sym (once page_written (value_if taken.first n v) (value_if taken.value n v) s.world _
     (ap (λ o. value_if o n v) is.first) (is.count n v) open' refl))
     (record {
       left = refl;
-      described = describes_one n wanted after all _ one (told n v (point_of steps below s) begins.true_of);
+      described = describes_one n wanted after all _ one (told n v (point_of steps origin s) begins.true_of);
     })
 
 -- a range is written, whatever is done page by page
@@ -298,8 +300,8 @@ pub writes_range : (case after : Case) (first second : List Term) (wanted : List
     → IsPlace s.kept.text (value first n v) × IsPlace s.kept.text (value second n v))
     → (one_page : World → Result World Code) (taken : Taken) → taken.first ≡ Some first → taken.value ≡ Some second
     → Writes one_page taken case all
-writes_range case after first second wanted all told one placed one_page taken f g n v s steps below open' begins =
-    let point = point_of steps below s in
+writes_range case after first second wanted all told one placed one_page taken f g n v s steps origin open' begins =
+    let point = point_of steps origin s in
     let k = placed n v point begins.true_of begins.conditions in
     let text = s.world.kept.text in
     let P = Succeeds (IsDoneAtOnce n all point) in
@@ -333,22 +335,22 @@ pub pages_law : (p : Page) (one_page : World → Result World Code) (e : Element
     → ((files : Files) → IsOpenFor p files → is_some files.output ≡ true) → e.kind ≡ kind.Page p
     → IsTaken case taken → Writes one_page taken case all → PageLaw p e case all
 unfolding step reply_of
-pages_law p one_page e case taken all replies opens is takes writes n v s steps below ready begins =
-    let point = point_of steps below s in
-    subst (StepsTo (Goes n all e steps below s))
+pages_law p one_page e case taken all replies opens is takes writes n v s steps origin ready begins =
+    let point = point_of steps origin s in
+    subst (StepsTo (Goes n all e steps origin s))
     (sym (ap (outcome_at s) ready.stands.reads ∙ ap (λ k. going.settle e s (reply_of k e s)) is
     ∙ ap (going.settle e s) (replies s.left s.arguments s.world)
     ∙ ap (λ l. going.settle e s (pages_reply one_page l s.arguments s.world)) ready.begins
     ∙ ap (λ a. going.settle e s (a >>= (λ taken. in_pages (levels_after_taking s.arguments)
     (pages one_page taken s.world)))) (takes n v point begins.true_of)))
     (by (pages one_page (taken_by taken n v) s.world)
-    (writes n v s steps below (opens s.world.files ready.file) begins)) where
-      by : (r : Result Progress Code) → Succeeds (IsDoneAtOnce n all (point_of steps below s)) r
-          → StepsTo (Goes n all e steps below s)
+    (writes n v s steps origin (opens s.world.files ready.file) begins)) where
+      by : (r : Result Progress Code) → Succeeds (IsDoneAtOnce n all (point_of steps origin s)) r
+          → StepsTo (Goes n all e steps origin s)
           (going.settle e s (in_pages (levels_after_taking s.arguments) r))
       by (Err c) d = absurd d
       by (Ok progress) d =
-          subst (λ k. StepsTo (Goes n all e steps below s)
+          subst (λ k. StepsTo (Goes n all e steps origin s)
           (going.settle e s (Ok (while_left k (levels_after_taking s.arguments) progress.world)))) (sym d.left)
           (inl (record { described = d.described; there = refl; left = sym ready.begins }))
 
@@ -452,8 +454,8 @@ module _ (s : Point) (c : ℕ) (rest : List ℕ) (whole : IsWhole s.kept) (same 
         end : line_place (s.kept.text ++ added) s.kept.pointer (pos 1) ≤ length (s.kept.text ++ added)
         end = (line_end (s.kept.text ++ added) s.kept.pointer (omega (arith, whole.inside, long))).within
 
-        singles : (here : Places) (which : Single) → Some (pos (single (with_page s kept_longer behind_it) which))
-            ≡ changed APPENDED (read_given [] n v s unknown here) (One which) (Some (pos (single s which)))
+        singles : (here : Places) (which : Single) → Some (single (with_page s kept_longer behind_it) which)
+            ≡ changed APPENDED (read_given [] n v s unknown here) (One which) (Some (single s which))
         singles here Steps = refl
         singles here Pointer = refl
         singles here Size = ap Some (omega (arith, ints, long))
@@ -463,9 +465,10 @@ module _ (s : Point) (c : ℕ) (rest : List ℕ) (whole : IsWhole s.kept) (same 
         singles here LastLength = refl
         singles here CodeHere = ap Some (omega (arith, ints))
         singles here CodeBefore = ap (λ x. Some (pos x)) (before_joined s.kept.text added s.kept.pointer whole.inside)
+        singles here Typed = refl
 
 same_single : (s : Point) (which : Single)
-    → Some (pos (single (with_page s s.kept s.unread) which)) ≡ Some (pos (single s which))
+    → Some (single (with_page s s.kept s.unread) which) ≡ Some (single s which)
 same_single s Steps = refl
 same_single s Pointer = refl
 same_single s Size = refl
@@ -475,6 +478,7 @@ same_single s LineStart = refl
 same_single s LastLength = refl
 same_single s CodeHere = refl
 same_single s CodeBefore = refl
+same_single s Typed = refl
 
 stays_describes : (s : Point) (n : ℕ) (v : Valuation) (case made : Case) → s.unread ≡ 0 → IsChanged case STAYS [] made
     → IsTrueOf n v case s → Describes n made (with_page s s.kept s.unread)
@@ -495,27 +499,27 @@ pub appends_page : (case stays longer none some : Case) (all : Outcomes) → IsC
     → ((n : ℕ) (v : Valuation) (s : Point) → IsTrueOf n v case s → All (linear.Holds n v) all.conditions.items
     → length s.kept.text + s.unread ≤ LIMIT)
     → Reads append case all
-appends_page case stays longer none some all stay add told_none told_some is room n v s steps below open' begins =
+appends_page case stays longer none some all stay add told_none told_some is room n v s steps origin open' begins =
     subst P (sym (append_is s.world.files.input s.world open')) (by (unread s.world.files) refl) where
       point : Point
-      point = point_of steps below s
+      point = point_of steps origin s
 
       P : Result World Code → Type 0
-      P r = Succeeds (IsPaged n all (point_of steps below s)) r
+      P r = Succeeds (IsPaged n all (point_of steps origin s)) r
 
-      same : (point_of steps below s).unread ≡ length (unread s.world.files)
+      same : (point_of steps origin s).unread ≡ length (unread s.world.files)
       same = unread_there s.world.files.input
 
-      fit : length s.world.kept.text + (point_of steps below s).unread ≤ LIMIT
-      fit = room n v (point_of steps below s) begins.true_of begins.conditions
+      fit : length s.world.kept.text + (point_of steps origin s).unread ≤ LIMIT
+      fit = room n v (point_of steps origin s) begins.true_of begins.conditions
 
       by : (bytes : List ℕ) → unread s.world.files ≡ bytes → P (appended bytes s.world)
       by [] e =
-          let d = stays_describes (point_of steps below s) n v case stays (same ∙ ap length e)
+          let d = stays_describes (point_of steps origin s) n v case stays (same ∙ ap length e)
           (changes_plainly case stays STAYS [] stay) begins.true_of in
-          among n all none [] (some ∷ []) _ is (told_none n d.0 (point_of steps below s) d.1)
+          among n all none [] (some ∷ []) _ is (told_none n d.0 (point_of steps origin s) d.1)
       by (c ∷ rest) e =
-          let p = point_of steps below s in
+          let p = point_of steps origin s in
           let u : p.unread ≡ suc (length rest) = same ∙ ap length e in
           let added = before_form_feed (c ∷ rest) in
           let kept : Kept = kept_longer p c rest begins.whole u in
@@ -546,13 +550,13 @@ pub yanks_page : (case : Case) (all : Outcomes) → TurnsPage case all.cases.ite
     → ((n : ℕ) (v : Valuation) (s : Point) → IsTrueOf n v case s → All (linear.Holds n v) all.conditions.items
     → length s.kept.text ≤ 0)
     → Reads yank case all
-yanks_page case all turns room empty n v s steps below open' begins =
-    let point = point_of steps below s in
+yanks_page case all turns room empty n v s steps origin open' begins =
+    let point = point_of steps origin s in
     subst (Succeeds (IsPaged n all point))
     (sym (yank_is s.world.files.input s.world.kept.text s.world.files.output s.world open'
     (empty n v point begins.true_of begins.conditions)
-    ∙ next_is case all n v s steps below (room n v point begins.true_of begins.conditions)))
-    (next_described case all n v s steps below turns begins.true_of)
+    ∙ next_is case all n v s steps origin (room n v point begins.true_of begins.conditions)))
+    (next_described case all n v s steps origin turns begins.true_of)
 
 pub reads_law : (p : Page) (done : World → Result World Code)
     (answer : model.Taken → Option ℕ → Arguments → World → Result going.Reply Code) (e : Element) (case : Case)
@@ -565,17 +569,17 @@ pub reads_law : (p : Page) (done : World → Result World Code)
     → ((files : Files) → IsOpenFor p files → is_some files.input ≡ true) → e.kind ≡ kind.Page p
     → IsTaken case taken → Reads done case all → PageLaw p e case all
 unfolding step reply_of
-reads_law p done answer e case taken all replies comes opens is takes reads n v s steps below ready begins =
-    let point = point_of steps below s in
-    subst (StepsTo (Goes n all e steps below s))
+reads_law p done answer e case taken all replies comes opens is takes reads n v s steps origin ready begins =
+    let point = point_of steps origin s in
+    subst (StepsTo (Goes n all e steps origin s))
     (sym (ap (outcome_at s) ready.stands.reads ∙ ap (λ k. going.settle e s (reply_of k e s)) is
     ∙ ap (going.settle e s) (replies s.left s.arguments s.world)
     ∙ ap (λ a. going.settle e s (a >>= (λ taken. answer taken s.left (levels_after_taking s.arguments) s.world)))
     (takes n v point begins.true_of)
     ∙ ap (going.settle e s) (comes n v s.left (levels_after_taking s.arguments) s.world)))
-    (by (done s.world) (reads n v s steps below (opens s.world.files ready.file) begins)) where
-      by : (r : Result World Code) → Succeeds (IsPaged n all (point_of steps below s)) r
-          → StepsTo (Goes n all e steps below s)
+    (by (done s.world) (reads n v s steps origin (opens s.world.files ready.file) begins)) where
+      by : (r : Result World Code) → Succeeds (IsPaged n all (point_of steps origin s)) r
+          → StepsTo (Goes n all e steps origin s)
           (going.settle e s (going_on s.left (levels_after_taking s.arguments) r))
       by (Err c) d = absurd d
       by (Ok world) d = inl (record { described = d; there = refl; left = refl })

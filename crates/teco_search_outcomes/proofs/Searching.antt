@@ -1,7 +1,7 @@
 -- What is found, and what is missed.
 use Rattle.std.proofs.Common.{◌≡◌, ℕ, zero, suc, ◌+◌, ◌-◌, ◌<◌, ◌≤◌, inl, inr, ℤ, pos, List, [], ◌∷◌, ◌++◌, length}
 use Rattle.std.proofs.Common.{Bool, true, false, Option, Some, if◌then◌else◌, slice_get, slice_index_or, take, drop}
-use Rattle.std.proofs.Common.{refl, sym, ap, subst, ◌∙◌, arith, ◌-ℤ◌}
+use Rattle.std.proofs.Common.{refl, sym, ap, subst, ◌∙◌, arith, ◌-ℤ◌, length-append}
 use Rattle.std.proofs.lemmas.Int.{ints}
 use Rattle.std.proofs.lemmas.List.{append-nil, append_assoc}
 use Rattle.std.specs.List.{All}
@@ -11,7 +11,9 @@ use Rattle.teco_base.specs.declared.TheConstants.{LIMIT}
 use Rattle.teco_linear.specs.declared.term.Term.{Term}
 use Rattle.teco_linear.specs.Form.{Valuation, value}
 use Rattle.teco_linear.specs.Implied as linear
+use Rattle.teco_model.specs.Searching.{search_message}
 use Rattle.teco_model.specs.State.{Kept}
+use Rattle.teco_model.specs.Typing.{typing_of}
 use Rattle.teco_model.specs.declared.pattern.Item.{Item}
 use Rattle.teco_model.specs.declared.pattern.Part.{Part}
 use Rattle.teco_model.specs.declared.pattern.Span.{Span}
@@ -22,8 +24,9 @@ use Rattle.teco_rows.specs.declared.measure.Family.TheVariants.{Number, Length, 
 use Rattle.teco_rows.specs.declared.measure.Family.TheVariants.{First, Value}
 use Rattle.teco_rows.specs.declared.measure.Measure.{Measure}
 use Rattle.teco_rows.specs.declared.measure.Measure.TheVariants.{One, Each}
+use Rattle.teco_rows.specs.declared.measure.Single.{Single}
 use Rattle.teco_rows.specs.declared.measure.Single.TheVariants.{Steps, Pointer, Size, Held, LineEnd, LineStart}
-use Rattle.teco_rows.specs.declared.measure.Single.TheVariants.{LastLength, CodeHere, CodeBefore}
+use Rattle.teco_rows.specs.declared.measure.Single.TheVariants.{LastLength, CodeHere, CodeBefore, Typed}
 use Rattle.teco_rows.specs.declared.row.Clause.{Clause}
 use Rattle.teco_rows.specs.declared.row.Clause.TheVariants.{Sets, Drops, Wants}
 use Rattle.teco_rows.specs.declared.row.Places.{Places}
@@ -37,10 +40,11 @@ use Rattle.teco_search_outcomes.specs.declared.searches.TheConstants.{EXACT, FOU
 use Rattle.teco_search_outcomes.specs.declared.searches.TheConstants.{ENDS_IN, ENDS_WITH, LATER}
 use Rattle.teco_search_outcomes.specs.declared.patterns.Codes.{Codes}
 use Rattle.teco_search_outcomes.specs.declared.searches.TheConstants.{OTHER_LINE, REPLACED, SAME_LINE, STARTED}
+use Rattle.teco_search_outcomes.specs.declared.searches.TheConstants.{WARNS}
 use Rattle.teco_search_outcomes.specs.Patterns.{IsLong, IsSingle, EndsIn}
-use Rattle.teco_command_outcomes.specs.Changes.{Changes, IsChangedFrom, read_given, with_kept}
+use Rattle.teco_command_outcomes.specs.Changes.{Changes, IsChangedFrom, read_given, with_kept, with_page}
 use Rattle.teco_search_outcomes.specs.Searches.{HasFound, HasReplaced, IsFoundBy, IsKnown}
-use Rattle.teco_search_outcomes.specs.Searches.{BeginsLater}
+use Rattle.teco_search_outcomes.specs.Searches.{BeginsLater, IsWarned}
 use Rattle.teco_search_outcomes.specs.Searches.{IsMissed, IsMissedPlace, IsReplacedBy, LiesTo, HasRoom}
 use Rattle.teco_search_outcomes.specs.Searches.{direction_clauses, extra_clauses}
 use Rattle.teco_rows.proofs.Characters.{with_codes}
@@ -49,7 +53,7 @@ use Rattle.teco_rows.proofs.Lines.{IsBegin, IsEnd, above_or, begin_before, begin
 use Rattle.teco_rows.proofs.Lines.{line_begin, line_end, one_begin, one_end}
 use Rattle.teco_rows.proofs.Texts.{begin_kept, begin_new, end_behind, length_after}
 use Rattle.teco_rows.proofs.Ways.{met_both}
-use Rattle.teco_command_outcomes.proofs.Changing.{changes_plainly}
+use Rattle.teco_command_outcomes.proofs.Changing.{changes_plainly, changes_singles}
 use Rattle.teco_search_outcomes.proofs.Matching.{Lies, items_in, match_closes, match_exact, match_lies, match_stays}
 
 -- ---- rows that change what is kept
@@ -199,11 +203,12 @@ module _ (s : Point) (span : Span) (known : Known) (long e t : ℕ) (given : ℕ
     becomes (One LastLength) = ap Some (omega (arith, ints, found.last, facts.some))
     becomes (One CodeHere) = ap Some (omega (arith, ints))
     becomes (One CodeBefore) = ap Some (omega (arith, ints))
+    becomes (One Typed) = ap (λ x. Some (pos (length x) -ℤ pos s.origin.typed)) found.typed
     becomes (Each Number i) = ap (λ r. number_of (slice_get r.pairs i)) found.registers
     becomes (Each Length i) = ap (λ r. length_of (slice_get r.pairs i)) found.registers
     becomes (Each Turns i) = refl
-    becomes (Each PushedNumber i) = ap (λ r. number_of (from_end r.stack (s.below + i))) found.registers
-    becomes (Each PushedLength i) = ap (λ r. length_of (from_end r.stack (s.below + i))) found.registers
+    becomes (Each PushedNumber i) = ap (λ r. number_of (from_end r.stack (s.origin.pushes + i))) found.registers
+    becomes (Each PushedLength i) = ap (λ r. length_of (from_end r.stack (s.origin.pushes + i))) found.registers
     becomes (Each First i) = refl
     becomes (Each Value i) = refl
 
@@ -228,11 +233,12 @@ module _ (s : Point) (span : Span) (known : Known) (long e t : ℕ) (given : ℕ
     becomes (One LastLength) = ap Some (omega (arith, ints, replaced.last))
     becomes (One CodeHere) = ap Some (omega (arith, ints))
     becomes (One CodeBefore) = ap Some (omega (arith, ints))
+    becomes (One Typed) = ap (λ x. Some (pos (length x) -ℤ pos s.origin.typed)) replaced.typed
     becomes (Each Number i) = ap (λ r. number_of (slice_get r.pairs i)) replaced.registers
     becomes (Each Length i) = ap (λ r. length_of (slice_get r.pairs i)) replaced.registers
     becomes (Each Turns i) = refl
-    becomes (Each PushedNumber i) = ap (λ r. number_of (from_end r.stack (s.below + i))) replaced.registers
-    becomes (Each PushedLength i) = ap (λ r. length_of (from_end r.stack (s.below + i))) replaced.registers
+    becomes (Each PushedNumber i) = ap (λ r. number_of (from_end r.stack (s.origin.pushes + i))) replaced.registers
+    becomes (Each PushedLength i) = ap (λ r. length_of (from_end r.stack (s.origin.pushes + i))) replaced.registers
     becomes (Each First i) = refl
     becomes (Each Value i) = refl
 
@@ -308,7 +314,7 @@ abbrev given_by : List (List Term) → ℕ → Valuation → ℕ → ℤ
 given_by forms n v i = value (slice_index_or forms i []) n v
 
 -- a row that sets the code before the pointer to what it is
-ends_with : (row : List Clause) (b : Before) (s t : Point) → b.given 1 ≡ pos (single t CodeBefore) → Changes row b s t
+ends_with : (row : List Clause) (b : Before) (s t : Point) → b.given 1 ≡ single t CodeBefore → Changes row b s t
     → Changes (row ++ ENDS_WITH) b s t
 ends_with row b s t is c = record {
   met = met_both row ENDS_WITH b c.met tt;
@@ -327,10 +333,11 @@ ends_with row b s t is c = record {
   set (One LastLength) x e = e
   set (One CodeHere) x e = e
   set (One CodeBefore) x e = ap Some (omega (arith, ints, is))
+  set (One Typed) x e = e
   set (Each family i) x e = e
 
 ends_if : (so : Bool) (row : List Clause) (b : Before) (s t : Point)
-    → (so ≡ true → b.given 1 ≡ pos (single t CodeBefore)) → Changes row b s t
+    → (so ≡ true → b.given 1 ≡ single t CodeBefore) → Changes row b s t
     → Changes (row ++ (if so then ENDS_WITH else [])) b s t
 ends_if true row b s t is c = ends_with row b s t (is refl) c
 ends_if false row b s t is c = subst (λ r. Changes r b s t) (sym (append-nil row)) c
@@ -514,32 +521,35 @@ replaces case made parts direction known other text least long last row more tow
 
 -- ---- what is missed
 same_kept : (s : Point) (kept : Kept) → kept.text ≡ s.kept.text → kept.pointer ≡ s.kept.pointer
-    → kept.registers ≡ s.kept.registers → kept.last_length ≡ s.kept.last_length → (m : Measure)
+    → kept.registers ≡ s.kept.registers → kept.last_length ≡ s.kept.last_length → kept.typed ≡ s.kept.typed
+    → (m : Measure)
     → measures_of (with_kept s kept) m ≡ measures_of s m
-same_kept s kept text pointer registers last (One Steps) = refl
-same_kept s kept text pointer registers last (One Pointer) = ap (λ p. Some (pos p)) pointer
-same_kept s kept text pointer registers last (One Size) = ap (λ x. Some (pos (length x))) text
-same_kept s kept text pointer registers last (One Held) = ap (λ x. Some (pos (length x + s.unread))) text
-same_kept s kept text pointer registers last (One LineEnd) =
+same_kept s kept text pointer registers last typed (One Steps) = refl
+same_kept s kept text pointer registers last typed (One Pointer) = ap (λ p. Some (pos p)) pointer
+same_kept s kept text pointer registers last typed (One Size) = ap (λ x. Some (pos (length x))) text
+same_kept s kept text pointer registers last typed (One Held) = ap (λ x. Some (pos (length x + s.unread))) text
+same_kept s kept text pointer registers last typed (One LineEnd) =
     ap (λ x. Some (pos (line_place x kept.pointer (pos 1)))) text
     ∙ ap (λ p. Some (pos (line_place s.kept.text p (pos 1)))) pointer
-same_kept s kept text pointer registers last (One LineStart) =
+same_kept s kept text pointer registers last typed (One LineStart) =
     ap (λ x. Some (pos (line_place x kept.pointer (pos 0)))) text
     ∙ ap (λ p. Some (pos (line_place s.kept.text p (pos 0)))) pointer
-same_kept s kept text pointer registers last (One LastLength) = ap (λ k. Some (pos k)) last
-same_kept s kept text pointer registers last (One CodeHere) =
+same_kept s kept text pointer registers last typed (One LastLength) = ap (λ k. Some (pos k)) last
+same_kept s kept text pointer registers last typed (One CodeHere) =
     ap (λ x. Some (pos (code_here x kept.pointer))) text ∙ ap (λ p. Some (pos (code_here s.kept.text p))) pointer
-same_kept s kept text pointer registers last (One CodeBefore) =
+same_kept s kept text pointer registers last typed (One CodeBefore) =
     ap (λ x. Some (pos (code_before x kept.pointer))) text ∙ ap (λ p. Some (pos (code_before s.kept.text p))) pointer
-same_kept s kept text pointer registers last (Each Number i) = ap (λ r. number_of (slice_get r.pairs i)) registers
-same_kept s kept text pointer registers last (Each Length i) = ap (λ r. length_of (slice_get r.pairs i)) registers
-same_kept s kept text pointer registers last (Each Turns i) = refl
-same_kept s kept text pointer registers last (Each PushedNumber i) =
-    ap (λ r. number_of (from_end r.stack (s.below + i))) registers
-same_kept s kept text pointer registers last (Each PushedLength i) =
-    ap (λ r. length_of (from_end r.stack (s.below + i))) registers
-same_kept s kept text pointer registers last (Each First i) = refl
-same_kept s kept text pointer registers last (Each Value i) = refl
+same_kept s kept text pointer registers last typed (One Typed) =
+    ap (λ x. Some (pos (length x) -ℤ pos s.origin.typed)) typed
+same_kept s kept text pointer registers last typed (Each Number i) = ap (λ r. number_of (slice_get r.pairs i)) registers
+same_kept s kept text pointer registers last typed (Each Length i) = ap (λ r. length_of (slice_get r.pairs i)) registers
+same_kept s kept text pointer registers last typed (Each Turns i) = refl
+same_kept s kept text pointer registers last typed (Each PushedNumber i) =
+    ap (λ r. number_of (from_end r.stack (s.origin.pushes + i))) registers
+same_kept s kept text pointer registers last typed (Each PushedLength i) =
+    ap (λ r. length_of (from_end r.stack (s.origin.pushes + i))) registers
+same_kept s kept text pointer registers last typed (Each First i) = refl
+same_kept s kept text pointer registers last typed (Each Value i) = refl
 
 stays_there : (colons old new : ℕ) → 2 ≤ colons → IsMissedPlace colons old new → new ≡ old
 stays_there zero old new h k = absurd (omega arith)
@@ -552,7 +562,7 @@ misses_here case made colons two changes n v s kept true_of whole missed =
     changes_plainly case made [] [] changes n v s kept s.unread (λ i. pos 0) true_of (λ here. record {
       met = tt;
       becomes = same_kept s kept missed.text
-          (stays_there colons s.kept.pointer kept.pointer two missed.pointer) missed.registers missed.last;
+          (stays_there colons s.kept.pointer kept.pointer two missed.pointer) missed.registers missed.last missed.typed;
       pushes = ap (λ r. length r.stack) missed.registers;
     })
 
@@ -597,13 +607,39 @@ misses case made colons one changes n v s kept true_of whole missed =
       becomes here (One LastLength) = ap (λ k. Some (pos k)) missed.last
       becomes here (One CodeHere) = ap Some (omega (arith, ints))
       becomes here (One CodeBefore) = ap Some (omega (arith, ints))
+      becomes here (One Typed) = ap (λ x. Some (pos (length x) -ℤ pos s.origin.typed)) missed.typed
       becomes here (Each Number i) = ap (λ r. number_of (slice_get r.pairs i)) missed.registers
       becomes here (Each Length i) = ap (λ r. length_of (slice_get r.pairs i)) missed.registers
       becomes here (Each Turns i) = refl
-      becomes here (Each PushedNumber i) = ap (λ r. number_of (from_end r.stack (s.below + i))) missed.registers
-      becomes here (Each PushedLength i) = ap (λ r. length_of (from_end r.stack (s.below + i))) missed.registers
+      becomes here (Each PushedNumber i) = ap (λ r. number_of (from_end r.stack (s.origin.pushes + i))) missed.registers
+      becomes here (Each PushedLength i) = ap (λ r. length_of (from_end r.stack (s.origin.pushes + i))) missed.registers
       becomes here (Each First i) = refl
       becomes here (Each Value i) = refl
+
+-- ---- the message
+pub warns : (case made : Case) → IsChangedFrom case WARNS [] made → IsWarned case made
+warns case made changes n s d =
+    changes_plainly case made WARNS [] changes n d.0 s kept s.unread (λ i. pos 0) d.1
+    (λ here.
+    changes_singles WARNS (read_given [] n d.0 s (λ i. pos 0) here) s kept s.unread refl refl tt (singles here)) where
+      kept : Kept
+      kept = (typing_of search_message s.kept).kept
+
+      long : length search_message ≡ 6
+      long = refl
+
+      singles : (here : Places) (which : Single) → Some (single (with_page s kept s.unread) which)
+          ≡ changed WARNS (read_given [] n d.0 s (λ i. pos 0) here) (One which) (Some (single s which))
+      singles here Steps = refl
+      singles here Pointer = refl
+      singles here Size = refl
+      singles here Held = refl
+      singles here LineEnd = refl
+      singles here LineStart = refl
+      singles here LastLength = refl
+      singles here CodeHere = refl
+      singles here CodeBefore = refl
+      singles here Typed = ap Some (omega (arith, ints, length-append s.kept.typed search_message, long))
 
 -- ---- room for a text in the stead of a match
 pub has_room : (case made : Case) (guarded : Guarded) (size most : List Term) → guarded.symbols ≡ case.symbols

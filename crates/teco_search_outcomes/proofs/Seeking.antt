@@ -60,7 +60,7 @@ use Rattle.teco_flow_outcomes.specs.Flow.{IsLeft, turned}
 use Rattle.teco_flow_outcomes.specs.Law.{Goes, Law, StepsTo, loops_in, place_away, point_of}
 use Rattle.teco_search_outcomes.specs.Searches.{Aims, Answers, Ends, HasMissed, IsAsked, IsForeseen}
 use Rattle.teco_search_outcomes.specs.Searches.{HasRoom, IsFoundBy, IsMissed, IsOf, IsReplacedBy, Leaves, Looks}
-use Rattle.teco_search_outcomes.specs.Searches.{SearchLaw, Searches, aimed, kept_by_leaving}
+use Rattle.teco_search_outcomes.specs.Searches.{IsWarned, SearchLaw, Searches, aimed, warned}
 use Rattle.teco_search_outcomes.proofs.Matching.{match_lies}
 
 -- ---- where a search looks
@@ -144,29 +144,25 @@ answers_both behind start good bad all told_good told_bad e = record {
   no = λ n s d. among n all bad (good ∷ []) [] _ e (told_bad n d.0 s d.1);
 }
 
-pub leaves_both : (found missed behind gone : Case) (form : List Term) (all : Outcomes) → IsTold found None behind
-    → IsLeft missed range.Any form gone → all.cases.items ≡ behind ∷ [] → all.away.items ≡ gone ∷ []
-    → Leaves found missed all
-leaves_both found missed behind gone form all told left e f = record {
+pub leaves_both : (found missed late behind gone : Case) (form : List Term) (all : Outcomes)
+    → IsTold found None behind → IsWarned missed late → IsLeft late range.Any form gone
+    → all.cases.items ≡ behind ∷ [] → all.away.items ≡ gone ∷ [] → Leaves found missed all
+leaves_both found missed late behind gone form all told warns left e f = record {
   on = λ n s d. among n all behind [] [] _ e (told n d.0 s d.1);
   out = λ n s loop outer d h.
-      subst (Any (λ made. Describes n made (turned s no_arguments outer))) (sym f)
-      (0, gone, omega arith, refl, left n d.0 s loop outer d.1 h tt);
+      let w = warns n s d in
+      subst (Any (λ made. Describes n made (turned (warned s) no_arguments outer))) (sym f)
+      (0, gone, omega arith, refl, left n w.0 (warned s) loop outer w.1 h tt);
 }
 
 -- ---- what a search comes to
 -- what is kept where it is missed
 missed_kept : (colons : ℕ) (kept : Kept) (text : List ℕ)
     → HasMissed colons kept (kept_by_miss colons (record kept { search_text = text }))
-missed_kept zero kept text = record { text = refl; pointer = refl; registers = refl; last = refl }
-missed_kept (suc zero) kept text = record { text = refl; pointer = refl; registers = refl; last = refl }
-missed_kept (suc (suc colons)) kept text = record { text = refl; pointer = refl; registers = refl; last = refl }
-
-left_kept : (colons : ℕ) (kept : Kept) (text : List ℕ)
-    → HasMissed colons kept (kept_by_leaving colons (record kept { search_text = text }))
-left_kept zero kept text = record { text = refl; pointer = refl; registers = refl; last = refl }
-left_kept (suc zero) kept text = record { text = refl; pointer = refl; registers = refl; last = refl }
-left_kept (suc (suc colons)) kept text = record { text = refl; pointer = refl; registers = refl; last = refl }
+missed_kept zero kept text = record { text = refl; pointer = refl; registers = refl; last = refl; typed = refl }
+missed_kept (suc zero) kept text = record { text = refl; pointer = refl; registers = refl; last = refl; typed = refl }
+missed_kept (suc (suc colons)) kept text =
+    record { text = refl; pointer = refl; registers = refl; last = refl; typed = refl }
 
 pub own_text : (text last : List ℕ) → 1 ≤ length text → text_or text last ≡ text
 own_text [] last h = absurd (omega arith)
@@ -201,9 +197,9 @@ module _ (x : Search) (answering : Bool) (e : Element) (taken : Taken) (case beh
       (missed n v s (kept_by_miss e.colons (record s.kept { search_text = text })) true_of whole
       (missed_kept e.colons s.kept text))
   foreseen_missed n v s text false h true_of whole = λ loop outer same.
-      h.out n (with_kept s (kept_by_leaving e.colons (record s.kept { search_text = text }))) loop outer
-      (missed n v s (kept_by_leaving e.colons (record s.kept { search_text = text })) true_of whole
-      (left_kept e.colons s.kept text)) same
+      h.out n (with_kept s (kept_by_miss e.colons (record s.kept { search_text = text }))) loop outer
+      (missed n v s (kept_by_miss e.colons (record s.kept { search_text = text })) true_of whole
+      (missed_kept e.colons s.kept text)) same
 
   pub searches : Searches x answering e taken case all
   searches n v s begins = counted (aims n v (aimed_by n v begins.conditions)) where
@@ -255,7 +251,8 @@ keeps_found x e case behind ps direction guarded same by n v s span text true_of
     let kept = kept_at span (record s.kept { search_text = text }) in (
       kept,
       same span (record s.kept { search_text = text }),
-      by n v s span kept true_of whole of (record { text = refl; pointer = refl; registers = refl; last = refl }),
+      by n v s span kept true_of whole of
+          (record { text = refl; pointer = refl; registers = refl; last = refl; typed = refl }),
     )
 
 pub keeps_replaced : (x : Search) (e : Element) (case behind : Case) (ps : List Part) (direction : Direction)
@@ -272,7 +269,8 @@ keeps_replaced x e case behind ps direction guard guarded same one by room n v s
       pointer = span.start + length e.second;
       last_length = length e.second;
     } in
-    let d = by n v s span kept true_of whole of (record { text = refl; pointer = refl; registers = refl; last = refl })
+    let d = by n v s span kept true_of whole of
+    (record { text = refl; pointer = refl; registers = refl; last = refl; typed = refl })
     in
     let short : length new ≤ LIMIT = room n v (with_kept s kept) d (one n v holds) in
     let fits : nat_le (length new) LIMIT ≡ true = grind (arith, nat_tests) in (
@@ -313,40 +311,40 @@ pub search_law : (x : Search) (answering : Bool) (e : Element) (case : Case) (ta
     → e.kind ≡ kind.Search x → IsTaken case taken → Searches x answering e taken case all
     → SearchLaw answering e case all
 unfolding step reply_of
-search_law x answering e case taken all replies is takes foretold n v s steps below reads asked begins =
-    let point = point_of steps below s in
+search_law x answering e case taken all replies is takes foretold n v s steps origin reads asked begins =
+    let point = point_of steps origin s in
     let m = miss_of e s.frames.running in
     let r = search x e (taken_by taken n v) s.world.kept in
-    subst (StepsTo (Goes n all e steps below s))
+    subst (StepsTo (Goes n all e steps origin s))
     (sym (ap (outcome_at s) reads ∙ ap (λ k. going.settle e s (reply_of k e s)) is
     ∙ ap (going.settle e s) (replies m s.left s.arguments s.world)
     ∙ ap (λ a. going.settle e s (a >>= (λ taken. search x e taken s.world.kept >>- found e m s.left
     (levels_after_taking s.arguments) s.world))) (takes n v point begins.true_of)))
     (by answering asked r (foretold n v point begins)) where
       by : (b : Bool) → IsAsked b e s.frames.running → (r : Result Finding Code)
-          → Succeeds (IsForeseen b n all e.colons (point_of steps below s)) r
-          → StepsTo (Goes n all e steps below s)
+          → Succeeds (IsForeseen b n all e.colons (point_of steps origin s)) r
+          → StepsTo (Goes n all e steps origin s)
           (going.settle e s (r >>- found e (miss_of e s.frames.running) s.left
           (levels_after_taking s.arguments) s.world))
       by b a (Err c) d = absurd d
       by true a (Ok (Found kept)) d =
-          subst (λ m. StepsTo (Goes n all e steps below s) (going.settle e s (Ok (found e m s.left
+          subst (λ m. StepsTo (Goes n all e steps origin s) (going.settle e s (Ok (found e m s.left
           (levels_after_taking s.arguments) s.world (Found kept))))) (sym (ap (λ b. miss_where b e s.frames.running) a))
           (inl (record { described = d; there = refl; left = refl }))
       by true a (Ok (Missed kept)) d =
-          subst (λ m. StepsTo (Goes n all e steps below s) (going.settle e s (Ok (found e m s.left
+          subst (λ m. StepsTo (Goes n all e steps origin s) (going.settle e s (Ok (found e m s.left
           (levels_after_taking s.arguments) s.world (Missed kept))))) (sym (ap
           (λ b. miss_where b e s.frames.running) a))
           (inl (record { described = d; there = refl; left = refl }))
       by false a (Ok (Found kept)) d =
           let l = nonempty s.frames.running.loops a.1 in
-          subst (λ m. StepsTo (Goes n all e steps below s) (going.settle e s (Ok (found e m s.left
+          subst (λ m. StepsTo (Goes n all e steps origin s) (going.settle e s (Ok (found e m s.left
           (levels_after_taking s.arguments) s.world (Found kept)))))
           (sym (left_by x e s.frames.running l.0 l.1 a.2 is a.0 l.2 a.3))
           (inl (record { described = d; there = refl; left = refl }))
       by false a (Ok (Missed kept)) d =
           let l = nonempty s.frames.running.loops a.1 in
-          subst (λ m. StepsTo (Goes n all e steps below s) (going.settle e s (Ok (found e m s.left
+          subst (λ m. StepsTo (Goes n all e steps origin s) (going.settle e s (Ok (found e m s.left
           (levels_after_taking s.arguments) s.world (Missed kept)))))
           (sym (left_by x e s.frames.running l.0 l.1 a.2 is a.0 l.2 a.3))
           (inr (
@@ -363,7 +361,7 @@ search_law x answering e case taken all replies is takes foretold n v s steps be
 -- with a colon a search answers
 pub colon_law : (e : Element) (case : Case) (all : Outcomes) → 1 ≤ e.colons → SearchLaw true e case all
     → Law e case all
-colon_law e case all h law n v s steps below stands begins =
+colon_law e case all h law n v s steps origin stands begins =
     let colon : nat_lt 0 e.colons ≡ true = grind (arith, nat_tests) in
-    law n v s steps below stands.reads
+    law n v s steps origin stands.reads
     (ap (λ b. b || miss.is_leave (element_at s.frames.running.text e.next)) colon) begins

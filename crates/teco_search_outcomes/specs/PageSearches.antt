@@ -18,7 +18,7 @@ use Rattle.teco_rows.specs.declared.case.Case.{Case}
 use Rattle.teco_rows.specs.declared.outcomes.Outcomes.{Outcomes}
 use Rattle.teco_rows.specs.Cases.{value_if}
 use Rattle.teco_rows.specs.Foretold.{Begins}
-use Rattle.teco_rows.specs.States.{Point, IsTrueOf, Describes}
+use Rattle.teco_rows.specs.States.{Origin, Point, IsTrueOf, Describes}
 use Rattle.teco_command_outcomes.specs.Changes.{DescribesFrom, IsTold, with_steps}
 use Rattle.teco_flow_outcomes.specs.Law.{Goes, StepsTo, point_of, unread_in}
 use Rattle.teco_search_outcomes.specs.Searches.{IsAsked}
@@ -40,11 +40,11 @@ Comes (suc more) P s outcome = StepsTo (λ next. IsStill s next × Comes more P 
 
 abbrev pub LongLaw : Bool → Element → Case → Outcomes → Type 0
 LongLaw answers e case all =
-    (n : ℕ) (v : Valuation) (s : State) (steps below : ℕ)
+    (n : ℕ) (v : Valuation) (s : State) (steps : ℕ) (origin : Origin)
     → element_at s.frames.running.text s.frames.running.place ≡ Ok (Some e)
     → IsAsked answers e s.frames.running → s.left ≡ None → is_some s.world.files.output ≡ true
-    → IsWholeWorld s.world → Begins n v case all (point_of steps below s)
-    → (more : ℕ) × Comes more (Goes n all e (steps + more) below s) s (step s)
+    → IsWholeWorld s.world → Begins n v case all (point_of steps origin s)
+    → (more : ℕ) × Comes more (Goes n all e (steps + more) origin s) s (step s)
 
 -- ---- what is asked of cases
 -- some pages later one of them is in the place of the buffer
@@ -55,6 +55,7 @@ pub record HasTurned (s : Point) (pages : ℕ) (kept : Kept) (rest : ℕ) : Type
   pub pointer : kept.pointer ≡ 0
   pub registers : kept.registers ≡ s.kept.registers
   pub last : kept.last_length ≡ s.kept.last_length
+  pub typed : kept.typed ≡ s.kept.typed
 
 abbrev pub IsLaterPage : Case → Case → Type 0
 IsLaterPage case made =
@@ -70,6 +71,7 @@ pub record HasEmptied (s : Point) (pages : ℕ) (kept : Kept) (rest : ℕ) : Typ
   pub pointer : kept.pointer ≡ 0
   pub registers : kept.registers ≡ s.kept.registers
   pub last : kept.last_length ≡ s.kept.last_length
+  pub typed : kept.typed ≡ s.kept.typed
 
 abbrev pub IsThrough : Case → Case → Type 0
 IsThrough case made =

@@ -18,7 +18,7 @@ use Rattle.teco_rows.specs.declared.outcomes.Outcomes.{Outcomes}
 use Rattle.teco_rows.specs.Cases.{value_if}
 use Rattle.teco_rows.specs.Commands.{commanded, taken_by}
 use Rattle.teco_rows.specs.Foretold.{Begins, Describe, Succeeds}
-use Rattle.teco_rows.specs.States.{Point, IsTrueOf, Describes}
+use Rattle.teco_rows.specs.States.{Origin, Point, IsTrueOf, Describes}
 use Rattle.teco_command_outcomes.specs.Changes.{with_page}
 use Rattle.teco_flow_outcomes.specs.Law.{Goes, StandsAt, StepsTo, point_of, unread_in}
 
@@ -43,9 +43,9 @@ IsPaged n all s world =
 -- state behind.
 abbrev pub Reads : (World → Result World Code) → Case → Outcomes → Type 0
 Reads done case all =
-    (n : ℕ) (v : Valuation) (s : State) (steps below : ℕ)
-    → is_some s.world.files.input ≡ true → Begins n v case all (point_of steps below s)
-    → Succeeds (IsPaged n all (point_of steps below s)) (done s.world)
+    (n : ℕ) (v : Valuation) (s : State) (steps : ℕ) (origin : Origin)
+    → is_some s.world.files.input ≡ true → Begins n v case all (point_of steps origin s)
+    → Succeeds (IsPaged n all (point_of steps origin s)) (done s.world)
 
 -- a command takes no first value, and the number 1 or no value
 pub record IsOnce (taken : Taken) : Type 0 where
@@ -60,9 +60,9 @@ pub record IsDoneAtOnce (n : ℕ) (all : Outcomes) (s : Point) (progress : Progr
 -- Where it begins so and an output is open, what is done page by page takes one step and comes to no code.
 abbrev pub Writes : (World → Result World Code) → Taken → Case → Outcomes → Type 0
 Writes one_page taken case all =
-    (n : ℕ) (v : Valuation) (s : State) (steps below : ℕ)
-    → is_some s.world.files.output ≡ true → Begins n v case all (point_of steps below s)
-    → Succeeds (IsDoneAtOnce n all (point_of steps below s)) (pages one_page (taken_by taken n v) s.world)
+    (n : ℕ) (v : Valuation) (s : State) (steps : ℕ) (origin : Origin)
+    → is_some s.world.files.output ≡ true → Begins n v case all (point_of steps origin s)
+    → Succeeds (IsDoneAtOnce n all (point_of steps origin s)) (pages one_page (taken_by taken n v) s.world)
 
 -- where it takes the two values that forms are, so does what is done page by page, whatever that is
 abbrev pub WritesRange : List Term → List Term → Case → Outcomes → Type 0
@@ -85,6 +85,6 @@ pub record IsReadyFor (p : Page) (e : Element) (s : State) : Type 0 where
 -- The law of a command on pages: that of each element, where its file is open.
 abbrev pub PageLaw : Page → Element → Case → Outcomes → Type 0
 PageLaw p e case all =
-    (n : ℕ) (v : Valuation) (s : State) (steps below : ℕ)
-    → IsReadyFor p e s → Begins n v case all (point_of steps below s)
-    → StepsTo (Goes n all e steps below s) (step s)
+    (n : ℕ) (v : Valuation) (s : State) (steps : ℕ) (origin : Origin)
+    → IsReadyFor p e s → Begins n v case all (point_of steps origin s)
+    → StepsTo (Goes n all e steps origin s) (step s)

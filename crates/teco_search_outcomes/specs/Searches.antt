@@ -31,7 +31,7 @@ use Rattle.teco_rows.specs.declared.row.Clause.{Clause}
 use Rattle.teco_rows.specs.Cases.{value_if}
 use Rattle.teco_rows.specs.Commands.{commanded, taken_by}
 use Rattle.teco_rows.specs.Foretold.{Begins, Describe, IsGuarded, Succeeds}
-use Rattle.teco_rows.specs.States.{Point, IsTrueOf, Describes}
+use Rattle.teco_rows.specs.States.{Origin, Point, IsTrueOf, Describes}
 use Rattle.teco_search_outcomes.specs.declared.searches.Aim.{Aim}
 use Rattle.teco_search_outcomes.specs.declared.searches.Direction.{Direction}
 use Rattle.teco_search_outcomes.specs.declared.searches.Direction.TheVariants.{Ahead, Back, Here}
@@ -108,6 +108,7 @@ pub record HasFound (span : Span) (old new : Kept) : Type 0 where
   pub pointer : new.pointer ≡ span.end
   pub registers : new.registers ≡ old.registers
   pub last : new.last_length ≡ span.end - span.start
+  pub typed : new.typed ≡ old.typed
 
 -- FS keeps this
 pub record HasReplaced (span : Span) (other : List ℕ) (old new : Kept) : Type 0 where
@@ -115,6 +116,7 @@ pub record HasReplaced (span : Span) (other : List ℕ) (old new : Kept) : Type 
   pub pointer : new.pointer ≡ span.start + length other
   pub registers : new.registers ≡ old.registers
   pub last : new.last_length ≡ length other
+  pub typed : new.typed ≡ old.typed
 
 -- with two colons the pointer stays, and else it goes to the start
 abbrev pub IsMissedPlace : ℕ → ℕ → ℕ → Type 0
@@ -127,6 +129,7 @@ pub record HasMissed (colons : ℕ) (old new : Kept) : Type 0 where
   pub pointer : IsMissedPlace colons old.pointer new.pointer
   pub registers : new.registers ≡ old.registers
   pub last : new.last_length ≡ old.last_length
+  pub typed : new.typed ≡ old.typed
 
 abbrev pub IsFoundBy : List Part → Direction → Case → Case → Type 0
 IsFoundBy parts direction case made =
@@ -157,12 +160,20 @@ pub record Answers (found missed : Case) (all : Outcomes) : Type 0 where
   pub yes : (n : ℕ) (s : Point) → Describes n found s → Describe n all (commanded s s.kept (Some (negsuc 0)))
   pub no : (n : ℕ) (s : Point) → Describes n missed s → Describe n all (commanded s s.kept (Some (pos 0)))
 
--- what is found goes on, and what is missed leaves its iteration
+-- a state in which the message of a search was typed that leaves its iteration
+abbrev pub warned : Point → Point
+warned s = with_kept s (typing_of search_message s.kept).kept
+
+-- a case describes that where another describes the state before
+abbrev pub IsWarned : Case → Case → Type 0
+IsWarned case made = (n : ℕ) (s : Point) → Describes n case s → Describes n made (warned s)
+
+-- what is found goes on, and what is missed leaves its iteration, with a message
 pub record Leaves (found missed : Case) (all : Outcomes) : Type 0 where
   pub on : (n : ℕ) (s : Point) → Describes n found s → Describe n all (commanded s s.kept None)
   pub out : (n : ℕ) (s : Point) (loop : Loop) (outer : List Loop)
       → Describes n missed s → s.loops ≡ loop ∷ outer
-      → Any (λ made. Describes n made (turned s no_arguments outer)) all.away.items
+      → Any (λ made. Describes n made (turned (warned s) no_arguments outer)) all.away.items
 
 abbrev pub Ends : Bool → Case → Case → Outcomes → Type 0
 Ends true found missed all = Answers found missed all
@@ -202,7 +213,7 @@ IsAsked false e frame =
 -- The law of an element, for a search that answers, or does not.
 abbrev pub SearchLaw : Bool → Element → Case → Outcomes → Type 0
 SearchLaw answers e case all =
-    (n : ℕ) (v : Valuation) (s : State) (steps below : ℕ)
+    (n : ℕ) (v : Valuation) (s : State) (steps : ℕ) (origin : Origin)
     → element_at s.frames.running.text s.frames.running.place ≡ Ok (Some e)
-    → IsAsked answers e s.frames.running → Begins n v case all (point_of steps below s)
-    → StepsTo (Goes n all e steps below s) (step s)
+    → IsAsked answers e s.frames.running → Begins n v case all (point_of steps origin s)
+    → StepsTo (Goes n all e steps origin s) (step s)

@@ -7,7 +7,8 @@ ghost use Rattle.teco_model.specs.Element.{seen};
 ghost use Rattle.teco_model.specs.declared.kind.Kind.TheVariants as kinds;
 ghost use Rattle.teco_model.specs.declared.pattern.Span.{Span};
 ghost use Rattle.teco_search_outcomes.specs.Patterns.{IsIn};
-ghost use Rattle.teco_search_outcomes.specs.Searches.{Aims, Answers, BeginsLater, Ends, IsFoundBy, IsKnown, IsMissed};
+ghost use Rattle.teco_search_outcomes.specs.Searches.{Aims, Answers, BeginsLater, Ends, IsFoundBy, IsKnown};
+ghost use Rattle.teco_search_outcomes.specs.Searches.{IsMissed, IsWarned};
 ghost use Rattle.teco_search_outcomes.specs.Searches.{HasRoom, IsReplacedBy, Leaves, LiesTo, SearchLaw};
 ghost use Rattle.teco_search_outcomes.specs.Searches.{aimed, direction_clauses, extra_clauses};
 
@@ -89,6 +90,8 @@ const LAST_START: Of = Of::Given(2);
 
 const LAST: Mark = Mark::One(Single::LastLength);
 
+const TYPED: Mark = Mark::One(Single::Typed);
+
 // The match is in the buffer and has a character, and its last line goes on behind it.
 const LIES: [Clause; 6] = [
     Clause::Wants(-1, [(1, PLACE), (-1, START), NO, NO]),
@@ -150,11 +153,14 @@ const ENDS_IN: [Clause; 2] = [
 
 const ENDS_WITH: [Clause; 1] = [Clause::Sets(CODE_BEFORE, 0, [(1, Of::Given(1)), NO, NO, NO])];
 
-// It begins behind the pointer: another character is there than it begins with.
+// The match begins behind the pointer: another character is there than it begins with.
 const LATER: [Clause; 1] = [Clause::Wants(-1, [(1, START), (-1, Of::Was(POINTER)), NO, NO])];
 
 /// What is answered where it is found.
 pub const YES: [Clause; 1] = [Clause::Sets(VALUE, -1, [NO, NO, NO, NO])];
+
+// The message of a failed search is typed: %SRH and a line end.
+const WARNS: [Clause; 1] = [Clause::Sets(TYPED, 6, [(1, Of::Was(TYPED)), NO, NO, NO])];
 
 // What is answered where nothing is.
 const MISS: [Clause; 1] = [Clause::Sets(VALUE, 0, [NO, NO, NO, NO])];
@@ -431,7 +437,14 @@ fn answering(found: &Case, missed: &Case, asked: Asked, alloc: Global) -> Result
     })
 }
 
-// Where one that does not answer finds nothing, it leaves its iteration.
+// The case where the message is typed besides.
+fn warned(missed: &Case, alloc: Global) -> Result<Case, Fault>
+    ensures { IfOk result (λ made. IsWarned missed.now made) }
+{
+    changed(missed, &WARNS, &[], alloc)
+}
+
+// Where one that does not answer finds nothing, it leaves its iteration, with a message.
 fn leaving(found: &Case, missed: &Case, asked: Asked, alloc: Global) -> Result<Outcomes, Fault>
     ensures conditions { IfOk result (λ all. all.conditions.items ≡ asked.conditions.items) }
     ensures guarded { IfOk result (λ all. all.guarded.items ≡ asked.guarded.items) }
@@ -442,7 +455,8 @@ fn leaving(found: &Case, missed: &Case, asked: Asked, alloc: Global) -> Result<O
         guarded,
     } = asked;
     let behind = told(found, &[], alloc)?;
-    let gone = left(missed, Range::Any, &[], alloc)?;
+    let late = warned(missed, alloc)?;
+    let gone = left(&late, Range::Any, &[], alloc)?;
     let mut cases = Vec::new(alloc);
     cases.push(behind)?;
     let mut away = Vec::new(alloc);

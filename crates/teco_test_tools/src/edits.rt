@@ -5,10 +5,10 @@ use std::process::Abort;
 use std::test::Fail;
 use teco_applied::{Names, Task, apply_macro};
 use teco_apply::Pages;
+use teco_console::{AnswerFault, Escape, Outcome, Request, Setting};
 use teco_edits::{Change, Chosen, InPlace, Keeping, Naming, choose, edit_files};
 use teco_pages::FileHost;
 use teco_tools::{INPUT, OUTPUT, Start, Streams, ToolFault};
-use teco_verdicts::{AnswerFault, Escape, Outcome, Request, Setting};
 
 /// Puts bar in the place of each foo, in this case alone.
 const REPLACES: &[u8] = b"@^UA/1^XJ<FSfoo$bar$;>/";

@@ -3,9 +3,9 @@ use crate::trial::{expect_text, kept, library_file};
 use std::fs;
 use std::test::Fail;
 use teco_base::Reg;
+use teco_console::Outcome;
 use teco_edits::Look;
 use teco_examples::{Tests, fuzz_macro, test_examples};
-use teco_verdicts::Outcome;
 
 /// A library in which `$` is ESC, what is printed of its examples, how many they are, and how many of
 /// them failed.

@@ -5,9 +5,9 @@ use std::process::Abort;
 use std::test::Fail;
 use std::{fs, io};
 use teco_applied::{Listing, Names, trace_macro};
+use teco_console::{Outcome, Request};
 use teco_pages::FileHost;
 use teco_tools::{OUTPUT, Prompting, Streams};
-use teco_verdicts::{Outcome, Request};
 
 /// How many steps are listed at most, the list, and what is said.
 const LISTED: &[(u64, &str, &str)] = &[

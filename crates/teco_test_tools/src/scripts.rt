@@ -1,10 +1,10 @@
 //! Words that are run as scripts.
 use crate::trial::{expect_text, kept};
 use std::io;
+use teco_console::Escape;
 use teco_pages::FileHost;
 use teco_tools::Script::Word;
 use teco_tools::{Run, Script, Start, run_scripts};
-use teco_verdicts::Escape;
 
 // What scripts type, and what is said of them. None where they can't be run.
 fn ran<'a>(rt: &HostRuntime, scripts: &'a [Script<'a>], until_code: bool) -> Option<[Vec<u8>; 2]> {

@@ -6,9 +6,9 @@ use std::test::Fail;
 use teco_applied::Task;
 use teco_apply::Pages;
 use teco_base::Reg;
+use teco_console::{Console, Edition, Escape, Method, Origin, Request};
 use teco_edits::Choice;
 use teco_tools::Start;
-use teco_verdicts::{Console, Edition, Escape, Method, Origin, Request};
 
 /// Fails, and says what, where this is false.
 pub fn expect(rt: &impl Abort, is_so: bool, what: &str) {

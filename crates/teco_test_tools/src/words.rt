@@ -3,8 +3,8 @@ use clap::ArgMatches;
 use std::alloc::{AllocError, Global};
 use std::convert::AsStr;
 use std::env::{Env, FillError};
+use teco_console::{Edition, Method};
 use teco_tools::Script;
-use teco_verdicts::{Edition, Method};
 use teco_words::{
     Arguments, cap, check_streams, check_texts, command, entry, escape_of, file_name, given, limit,
     method_of, pages, scripts, settings,

@@ -4,6 +4,7 @@ use std::alloc::Global;
 use std::test::Fail;
 use std::{fs, io};
 use teco_base::Reg;
+use teco_console::*;
 use teco_library::LibraryFault;
 use teco_poly::Poly;
 use teco_verdicts::*;
@@ -72,7 +73,7 @@ fn verified(rt: &HostRuntime, request: Request<'_>) -> (bool, Vec<u8>, Vec<u8>) 
 
 /// What is said of two macros of a library, of which there is a third one.
 const ROWS: &str = "{\"macro\": \"A\", \"accepted\": true, \"commands\": [8, 4], \
-\"size\": [1, 2], \"needs_input\": false, \"needs_output\": false, \"greatest_n\": 134217727}\n\
+\"size\": [1, 2], \"types\": null, \"needs_input\": false, \"needs_output\": false, \"greatest_n\": 134217727}\n\
 {\"macro\": \"B\", \"accepted\": false, \"refusal\": \"X6\", \"register\": \"B\", \
 \"place\": 3, \"line\": 3, \"column\": 2}\n";
 

@@ -15,7 +15,7 @@ use Rattle.teco_session.specs.declared.sessions.Done.{Done}
 use Rattle.teco_tools.specs.Scripts.{Around, at, Comes, EndsIn, HearsScript, IsAnswer, IsInput, Plays, PlaysOut}
 use Rattle.teco_tools.specs.Scripts.{Terms, is_last, none, one_more}
 use Rattle.teco_tools.specs.declared.fault.ToolFault.{ToolFault}
-use Rattle.teco_verdicts.specs.declared.outcome.Outcome.{Outcome}
+use Rattle.teco_console.specs.declared.outcome.Outcome.{Outcome}
 use Rattle.teco_tools.specs.declared.running.Script.{Script}
 
 -- the front, the script at a place, and those behind

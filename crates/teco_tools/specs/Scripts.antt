@@ -20,10 +20,10 @@ use Rattle.teco_tools.specs.declared.fault.ToolFault.{ToolFault}
 use Rattle.teco_tools.specs.declared.running.Run.{Run}
 use Rattle.teco_tools.specs.declared.running.Script.{Script}
 use Rattle.teco_tools.specs.declared.running.Script.TheVariants.{Stream, File, Word}
-use Rattle.teco_verdicts.specs.Sources.{IsFileForm}
-use Rattle.teco_verdicts.specs.declared.forms.Escape.{Escape}
-use Rattle.teco_verdicts.specs.declared.outcome.Outcome.{Outcome}
-use Rattle.teco_verdicts.specs.declared.outcome.Outcome.TheVariants as outcomes
+use Rattle.teco_console.specs.Sources.{IsFileForm}
+use Rattle.teco_console.specs.declared.forms.Escape.{Escape}
+use Rattle.teco_console.specs.declared.outcome.Outcome.{Outcome}
+use Rattle.teco_console.specs.declared.outcome.Outcome.TheVariants as outcomes
 
 -- what a file says as a script, where what it has is told
 pub record FileSays (holds : List ℕ → Option (List ℕ)) (escape : Escape) (name text : List ℕ) : Type 0 where

@@ -1,8 +1,8 @@
 //! What keeps the program from what it is asked for.
 use std::alloc::{AllocError, AllocFailed};
 use std::io;
+use teco_console::AnswerFault;
 use teco_session::SessionFault;
-use teco_verdicts::AnswerFault;
 use thiserror::Error;
 
 /// Why a word of the program is not obeyed, beside refusals and codes.

@@ -6,9 +6,9 @@ ghost use Rattle.teco_tools.specs.Scripts.{new_machine};
 use crate::fault::ToolFault;
 use std::alloc::Global;
 use teco_base::LIMIT;
+use teco_console::AnswerFault;
 use teco_run::Machine;
 use teco_text::GapText;
-use teco_verdicts::AnswerFault;
 
 /// A machine whose runs may type so many bytes.
 pub fn machine_with(alloc: Global, cap: usize) -> Machine<GapText>

@@ -1,9 +1,9 @@
 //! What is said of files that could not be used.
 use std::fmt;
 use std::io::Write;
+use teco_console::Voice;
 use teco_pages::{Purpose, Reason, Trouble};
 use teco_source::Shown;
-use teco_verdicts::Voice;
 
 // The code that is typed for it.
 fn code_of(purpose: Purpose) -> &'static str {

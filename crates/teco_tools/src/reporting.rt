@@ -1,9 +1,9 @@
 //! What hosts of files say of their calls.
 use crate::messages::tell;
 use std::io::{Read, Write};
+use teco_console::Voice;
 use teco_pages::{FileHost, Host, System, Trouble};
 use teco_streams::Streams;
-use teco_verdicts::Voice;
 
 /// A host that says what is left of its input, and why its last call that failed did.
 pub trait Reporting {

@@ -17,15 +17,15 @@ use crate::telling::{Scene, code_of, size_of, tell_macro};
 use std::alloc::{AllocError, Global};
 use std::io::{Read, Write};
 use teco_base::{Code, LIMIT};
+use teco_console::{
+    Console, Escape, Outcome, Shelf, Voice, form_of, form_of_word, letters, read_file,
+};
 use teco_model::Limits;
 use teco_pages::Host;
 use teco_run::{Machine, Stop, Stopped};
 use teco_session::{Conduct, Done, Listener, SessionFault, session_heard};
 use teco_source::{Position, Shown, Source};
 use teco_text::{GapText, TextStore};
-use teco_verdicts::{
-    Console, Escape, Outcome, Shelf, Voice, form_of, form_of_word, letters, read_file,
-};
 
 /// What command strings are read from.
 #[derive(Clone, Copy)]

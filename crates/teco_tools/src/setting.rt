@@ -8,10 +8,10 @@ ghost use Rattle.teco_tools.specs.Starts.{IsBare};
 use crate::fault::ToolFault;
 use crate::machines::within_limit;
 use teco_base::{LIMIT, REGISTERS, Reg};
+use teco_console::{AnswerFault, Setting};
 use teco_pages::Host;
 use teco_run::{Machine, Stop};
 use teco_text::TextStore;
-use teco_verdicts::{AnswerFault, Setting};
 
 // No texts.
 fn no_texts<'a>() -> [Option<&'a [u8]>; REGISTERS]

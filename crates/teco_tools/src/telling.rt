@@ -2,12 +2,12 @@
 use std::fmt;
 use std::io::Write;
 use teco_base::{Code, Reg};
+use teco_console::{Voice, element_at, letters};
 use teco_explain::note_of_code;
 use teco_model::HostFault;
 use teco_run::{Machine, Stop, Stopped};
 use teco_source::{Position, Shown};
 use teco_text::TextStore;
-use teco_verdicts::{Voice, element_at, letters};
 
 /// The code that is typed for a stop.
 pub fn code_of(stop: Stop) -> Option<Code> {

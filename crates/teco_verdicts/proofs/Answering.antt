@@ -19,12 +19,12 @@ use Rattle.teco_verdicts.specs.Answers.{IsStraightVerdict, OfText, ReadsNone, Re
 use Rattle.teco_verdicts.specs.Certificates.{IsCertificate}
 use Rattle.teco_verdicts.specs.Linear.{ChecksByClaims, RefusesCertificate, VerdictByClaims}
 use Rattle.teco_verdicts.specs.Lines.{refused_line}
-use Rattle.teco_verdicts.specs.Output.{Writes}
+use Rattle.teco_console.specs.Output.{Writes}
 use Rattle.teco_verdicts.specs.Methods.{ChecksBy, ChecksIn, IsAmong, VerdictBy, VerdictIn}
-use Rattle.teco_verdicts.specs.declared.method.Edition.{Edition}
-use Rattle.teco_verdicts.specs.declared.method.Method.{Method}
-use Rattle.teco_verdicts.specs.declared.outcome.Outcome.{Outcome}
-use Rattle.teco_verdicts.specs.declared.outcome.Outcome.TheVariants.{Done, Coded, Refused}
+use Rattle.teco_console.specs.declared.method.Edition.{Edition}
+use Rattle.teco_console.specs.declared.method.Method.{Method}
+use Rattle.teco_console.specs.declared.outcome.Outcome.{Outcome}
+use Rattle.teco_console.specs.declared.outcome.Outcome.TheVariants.{Done, Coded, Refused}
 
 -- what was written of an answer with this outcome
 pub of_written : {E : Type 0} (IsAnswer : Answer) (old new : Option (List ℕ)) (outcome : Outcome) (text : List ℕ)

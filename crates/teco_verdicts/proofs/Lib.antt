@@ -1,5 +1,4 @@
 -- What proofs of this crate cite.
 mod Answering
 mod Ending
-mod Fronts
 mod RoundTrip

@@ -16,11 +16,11 @@ use Rattle.teco_verify.specs.declared.refusal.Refusal.{Refusal}
 use Rattle.teco_verify.specs.declared.refusal.Refusal.TheVariants.{No, Memory}
 use Rattle.teco_verdicts.specs.Certificates.{IsCertificate}
 use Rattle.teco_verdicts.specs.Lines.{refused_line}
-use Rattle.teco_verdicts.specs.Output.{Writes, WritesFront}
-use Rattle.teco_verdicts.specs.Sources.{IsReadFor}
-use Rattle.teco_verdicts.specs.declared.outcome.Outcome.{Outcome}
-use Rattle.teco_verdicts.specs.declared.outcome.Outcome.TheVariants.{Done, Coded, Refused}
-use Rattle.teco_verdicts.specs.declared.request.Request.{Request}
+use Rattle.teco_console.specs.Output.{Writes, WritesFront}
+use Rattle.teco_console.specs.Sources.{IsReadFor}
+use Rattle.teco_console.specs.declared.outcome.Outcome.{Outcome}
+use Rattle.teco_console.specs.declared.outcome.Outcome.TheVariants.{Done, Coded, Refused}
+use Rattle.teco_console.specs.declared.request.Request.{Request}
 
 -- the texts that may be written, by the outcome
 abbrev pub Answer : Type 1

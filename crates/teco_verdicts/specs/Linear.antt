@@ -6,8 +6,8 @@ use Rattle.teco_claimed.specs.declared.certificate.LinearCertificate.{LinearCert
 use Rattle.teco_library.specs.Library.{LibraryFile}
 use Rattle.teco_verdicts.specs.Answers.{Answer, Refuses}
 use Rattle.teco_verdicts.specs.Lines.{refused_line}
-use Rattle.teco_verdicts.specs.declared.outcome.Outcome.{Outcome}
-use Rattle.teco_verdicts.specs.declared.outcome.Outcome.TheVariants.{Done, Coded, Refused}
+use Rattle.teco_console.specs.declared.outcome.Outcome.{Outcome}
+use Rattle.teco_console.specs.declared.outcome.Outcome.TheVariants.{Done, Coded, Refused}
 use Rattle.teco_verify.specs.Refusing.{IsOfCertificate, refusal_of_certificate}
 use Rattle.teco_verify.specs.declared.refusal.Refusal.{Refusal}
 

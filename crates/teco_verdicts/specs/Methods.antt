@@ -4,12 +4,12 @@ use Rattle.std.specs.Io.KnownBytes.{Keeps}
 use Rattle.teco_library.specs.Library.{LibraryFile}
 use Rattle.teco_verdicts.specs.Answers.{Answer, AnswersFor, ChecksByTable, VerdictByTable}
 use Rattle.teco_verdicts.specs.Linear.{ChecksByClaims, VerdictByClaims}
-use Rattle.teco_verdicts.specs.declared.method.Edition.{Edition}
-use Rattle.teco_verdicts.specs.declared.method.Edition.TheVariants.{First, Second}
-use Rattle.teco_verdicts.specs.declared.method.Method.{Method}
-use Rattle.teco_verdicts.specs.declared.method.Method.TheVariants.{Only, Best}
-use Rattle.teco_verdicts.specs.declared.outcome.Outcome.{Outcome}
-use Rattle.teco_verdicts.specs.declared.request.Request.{Request}
+use Rattle.teco_console.specs.declared.method.Edition.{Edition}
+use Rattle.teco_console.specs.declared.method.Edition.TheVariants.{First, Second}
+use Rattle.teco_console.specs.declared.method.Method.{Method}
+use Rattle.teco_console.specs.declared.method.Method.TheVariants.{Only, Best}
+use Rattle.teco_console.specs.declared.outcome.Outcome.{Outcome}
+use Rattle.teco_console.specs.declared.request.Request.{Request}
 
 -- an edition of the rules is one by which a method verifies
 abbrev pub IsAmong : Method → Edition → Type 0

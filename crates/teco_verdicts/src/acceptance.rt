@@ -1,14 +1,15 @@
 //! Macros that are accepted, however that was found.
 ghost use Rattle.std.specs.Prelude.{◌≡◌, IfOk};
-ghost use Rattle.teco_verdicts.specs.Accepted.{IsProved, certificate_of, promise_of};
+ghost use Rattle.teco_verdicts.specs.Accepted.{IsOf, IsProved, certificate_of, promise_of};
 
-use crate::method::Edition;
+use crate::linear::verified_by_claims;
 use std::alloc::{AllocError, Global};
 use teco_base::Reg;
 use teco_claimed::Claimed;
+use teco_console::{Edition, Method};
 use teco_library::Library;
 use teco_promise::Promise;
-use teco_verify::Verified;
+use teco_verify::{Refusal, Verified, verify};
 
 /// A macro that is accepted.
 #[derive(Drop)]
@@ -76,5 +77,51 @@ impl<'l> Accepted<'l> {
             Accepted::Table(verified) => verified.library(),
             Accepted::Claims(claimed) => claimed.library(),
         }
+    }
+}
+
+// A macro of a library, by a table.
+fn by_table<'l>(alloc: Global, library: &'l Library, entry: Reg) -> Result<Accepted<'l>, Refusal>
+    ensures { IfOk result (IsOf library.now entry) }
+{
+    let verified = verify(alloc, library, entry)?;
+    Ok(Accepted::Table(verified))
+}
+
+// Verified by claims.
+fn by_claims<'l>(alloc: Global, library: &'l Library, entry: Reg) -> Result<Accepted<'l>, Refusal>
+    ensures { IfOk result (IsOf library.now entry) }
+{
+    let claimed = verified_by_claims(alloc, library, entry)?;
+    Ok(Accepted::Claims(claimed))
+}
+
+// Verified by claims, or by a table where there are none. Where both editions refuse it, the second
+// says why.
+fn by_either<'l>(alloc: Global, library: &'l Library, entry: Reg) -> Result<Accepted<'l>, Refusal>
+    ensures { IfOk result (IsOf library.now entry) }
+{
+    match by_claims(alloc, library, entry) {
+        Ok(accepted) => Ok(accepted),
+        Err(refusal) => match by_table(alloc, library, entry) {
+            Ok(accepted) => Ok(accepted),
+            Err(_) => Err(refusal),
+        },
+    }
+}
+
+/// A macro of a library, if it is accepted by a method.
+pub fn verified_by<'l>(
+    alloc: Global,
+    library: &'l Library,
+    entry: Reg,
+    method: Method,
+) -> Result<Accepted<'l>, Refusal>
+    ensures { IfOk result (IsOf library.now entry) }
+{
+    match method {
+        Method::Only(Edition::First) => by_table(alloc, library, entry),
+        Method::Only(Edition::Second) => by_claims(alloc, library, entry),
+        Method::Best => by_either(alloc, library, entry),
     }
 }

@@ -1,18 +1,13 @@
 //! What keeps a promise from holding for any text.
 ghost use Rattle.std.specs.Prelude.{◌≡◌, IfOk};
-ghost use Rattle.teco_verdicts.specs.declared.outcome.Outcome.TheVariants.{Refused};
+ghost use Rattle.teco_console.specs.declared.outcome.Outcome.TheVariants.{Refused};
 
 use crate::acceptance::Accepted;
-use crate::console::{Console, Voice};
-use crate::fault::AnswerFault;
-use crate::library::Sourced;
-use crate::method::Edition;
-use crate::outcome::Outcome;
-use crate::premise::{Grouped, Premise};
 use std::alloc::{AllocError, Global};
 use std::fmt;
 use std::io::Write;
 use teco_base::Reg;
+use teco_console::{AnswerFault, Console, Edition, Grouped, Outcome, Premise, Sourced, Voice};
 use teco_explain::position_in;
 use teco_poly::Poly;
 use teco_promise::Promise;

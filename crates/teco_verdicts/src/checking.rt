@@ -2,25 +2,21 @@
 ghost use Rattle.std.specs.Prelude.{◌≡◌, IfOk, codes};
 ghost use Rattle.teco_verdicts.specs.Answers.{Answers, AnswersFor, ChecksByTable, OfText, Refuses};
 ghost use Rattle.teco_verdicts.specs.Methods.{ChecksBy, ChecksFor, ChecksIn};
-ghost use Rattle.teco_verdicts.specs.Output.{Writes};
-ghost use Rattle.teco_verdicts.specs.declared.outcome.Outcome.TheVariants.{Done, Refused};
+ghost use Rattle.teco_console.specs.Output.{Writes};
+ghost use Rattle.teco_console.specs.declared.outcome.Outcome.TheVariants.{Done, Refused};
 
 use crate::blame::tell_premise;
 use crate::claim::{Claim, edition_of, split_line};
-use crate::console::Console;
-use crate::dollars::tell_dollars;
-use crate::fault::AnswerFault;
-use crate::files::Shelf;
-use crate::library::{Sourced, explained, library_of};
+use crate::library::{explained, library_of};
 use crate::linear::check_claims;
-use crate::method::{Edition, Method};
-use crate::outcome::Outcome;
-use crate::request::Request;
 use crate::verdict::Verdict;
 use crate::verifying::refuse;
-use crate::written::read_source;
 use std::io::Write;
 use teco_base::Reg;
+use teco_console::{
+    AnswerFault, Console, Edition, Method, Outcome, Request, Shelf, Sourced, read_source,
+    tell_dollars,
+};
 use teco_source::{Shown, Source};
 use teco_verify::{Refusal, Verified, verify};
 
@@ -158,7 +154,7 @@ fn tell_why<O: Write + Drop, E: Write + Drop>(
 }
 
 /// Prints why a certificate is refused, and says in which line it is another.
-#[tactic(auto, using(crate::proofs::Fronts::nothing, crate::proofs::Fronts::whole_front))]
+#[tactic(auto, using(teco_console::proofs::Fronts::nothing, teco_console::proofs::Fronts::whole_front))]
 pub fn refuse_claim<O: Write + Drop, E: Write + Drop>(
     console: &mut Console<O, E>,
     sourced: &Sourced,
@@ -186,7 +182,7 @@ pub fn refuse_claim<O: Write + Drop, E: Write + Drop>(
 }
 
 // Says that a certificate is accepted.
-#[tactic(auto, using(crate::proofs::Fronts::whole_front))]
+#[tactic(auto, using(teco_console::proofs::Fronts::whole_front))]
 fn tell_accepted<O: Write + Drop, E: Write + Drop>(
     console: &mut Console<O, E>,
     sourced: &Sourced,

@@ -9,14 +9,12 @@ ghost use Rattle.teco_verdicts.specs.Methods.{IsAmong};
 ghost use Rattle.teco_verify.specs.Certified.{TakesDeclared};
 ghost use Rattle.teco_verify.specs.Refusing.{IsOfCertificate};
 
-use crate::acceptance::Accepted;
-use crate::fault::AnswerFault;
-use crate::files::{Shelf, read_file};
+use crate::acceptance::{Accepted, verified_by};
 use crate::linear::{accepted_by_claims, refusal_of_text};
-use crate::method::{Edition, Method};
 use std::alloc::Global;
 use teco_base::Reg;
 use teco_base::bytes::LF;
+use teco_console::{AnswerFault, Edition, Method, Shelf, read_file};
 use teco_library::Library;
 use teco_verify::{Refusal, Verified, check_certificate};
 
@@ -147,7 +145,7 @@ pub fn accepted<'l>(
         (λ accepted. certificate_of accepted ≡ claim.now.bytes.items)) }
 {
     match claim {
-        None => method.verify(alloc, library, entry),
+        None => verified_by(alloc, library, entry, method),
         Some(claim) => accepted_by(alloc, library, entry, method, claim),
     }
 }

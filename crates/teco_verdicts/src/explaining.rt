@@ -2,23 +2,19 @@
 ghost use Rattle.std.specs.Prelude.{◌≡◌};
 
 use crate::blame::tell_premise;
-use crate::console::Console;
-use crate::fault::{AnswerFault, written};
-use crate::files::Shelf;
 use crate::known::{words_of, words_of_choice};
-use crate::library::{Sourced, read_library};
+use crate::library::read_library;
 use crate::linear::tell_refused;
 use crate::listing::list_claimed;
-use crate::method::{Edition, Method};
-use crate::naming::element_at;
-use crate::outcome::Outcome;
-use crate::request::Request;
 use crate::verdict::Verdict;
 use crate::verifying::refuse;
 use std::alloc::{AllocError, Global};
 use std::io::Write;
 use teco_base::Reg;
 use teco_claimed::verify_linear;
+use teco_console::{
+    AnswerFault, Console, Edition, Method, Outcome, Request, Shelf, Sourced, element_at, written,
+};
 use teco_library::Library;
 use teco_source::{Position, Shown};
 use teco_verify::{Account, account_of};

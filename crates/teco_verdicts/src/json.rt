@@ -1,18 +1,14 @@
 //! Verdicts for machines: an object of JSON in each line.
-use crate::console::Console;
-use crate::fault::AnswerFault;
-use crate::files::Shelf;
-use crate::library::{NAMES, library_of, macro_named};
-use crate::method::Method;
-use crate::outcome::Outcome;
-use crate::premise::Premise;
-use crate::request::Request;
+use crate::acceptance::verified_by;
+use crate::library::library_of;
 use crate::verdict::Verdict;
-use crate::written::read_source;
 use std::alloc::{AllocError, Global};
 use std::fmt;
 use std::io::Write;
 use teco_base::Reg;
+use teco_console::{
+    AnswerFault, Console, Method, NAMES, Outcome, Premise, Request, Shelf, macro_named, read_source,
+};
 use teco_explain::{number_of, position_in};
 use teco_library::Library;
 use teco_poly::Poly;
@@ -79,6 +75,28 @@ impl fmt::Display for Coefficients {
     }
 }
 
+// The coefficients of a bound, or null where none is known.
+#[derive(Clone, Copy)]
+struct Bound(Option<Coefficients>);
+
+impl Bound {
+    fn of(alloc: Global, bound: Option<Poly>) -> Result<Bound, AllocError> {
+        match bound {
+            None => Ok(Bound(None)),
+            Some(poly) => Ok(Bound(Some(Coefficients::of(alloc, &poly)?))),
+        }
+    }
+}
+
+impl fmt::Display for Bound {
+    fn fmt<W: fmt::Write>(&self, f: &mut fmt::Formatter<W>) -> fmt::Result {
+        match self.0 {
+            None => write!(f, "null"),
+            Some(coefficients) => write!(f, "{coefficients}"),
+        }
+    }
+}
+
 // A number that JSON has, or null.
 #[derive(Clone, Copy)]
 struct Nullable(Option<u64>);
@@ -100,14 +118,19 @@ fn answer_accepted<O: Write + Drop, E: Write + Drop>(
     let name = char::from(promise.entry().name());
     let commands = Coefficients::of(console.alloc, &promise.commands())?;
     let size = Coefficients::of(console.alloc, &promise.size())?;
+    let types = Bound::of(console.alloc, promise.types())?;
     let needs = promise.needs();
     let input = needs.input;
     let output = needs.output;
     let premise = Premise::of_promise(promise);
     let greatest = Nullable(premise.longest().and(premise.last));
     console.answer(format_args!(
-        "{{\"macro\": \"{name}\", \"accepted\": true, \"commands\": {commands}, \"size\": {size}, \"needs_input\": {input}, \"needs_output\": {output}, \"greatest_n\": {greatest}}}\n"
+        "{{\"macro\": \"{name}\", \"accepted\": true, \"commands\": {commands}, \"size\": {size}, "
     ))?;
+    console.answer(format_args!(
+        "\"types\": {types}, \"needs_input\": {input}, \"needs_output\": {output}, "
+    ))?;
+    console.answer(format_args!("\"greatest_n\": {greatest}}}\n"))?;
     Ok(Outcome::Done)
 }
 
@@ -155,8 +178,9 @@ fn answer_refused<O: Write + Drop, E: Write + Drop>(
     let number = number_of(why);
     let (line, column) = numbers_of(position_at(source, refusal));
     console.answer(format_args!(
-        "{{\"macro\": {entry}, \"accepted\": false, \"refusal\": \"X{number}\", \"register\": {register}, \"place\": {place}, \"line\": {line}, \"column\": {column}}}\n"
+        "{{\"macro\": {entry}, \"accepted\": false, \"refusal\": \"X{number}\", \"register\": {register}, "
     ))?;
+    console.answer(format_args!("\"place\": {place}, \"line\": {line}, \"column\": {column}}}\n"))?;
     Ok(Outcome::Refused)
 }
 
@@ -181,7 +205,7 @@ fn answer_verdict<O: Write + Drop, E: Write + Drop>(
     entry: Reg,
     method: Method,
 ) -> Result<Outcome, AnswerFault> {
-    match method.verify(console.alloc, library, entry) {
+    match verified_by(console.alloc, library, entry, method) {
         Ok(accepted) => answer_accepted(console, &accepted.promise()),
         Err(refusal) => answer_refused(console, source, Some(entry), &refusal),
     }

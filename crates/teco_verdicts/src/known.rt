@@ -1,8 +1,8 @@
 //! What is known before an element, in words.
-use crate::library::NAMES;
 use std::alloc::{AllocError, Global};
 use std::fmt;
 use teco_base::Reg;
+use teco_console::NAMES;
 use teco_poly::Poly;
 use teco_verifier::{Distances, Interval, Value};
 use teco_verify::{Choice, Known};

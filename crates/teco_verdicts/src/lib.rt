@@ -1,56 +1,28 @@
-//! What `verify`, `check`, `explain` and `show` print.
+//! What `verify`, `check` and `explain` print of macros.
 #![tactic(auto)]
 
 mod acceptance;
 mod blame;
 mod checking;
 mod claim;
-mod console;
-mod dollars;
 mod explaining;
-mod fault;
-mod files;
-mod forms;
-mod given;
 mod json;
 mod known;
 pub mod laws;
 mod library;
 mod linear;
-mod linting;
 mod listing;
 mod mending;
-mod method;
-mod naming;
-mod outcome;
-mod premise;
 mod reasoning;
-mod request;
-mod setting;
-mod showing;
-mod stating;
 mod verdict;
 mod verifying;
-mod written;
 
-pub use acceptance::Accepted;
+pub use acceptance::{Accepted, verified_by};
 pub use blame::{tell_no_text, tell_promise, warn_no_text};
 pub use checking::{check_macro, refuse_claim};
 pub use claim::{Claim, accepted, read_claim};
-pub use console::{Console, Voice};
 pub use explaining::explain_macro;
-pub use fault::AnswerFault;
-pub use files::{STREAM, Shelf, read_file};
-pub use forms::{Escape, form_of, form_of_word, is_readable};
 pub use json::{verify_library_as_json, verify_macro_as_json};
-pub use library::{Setup, Sourced, read_library, read_library_for};
-pub use linting::lint;
-pub use method::{Edition, Method, method_for};
-pub use naming::{element_at, letters};
-pub use outcome::Outcome;
-pub use premise::{Grouped, Known, Premise};
-pub use request::{Origin, Request};
-pub use setting::Setting;
-pub use showing::{explain, explain_all, show, show_source};
+pub use library::{Setup, read_library, read_library_for};
 pub use verdict::Verdict;
 pub use verifying::{refuse, refuse_macro, verify_library, verify_macro};

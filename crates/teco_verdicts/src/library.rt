@@ -5,17 +5,14 @@ ghost use Rattle.teco_base.specs.declared.TheConstants.{LIMIT};
 ghost use Rattle.teco_library.specs.Reads.{Reads};
 ghost use Rattle.teco_verdicts.specs.Answers.{ReadsNone};
 
-use crate::console::Console;
-use crate::fault::AnswerFault;
-use crate::files::Shelf;
-use crate::method::{Edition, Method};
-use crate::request::Request;
-use crate::setting::Setting;
+use crate::acceptance::verified_by;
 use crate::verifying::refuse;
-use crate::written::{Written, read_source};
 use std::alloc::Global;
 use std::io::Write;
 use teco_base::{LIMIT, Reg};
+use teco_console::{
+    AnswerFault, Console, Edition, Method, Request, Setting, Shelf, Sourced, Written, read_source,
+};
 use teco_explain::Explained;
 use teco_library::{Library, LibraryFault};
 use teco_source::Source;
@@ -39,14 +36,6 @@ pub fn library_of(alloc: Global, source: &Source) -> Result<Library, Refusal>
         }),
         Err(LibraryFault::Memory) => Err(Refusal::Memory),
     }
-}
-
-/// A library, with the source that says it, and how its macros are verified.
-#[derive(Drop)]
-pub struct Sourced {
-    pub source: Source,
-    pub library: Library,
-    pub method: Method,
 }
 
 // The library that a source says. Where it says none, the refusal is printed, and there is none.
@@ -102,7 +91,7 @@ fn check_settings(library: &Library, settings: &[Setting]) -> Result<(), AnswerF
 // Is a library better that has the texts which registers are given? Not where the macro writes one of
 // them, and not where it alone is refused.
 fn is_better(alloc: Global, fixed: &Sourced, plain: &Sourced, entry: Reg) -> bool {
-    match fixed.method.verify(alloc, &fixed.library, entry) {
+    match verified_by(alloc, &fixed.library, entry, fixed.method) {
         Ok(_) => true,
         Err(
             Refusal::No {
@@ -110,7 +99,7 @@ fn is_better(alloc: Global, fixed: &Sourced, plain: &Sourced, entry: Reg) -> boo
                 ..
             },
         ) => false,
-        Err(_) => plain.method.verify(alloc, &plain.library, entry).is_err(),
+        Err(_) => verified_by(alloc, &plain.library, entry, plain.method).is_err(),
     }
 }
 
@@ -168,16 +157,5 @@ pub fn explained<'a>(
             is_by_table: edition == Edition::First,
         }),
         Refusal::Memory => None,
-    }
-}
-
-/// The registers in the order of their names: A to Z, and then 0 to 9.
-pub const NAMES: &[u8; 36] = b"ABCDEFGHIJKLMNOPQRSTUVWXYZ0123456789";
-
-/// The register of a name, if a library gives it a text.
-pub fn macro_named(library: &Library, name: u8) -> Option<Reg> {
-    match Reg::of(name) {
-        Some(register) if library.contains(register) => Some(register),
-        _ => None,
     }
 }

@@ -4,31 +4,26 @@ ghost use Rattle.teco_claimed.specs.Claimed.{TakesDeclared};
 ghost use Rattle.teco_claimed.specs.Text.{linear_text};
 ghost use Rattle.teco_verdicts.specs.Answers.{Answers, Refuses};
 ghost use Rattle.teco_verdicts.specs.Linear.{ChecksByClaims, RefusesCertificate, VerdictByClaims};
-ghost use Rattle.teco_verdicts.specs.Output.{Writes};
-ghost use Rattle.teco_verdicts.specs.declared.outcome.Outcome.TheVariants.{Done, Refused};
+ghost use Rattle.teco_console.specs.Output.{Writes};
+ghost use Rattle.teco_console.specs.declared.outcome.Outcome.TheVariants.{Done, Refused};
 ghost use Rattle.teco_verify.specs.Refusing.{IsOfCertificate};
 
 use crate::blame::tell_premise;
 use crate::checking::{other_edition, tell_other_edition};
 use crate::claim::Claim;
-use crate::console::{Console, write_bytes};
-use crate::fault::AnswerFault;
-use crate::library::{NAMES, Sourced};
-use crate::linting::Findings;
-use crate::method::Edition;
-use crate::outcome::Outcome;
 use crate::reasoning::{moved_too_far, reason_of};
 use crate::verifying::refuse;
 use std::alloc::Global;
 use std::io::Write;
 use teco_base::Reg;
 use teco_claimed::{Claimed, LinearRefusal, NodePlace, check_linear, verify_linear};
+use teco_console::{AnswerFault, Console, Edition, Findings, NAMES, Outcome, Sourced, write_bytes};
 use teco_expansion::ExpandFault;
 use teco_infer::Refusal as Unfound;
 use teco_library::Library;
 use teco_source::{Shown, Source};
 use teco_verifier::Refusal as Why;
-use teco_verify::Refusal;
+use teco_verify::{Refusal, verify};
 
 /// The register at a place, if there is one.
 pub fn register_at(place: usize) -> Option<Reg> {
@@ -75,24 +70,59 @@ fn why_of(library: &Library, why: Unfound, at: NodePlace) -> Why {
     }
 }
 
-// Why a macro of a library is refused, as it is printed. What has no place is told at the entry's first
+// The first edition's reason for an element, if it refuses the macro there: it may tell more.
+fn reason_there(alloc: Global, library: &Library, entry: Reg, at: NodePlace) -> Option<Why> {
+    match verify(alloc, library, entry) {
+        Err(
+            Refusal::No {
+                why,
+                register: Some(register),
+                place,
+            },
+        ) => {
+            let is_there = register.index() == at.register && place == at.place;
+            is_there.then_some(why)
+        }
+        _ => None,
+    }
+}
+
+// That no bound is found: where the first edition misses one, if it does, or else at the entry's first
 // element.
-fn refusal_of(library: &Library, entry: Reg, refused: &LinearRefusal) -> Refusal {
+fn without_bound(alloc: Global, library: &Library, entry: Reg) -> Refusal {
+    if let Err(refusal) = verify(alloc, library, entry) {
+        let is_bound = matches!(
+            refusal,
+            Refusal::No {
+                why: Why::Bound | Why::Overflow,
+                ..
+            }
+        );
+        if is_bound {
+            return refusal;
+        }
+    }
+    Refusal::No {
+        why: Why::Bound,
+        register: Some(entry),
+        place: 0,
+    }
+}
+
+// Why a macro of a library is refused, as it is printed.
+fn refusal_of(alloc: Global, library: &Library, entry: Reg, refused: &LinearRefusal) -> Refusal {
     match *refused {
         LinearRefusal::NotExpanded(refusal) => Refusal::from(ExpandFault::Refused(refusal)),
-        LinearRefusal::NotFound { why, at } => {
-            let at = at.unwrap_or(NodePlace {
-                register: entry.index(),
-                place: 0,
-            });
+        LinearRefusal::NotFound { why, at: Some(at) } => {
+            let own = why_of(library, why, at);
             Refusal::No {
-                why: why_of(library, why, at),
+                why: reason_there(alloc, library, entry, at).unwrap_or(own),
                 register: register_at(at.register),
                 place: at.place,
             }
         }
         LinearRefusal::Memory => Refusal::Memory,
-        _ => Refusal::certificate(),
+        _ => without_bound(alloc, library, entry),
     }
 }
 
@@ -118,7 +148,7 @@ pub fn verified_by_claims<'l>(
 {
     match verify_linear(library, entry, alloc) {
         Ok(claimed) => Ok(claimed),
-        Err(refused) => Err(refusal_of(library, entry, &refused)),
+        Err(refused) => Err(refusal_of(alloc, library, entry, &refused)),
     }
 }
 
@@ -196,7 +226,7 @@ pub fn tell_refused<O: Write + Drop, E: Write + Drop>(
     ensures { Answers (VerdictByClaims library.now entry)
         (O.contents console.old.out) (O.contents console.new.out) result }
 {
-    let refusal = refusal_of(library, entry, refused);
+    let refusal = refusal_of(console.alloc, library, entry, refused);
     let far = moved_too_far(&refusal);
     let reason = reason_of(console.alloc, source, library, entry, far);
     refuse_claims(console, source, refusal, refused, reason.as_str())
@@ -263,7 +293,7 @@ fn refuse_linear<O: Write + Drop, E: Write + Drop>(
 }
 
 /// Checks a certificate by claims of a macro of a library.
-#[tactic(auto, using(crate::proofs::Fronts::whole_front))]
+#[tactic(auto, using(teco_console::proofs::Fronts::whole_front))]
 pub fn check_claims<O: Write + Drop, E: Write + Drop>(
     console: &mut Console<O, E>,
     sourced: &Sourced,

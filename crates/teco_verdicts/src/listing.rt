@@ -1,17 +1,12 @@
 //! What is claimed at the cut points of a macro, as `explain` lists it.
 use crate::blame::tell_premise;
-use crate::console::Console;
 use crate::explaining::{name_of, shown_place, text_of};
-use crate::fault::{AnswerFault, written};
-use crate::library::Sourced;
 use crate::linear::register_at;
-use crate::method::Edition;
-use crate::outcome::Outcome;
-use crate::stating::all_stated;
 use std::alloc::{AllocError, Global};
 use std::io::Write;
 use teco_claimed::Claimed;
 use teco_claims::Cut;
+use teco_console::{AnswerFault, Console, Edition, Outcome, Sourced, all_stated, written};
 use teco_expansion::{Nodes, expand};
 use teco_library::Library;
 

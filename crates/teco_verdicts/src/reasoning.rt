@@ -2,13 +2,13 @@
 
 use crate::linear::{register_at, text_at};
 use crate::mending::{Change, Mend, is_mended};
-use crate::naming::element_at;
-use crate::stating::{Stated, all_stated};
 use std::alloc::{AllocError, Global};
 use std::fmt;
 use teco_base::Reg;
+use teco_base::bytes::{LF, is_blank};
 use teco_claimed::{NodePlace, Unshown, why_unshown};
 use teco_claims::Claim;
+use teco_console::{Stated, all_stated, element_at};
 use teco_explain::place_in;
 use teco_infer::Reason;
 use teco_library::Library;
@@ -31,10 +31,12 @@ fn words_of(alloc: Global, claims: &[Claim]) -> Result<String, AllocError> {
     Ok(words)
 }
 
-// A claim in words.
-fn words_of_claim(alloc: Global, claim: &Claim) -> Result<String, AllocError> {
-    let stated = Stated::of(alloc, claim)?;
-    stated.words(alloc)
+// A claim in words, if there is one.
+fn words_if_told(alloc: Global, claim: &Option<Claim>) -> Result<String, AllocError> {
+    match claim {
+        Some(claim) => Stated::of(alloc, claim)?.words(alloc),
+        None => Ok(String::new(alloc)),
+    }
 }
 
 // Where an element stands in the file, and what it is.
@@ -66,19 +68,19 @@ fn push_line<D: fmt::Display + Drop>(
     lines.push_str(format!(in alloc; "{between}  {line}")?.as_str())
 }
 
-// Says what is known at a point, and what would do.
+// Says what is known at a point, and what would do, unless that is what is needed.
 fn push_known(
     alloc: Global,
     lines: &mut String,
     reason: &Reason,
     point: &str,
 ) -> Result<(), AllocError> {
-    if let Some(needed) = &reason.needed {
-        let needed = words_of_claim(alloc, needed)?;
+    let needed = words_if_told(alloc, &reason.needed)?;
+    if !needed.is_empty() {
         push_line(alloc, lines, format_args!("needed here: {needed}"))?;
     }
-    if let Some(wanted) = &reason.wanted {
-        let wanted = words_of_claim(alloc, wanted)?;
+    let wanted = words_if_told(alloc, &reason.wanted)?;
+    if !wanted.is_empty() && wanted.as_str() != needed.as_str() {
         push_line(
             alloc,
             lines,
@@ -87,6 +89,74 @@ fn push_known(
     }
     let known = words_of(alloc, &reason.known)?;
     push_line(alloc, lines, format_args!("known at {point}: {known}"))
+}
+
+// The most bytes of a macro that are shown with marks.
+const MOST_MARKED: usize = 100;
+
+// The place of the next element from a place on: blanks stand before it.
+fn behind_blanks(text: &[u8], place: usize) -> usize {
+    let behind = text.get(place..).unwrap_or(&[]);
+    let blanks = behind.iter().position(|byte| !is_blank(*byte));
+    place.saturating_add(blanks.unwrap_or(behind.len()))
+}
+
+// From where to where the text goes in which a way lies, if that is one text, short, and one line.
+fn span_of(library: &Library, way: &[NodePlace]) -> Option<(usize, usize)> {
+    let first = way.first()?;
+    if way.iter().any(|at| at.register != first.register) {
+        return None;
+    }
+    let text = text_at(library, *first);
+    let mut begin = first.place;
+    let mut end = begin;
+    for at in way {
+        begin = begin.min(at.place);
+        end = end.max(at.place.saturating_add(element_at(text, at.place).len()));
+    }
+    let span = text.get(..end)?.get(begin..)?;
+    if span.len() > MOST_MARKED || span.contains(&LF) {
+        return None;
+    }
+    Some((begin, end))
+}
+
+// Shows the text in which a way lies, with marks below the elements on it.
+fn push_marked(
+    alloc: Global,
+    lines: &mut String,
+    library: &Library,
+    way: &[NodePlace],
+    span: (usize, usize),
+) -> Result<(), AllocError> {
+    let text = way.first().map_or(&[][..], |at| text_at(library, *at));
+    let (mut place, end) = span;
+    let mut line = String::new(alloc);
+    let mut marks = String::new(alloc);
+    for _ in 0..MOST_MARKED {
+        if place >= end {
+            break;
+        }
+        let element = element_at(text, place);
+        let own = behind_blanks(text, place);
+        let mark = if way.iter().any(|at| at.place == own) {
+            "^"
+        } else {
+            " "
+        };
+        let shown = Shown(element);
+        line.push_str(format!(in alloc; "{shown}")?.as_str())?;
+        for _ in 0..shown.width() {
+            marks.push_str(mark)?;
+        }
+        place = place.saturating_add(element.len().max(1));
+    }
+    push_line(alloc, lines, format_args!("  {line}"))?;
+    push_line(
+        alloc,
+        lines,
+        format_args!("  {}", marks.as_str().trim_end()),
+    )
 }
 
 // The elements of a way in a line, with two dots where it leaves some out.
@@ -103,10 +173,38 @@ fn words_of_way(alloc: Global, library: &Library, way: &[NodePlace]) -> Result<S
         words.push_str(format!(in alloc; "{shown}")?.as_str())?;
         next = Some(NodePlace {
             register: at.register,
-            place: at.place.saturating_add(element.len()),
+            place: behind_blanks(text, at.place.saturating_add(element.len())),
         });
     }
     Ok(words)
+}
+
+// Says on which ways nothing is known to fall.
+fn push_ways(
+    alloc: Global,
+    lines: &mut String,
+    library: &Library,
+    ways: &[Vec<NodePlace>],
+) -> Result<(), AllocError> {
+    match ways {
+        [] => return Ok(()),
+        [_] => push_line(alloc, lines, "nothing is known to fall on this way:")?,
+        _ => push_line(
+            alloc,
+            lines,
+            "nothing is known to fall on these ways together:",
+        )?,
+    }
+    for way in ways {
+        match span_of(library, way) {
+            Some(span) => push_marked(alloc, lines, library, way, span)?,
+            None => {
+                let way = words_of_way(alloc, library, way)?;
+                push_line(alloc, lines, format_args!("  {way}"))?;
+            }
+        }
+    }
+    Ok(())
 }
 
 // Is a macro accepted with a change at a place of a register's text?
@@ -169,14 +267,7 @@ fn lines_of(
     let mut lines = String::new(alloc);
     let point = shown_at(alloc, source, library, found.at)?;
     push_known(alloc, &mut lines, &found.reason, point.as_str())?;
-    if !found.way.is_empty() {
-        let way = words_of_way(alloc, library, &found.way)?;
-        push_line(
-            alloc,
-            &mut lines,
-            format_args!("nothing is known to fall on this way: {way}"),
-        )?;
-    }
+    push_ways(alloc, &mut lines, library, &found.ways)?;
     match mend {
         Some(Mend::Colon) => push_line(
             alloc,

@@ -3,35 +3,30 @@ ghost use Rattle.std.specs.Prelude.{◌≡◌, IfOk};
 ghost use Rattle.teco_certificate.specs.Text.{certificate_text};
 ghost use Rattle.teco_verdicts.specs.Answers.{Answers, AnswersFor, OfText, Refuses, VerdictByTable};
 ghost use Rattle.teco_verdicts.specs.Methods.{VerdictBy, VerdictIn};
-ghost use Rattle.teco_verdicts.specs.Output.{Writes};
-ghost use Rattle.teco_verdicts.specs.declared.method.Method.TheVariants.{Best};
-ghost use Rattle.teco_verdicts.specs.declared.outcome.Outcome.TheVariants.{Done, Refused};
+ghost use Rattle.teco_console.specs.Output.{Writes};
+ghost use Rattle.teco_console.specs.declared.method.Method.TheVariants.{Best};
+ghost use Rattle.teco_console.specs.declared.outcome.Outcome.TheVariants.{Done, Refused};
 
-use crate::acceptance::Accepted;
+use crate::acceptance::{Accepted, verified_by};
 use crate::blame::{Held, tell_premise};
-use crate::console::{Console, write_bytes};
-use crate::dollars::tell_dollars;
 use crate::explaining::tell_known;
-use crate::fault::AnswerFault;
-use crate::files::Shelf;
-use crate::library::{NAMES, Sourced, explained, library_of, macro_named, read_library};
+use crate::library::{explained, library_of, read_library};
 use crate::linear::{answer_claims, verify_claims};
-use crate::linting::Findings;
-use crate::method::{Edition, Method};
-use crate::outcome::Outcome;
 use crate::reasoning::{moved_too_far, reason_of};
-use crate::request::Request;
 use crate::verdict::Verdict;
-use crate::written::read_source;
 use std::io::Write;
 use teco_base::Reg;
 use teco_claimed::verify_linear;
+use teco_console::{
+    AnswerFault, Console, Edition, Findings, Method, NAMES, Outcome, Request, Shelf, Sourced,
+    macro_named, read_source, tell_dollars, write_bytes,
+};
 use teco_library::Library;
 use teco_source::Source;
 use teco_verify::{Account, Refusal, Verified, account_of, verify};
 
 /// Says why a macro of a source is refused by an edition of the rules, behind its line.
-#[tactic(auto, using(crate::proofs::Fronts::nothing, crate::proofs::Fronts::whole_front))]
+#[tactic(auto, using(teco_console::proofs::Fronts::nothing, teco_console::proofs::Fronts::whole_front))]
 pub fn refuse<O: Write + Drop, E: Write + Drop>(
     console: &mut Console<O, E>,
     source: &Source,
@@ -65,7 +60,7 @@ fn print<O: Write + Drop, E: Write + Drop>(
 }
 
 // Prints the certificate of a macro.
-#[tactic(auto, using(crate::proofs::Fronts::nothing))]
+#[tactic(auto, using(teco_console::proofs::Fronts::nothing))]
 fn print_certificate<O: Write + Drop, E: Write + Drop>(
     console: &mut Console<O, E>,
     verified: &Verified<'_>,
@@ -78,7 +73,7 @@ fn print_certificate<O: Write + Drop, E: Write + Drop>(
 }
 
 // Says why the macro of a source is refused by its table, and what is known there.
-#[tactic(auto, using(crate::proofs::Fronts::whole_front))]
+#[tactic(auto, using(teco_console::proofs::Fronts::whole_front))]
 fn refuse_known<O: Write + Drop, E: Write + Drop>(
     console: &mut Console<O, E>,
     source: &Source,
@@ -95,7 +90,7 @@ fn refuse_known<O: Write + Drop, E: Write + Drop>(
 }
 
 /// Says why a macro of a library is refused, and what is known there.
-#[tactic(auto, using(crate::proofs::Fronts::nothing))]
+#[tactic(auto, using(teco_console::proofs::Fronts::nothing))]
 pub fn refuse_macro<O: Write + Drop, E: Write + Drop>(
     console: &mut Console<O, E>,
     sourced: &Sourced,
@@ -125,7 +120,7 @@ pub fn refuse_macro<O: Write + Drop, E: Write + Drop>(
 }
 
 // Prints the certificate of a macro of a source by its table, and says what it promises.
-#[tactic(auto, using(crate::proofs::Fronts::whole_front))]
+#[tactic(auto, using(teco_console::proofs::Fronts::whole_front))]
 fn accept<O: Write + Drop, E: Write + Drop>(
     console: &mut Console<O, E>,
     source: &Source,
@@ -291,7 +286,7 @@ fn verify_one<O: Write + Drop, E: Write + Drop>(
 ) -> Result<Outcome, AnswerFault> {
     let name = char::from(entry.name());
     let library = &sourced.library;
-    match sourced.method.verify(console.alloc, library, entry) {
+    match verified_by(console.alloc, library, entry, sourced.method) {
         Ok(accepted) => {
             let outcome = tell_accepted(console, sourced, &accepted)?;
             findings.tell(&mut console.voice, library, entry);

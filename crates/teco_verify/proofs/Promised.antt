@@ -12,7 +12,11 @@ pub certified_ends : ExpansionsAreLinked → RunsAreVerified → (found : Findin
     → EachRunEnds (promise_of found)
 certified_ends linked verified found certified given world asked ready opened =
     let fields = found.fields in
-    verified found.library fields.entry fields.argument given certified.nodes certified.table
-    fields.commands fields.size (n_of world) world
-    (linked found.library fields.entry certified.nodes certified.expanded) certified.printed asked ready
-    (subst (λ needs. AreOpen needs world.files) certified.needs_are opened)
+    record {
+      ends =
+          verified found.library fields.entry fields.argument given certified.nodes certified.table
+          fields.commands fields.size (n_of world) world
+          (linked found.library fields.entry certified.nodes certified.expanded) certified.printed asked ready
+          (subst (λ needs. AreOpen needs world.files) certified.needs_are opened);
+      types = tt;
+    }

@@ -1,8 +1,9 @@
 -- What is promised of a macro that is certified.
+use Rattle.std.specs.Prelude.{None}
 use Rattle.teco_promise.specs.Promise.{Promise}
 use Rattle.teco_verifier.specs.certificate.Fields.{Finding}
 
--- what the certificate says, but for its choices
+-- What the certificate says, but for its choices; of typed bytes it says nothing.
 abbrev pub promise_of : Finding → Promise
 promise_of found = record {
   library = found.library;
@@ -11,4 +12,5 @@ promise_of found = record {
   needs = found.fields.needs;
   commands = found.fields.commands;
   size = found.fields.size;
+  types = None;
 }

@@ -9,10 +9,10 @@ use std::alloc::{AllocError, Global};
 use teco_apply::{NAME, Pages};
 use teco_base::Reg;
 use teco_base::bytes::ESC;
+use teco_console::{Edition, Escape, Method, Origin, STREAM, Setting};
 use teco_edits::{Change, Choice, Keeping, Look, Naming};
 use teco_source::{Form, Shown};
 use teco_tools::{Case, INPUT, OUTPUT, Script};
-use teco_verdicts::{Edition, Escape, Method, Origin, STREAM, Setting};
 
 /// The register of the macro where an option names the library, and none the register.
 const DEFAULT_ENTRY: &str = "A";

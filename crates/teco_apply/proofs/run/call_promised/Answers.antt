@@ -25,6 +25,7 @@ returns-clause-calls g c =
     (calls (record {
       sure = c.runs_are_sure.ensures;
       leave = c.runs_leave_open.ensures;
+      once = c.runs_end_once.ensures;
     }) call c.run_to_stop.result.stop old new before behind (record {
       sound = c.is_sound.ensures;
       loaded = subst (λ (k : Call). IsLoaded k.promise.library old.kept) (sym same) c.requires.loaded;
@@ -51,6 +52,7 @@ returns-clause-touches g c =
     (touches-none c.notes_fit.ensures (record {
       sure = c.runs_are_sure.ensures;
       leave = c.runs_leave_open.ensures;
+      once = c.runs_end_once.ensures;
     }) call old (record {
       sound = c.is_sound.ensures;
       loaded = subst (λ (k : Call). IsLoaded k.promise.library old.kept) (sym same) c.requires.loaded;

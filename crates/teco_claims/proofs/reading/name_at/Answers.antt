@@ -8,7 +8,7 @@ use Rattle.teco_claims.specs.declared.term.Measure.{Measure}
 use Rattle.teco_claims.specs.declared.term.Measure.TheVariants.{One, Number, Length, Turns, PushedNumber, PushedLength}
 use Rattle.teco_claims.specs.declared.term.Single.{Single}
 use Rattle.teco_claims.specs.declared.term.Single.TheVariants.{Steps, Pointer, Size, Held, LineEnd, LineStart}
-use Rattle.teco_claims.specs.declared.term.Single.TheVariants.{LastLength}
+use Rattle.teco_claims.specs.declared.term.Single.TheVariants.{LastLength, Typed}
 use Rattle.teco_claims.specs.Front.{EndsTerm, is_end, single_of}
 use Rattle.teco_claims.specs.Spelled.{IsMeasure}
 use Rattle.teco_claims.specs.Text.{name_text, single_text}
@@ -35,6 +35,7 @@ module _ (letter : ℕ) (words : List ℕ) where
   blank_read (Some (One LineEnd)) rest end e = absurd (no_name 101 rest end refl e)
   blank_read (Some (One LineStart)) rest end e = absurd (no_name 115 rest end refl e)
   blank_read (Some (One LastLength)) rest end e = absurd (no_name 109 rest end refl e)
+  blank_read (Some (One Typed)) rest end e = absurd (no_name 111 rest end refl e)
   blank_read (Some (Number r)) rest end e = absurd (no_name 110 (register_name r ∷ rest) end refl e)
   blank_read (Some (Length r)) rest end e = absurd (no_name 116 (register_name r ∷ rest) end refl e)
   blank_read (Some (Turns n)) rest end e = absurd (no_name 114 (decimal n ++ rest) end refl e)
@@ -57,6 +58,7 @@ module _ (letter : ℕ) (words : List ℕ) (other : single_of letter ≡ None) w
   no_single LineEnd rest = no_letter LineEnd 101 rest refl
   no_single LineStart rest = no_letter LineStart 115 rest refl
   no_single LastLength rest = no_letter LastLength 109 rest refl
+  no_single Typed rest = no_letter Typed 111 rest refl
 
   -- the measures that have a number or a register are read by what stands behind the letter
   module _ (read : Option Measure) (behind : List ℕ)

@@ -47,8 +47,7 @@ returns-in-Typing c =
     subst (λ k. Foretells (λ s. after_command k (seen c.args.element.now) s.kept s.arguments) c.args.case.now all)
     (sym c.in-Typing.is)
     (command_foretold (seen c.args.element.now) c.args.case.now c.in_ok-taken.taken all
-    (command.Typing c.in-Typing.typing)
-    c.in_ok-taken.ensures (performs (seen c.args.element.now))))
+    (command.Typing c.in-Typing.typing) c.in_ok-taken.ensures performs))
     c.type_text.ensures
 
 pub returns-in-Deletion : goal.returns-in-Deletion

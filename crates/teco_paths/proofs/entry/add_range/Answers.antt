@@ -15,6 +15,6 @@ returns-in_ok-push-2 c lengths claims =
     (all_last P c.args.claims.now.items c.push.new.self.items c.in_ok-no_less.field-0 c.in_ok-push.ensures.items
     (subst (λ a. All (IsEntryClaim lengths a) c.args.claims.now.items) c.in-Some.is claims)
     (least_argument_claim lengths range c.in_ok-no_less.field-0
-    (λ n v. c.in_ok-no_less.ensures n v ∙ ap (λ x. v 15 -ℤ pos x) c.low.ensures.value)))
+    (λ n v. c.in_ok-no_less.ensures n v ∙ ap (λ x. v 16 -ℤ pos x) c.low.ensures.value)))
     (most_argument_claim lengths range c.in_ok-no_more.field-0
-    (λ n v. c.in_ok-no_more.ensures n v ∙ ap (λ x. pos x -ℤ v 15) c.high.ensures.value)))
+    (λ n v. c.in_ok-no_more.ensures n v ∙ ap (λ x. pos x -ℤ v 16) c.high.ensures.value)))

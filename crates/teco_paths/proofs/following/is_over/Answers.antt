@@ -1,16 +1,18 @@
 use Rattle.std.proofs.Common.{subst, ap, length, arith}
 use Rattle.std.specs.Bool.{OnTrue}
 use Rattle.teco_paths.specs.Paths.{Course}
-use Rattle.teco_paths.specs.Steps.{IsInTime}
+use Rattle.teco_paths.specs.Steps.{IsInTime, IsSmall}
 use Rattle.teco_paths.proofs.Answered.{on_true}
 use Rattle.teco_paths.proofs.Onward.{over_leads}
 use Rattle.teco_paths.proofs.following.is_over.Goals as goal
 
-pub returns-then-is_timely : goal.returns-then-is_timely
-returns-then-is_timely c =
-    on_true c.in_ok-is_within.is_within
+pub returns-then-is_within : goal.returns-then-is_within
+returns-then-is_within c =
+    on_true c.in_ok-is_quiet.is_quiet
     (over_leads c.runs_end.ensures c.args.course.now c.args.spot.now (omega arith)
     (omega (arith, c.len.ensures, ap (λ (x : Course). length x.nodes) c.course.view_is))
-    (subst (λ b. OnTrue b (IsInTime c.args.course.now c.args.spot.now.case)) c.if-is_timely.true
-    c.in_ok-is_timely.ensures))
-    c.in_ok-is_within.ensures
+    (subst (λ b. OnTrue b (IsInTime c.args.course.now c.args.spot.now.case)) c.if-is_within.true.0
+    c.in_ok-is_timely.ensures)
+    (subst (λ b. OnTrue b (IsSmall c.args.course.now c.args.spot.now.case)) c.if-is_within.true.1
+    c.in_ok-is_within.ensures))
+    c.in_ok-is_quiet.ensures

@@ -1,6 +1,4 @@
-use Rattle.std.proofs.Common.{subst, arith, rules}
-use Rattle.std.specs.List.{All}
-use Rattle.teco_paths.specs.Paths.{LeadsOn}
+use Rattle.std.proofs.Common.{rules}
 use Rattle.teco_paths.proofs.Halving.{both_lead, halves_lead}
 use Rattle.teco_paths.proofs.halves.halves.Goals as goal
 

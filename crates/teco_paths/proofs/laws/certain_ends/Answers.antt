@@ -1,4 +1,3 @@
-use Rattle.std.proofs.Common.{arith}
 use Rattle.teco_paths.proofs.Certain.{certain_end}
 use Rattle.teco_paths.proofs.laws.certain_ends.Goals as goal
 

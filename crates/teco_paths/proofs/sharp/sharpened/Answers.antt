@@ -1,4 +1,4 @@
-use Rattle.std.proofs.Common.{◌≡◌, subst}
+use Rattle.std.proofs.Common.{subst}
 use Rattle.std.specs.Bool.{OnTrue}
 use Rattle.teco_linear.specs.Implied.{Implies}
 use Rattle.teco_paths.specs.Steps.{IsSharper, IsWith}

@@ -1,7 +1,7 @@
 use Rattle.std.proofs.Common.{subst}
 use Rattle.std.specs.Bool.{OnTrue}
 use Rattle.std.specs.List.{All}
-use Rattle.teco_paths.specs.Paths.{Course, Leads, LeadsOn}
+use Rattle.teco_paths.specs.Paths.{Leads, LeadsOn}
 use Rattle.teco_paths.specs.Steps.{GoOn, IsSmall}
 use Rattle.teco_paths.proofs.Answered.{if_ok}
 use Rattle.teco_paths.proofs.Onward.{leads_by}

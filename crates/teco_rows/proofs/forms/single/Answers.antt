@@ -1,4 +1,4 @@
-use Rattle.std.proofs.Common.{◌≡◌, Some, sym, ap, ◌∙◌, pos}
+use Rattle.std.proofs.Common.{◌≡◌, Some, sym, ap, ◌∙◌}
 use Rattle.teco_linear.specs.Form.{value}
 use Rattle.teco_rows.specs.Cases.{value_if}
 use Rattle.teco_rows.specs.States.{single}
@@ -6,6 +6,6 @@ use Rattle.teco_rows.proofs.forms.single.Goals as goal
 
 pub returns-in-Some : goal.returns-in-Some
 returns-in-Some c = λ n v s h.
-    let e : Some (value c.in-Some.form n v) ≡ Some (pos (single s c.args.which)) =
+    let e : Some (value c.in-Some.form n v) ≡ Some (single s c.args.which) =
     ap (λ o. value_if o n v) (sym c.in-Some.is) ∙ c.in_ok-form.ensures n v s h in
     cc

@@ -1,7 +1,7 @@
 use Rattle.teco_verdicts.proofs.Answering.{verdict_by}
 use Rattle.teco_verdicts.proofs.verifying.verify_by_either.Goals as goal
-use Rattle.teco_verdicts.specs.declared.method.Edition.TheVariants.{Second}
-use Rattle.teco_verdicts.specs.declared.method.Method.TheVariants.{Best}
+use Rattle.teco_console.specs.declared.method.Edition.TheVariants.{Second}
+use Rattle.teco_console.specs.declared.method.Method.TheVariants.{Best}
 
 pub returns : goal.returns
 returns g c =

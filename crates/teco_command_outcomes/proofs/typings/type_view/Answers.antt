@@ -1,0 +1,9 @@
+use Rattle.teco_linear.specs.Form.{value}
+use Rattle.teco_command_outcomes.specs.Typings.{view_characters}
+use Rattle.teco_command_outcomes.proofs.Writing.{types_bytes}
+use Rattle.teco_command_outcomes.proofs.typings.type_view.Goals as goal
+
+pub returns : goal.returns
+returns c =
+    types_bytes c.args.case.now c.in_ok-count.count (λ n v s. view_characters (value c.args.by.now n v) s)
+    c.in_ok-all.all c.in_ok-count.ensures c.in_ok-all.ensures.types

@@ -1,0 +1,2 @@
+-- What proofs of this crate and of those above cite.
+pub mod Fronts

@@ -1,0 +1,37 @@
+//! Where the program reads and writes, and what sources, requests and words are.
+#![tactic(auto)]
+
+mod console;
+mod dollars;
+mod fault;
+mod files;
+mod forms;
+mod given;
+mod linting;
+mod method;
+mod naming;
+mod outcome;
+mod premise;
+mod reading;
+mod request;
+mod setting;
+mod showing;
+mod sourced;
+mod stating;
+
+pub use console::{Console, Voice, write_bytes};
+pub use dollars::tell_dollars;
+pub use fault::{AnswerFault, written};
+pub use files::{STREAM, Shelf, read_file};
+pub use forms::{Escape, form_of, form_of_word, is_readable};
+pub use linting::{Findings, lint};
+pub use method::{Edition, Method, method_for};
+pub use naming::{element_at, letters};
+pub use outcome::Outcome;
+pub use premise::{Grouped, Known, Premise};
+pub use reading::{Written, read_source};
+pub use request::{Origin, Request};
+pub use setting::Setting;
+pub use showing::{explain, explain_all, show, show_source};
+pub use sourced::{NAMES, Sourced, macro_named};
+pub use stating::{Stated, all_stated};

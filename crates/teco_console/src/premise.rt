@@ -1,0 +1,151 @@
+//! Up to which N a promise holds.
+ghost use Rattle.std.specs.Prelude.{◌≡◌, ◌≤◌, ◌↔◌, IsTrue, IfSome};
+ghost use Rattle.teco_console.specs.Premise.{IsPremise, IsWithin};
+
+use crate::sourced::NAMES;
+use std::fmt;
+use teco_base::{LIMIT, Reg};
+use teco_library::Library;
+use teco_poly::Poly;
+use teco_poly::laws::values_grow;
+use teco_promise::Promise;
+
+/// The greatest N at which a promise holds: the printed size may be held, and the printed number of
+/// commands is one of 64 bits.
+#[derive(Clone, Copy, Debug, PartialEq, Eq)]
+pub struct Premise {
+    pub last: Option<u64>,
+    /// How many of the characters that N counts the texts of the library take.
+    pub taken: u64,
+}
+
+impl Premise {
+    /// The premise of a promise with this size and this number of commands, by a library whose texts
+    /// take so many characters.
+    pub fn of(size: &Poly, commands: &Poly, taken: u64) -> Premise
+        ensures last { IsPremise size.now commands.now result.last }
+        ensures taken { result.taken ≡ taken }
+    {
+        values_grow();
+        let fits = size.greatest_within(LIMIT as u64);
+        let counts = commands.greatest_within(u64::MAX);
+        match (fits, counts) {
+            (Some(fits), Some(counts)) => Premise {
+                last: Some(fits.min(counts)),
+                taken,
+            },
+            _ => Premise { last: None, taken },
+        }
+    }
+
+    /// The premise of a promise.
+    pub fn of_promise(promise: &Promise<'_>) -> Premise
+        ensures { IsPremise promise.now.size promise.now.commands result.last }
+    {
+        Premise::of(
+            &promise.size(),
+            &promise.commands(),
+            characters_of(promise.library()),
+        )
+    }
+
+    /// How many characters a text may have, beside those that the library takes; none where the
+    /// promise holds for no text.
+    pub fn longest(self) -> Option<u64> {
+        match self.last {
+            Some(last) if last > 0 => last.checked_sub(self.taken),
+            _ => None,
+        }
+    }
+
+    /// Does the promise hold for no text? N counts the texts of the library, so it does where they
+    /// alone are too long.
+    pub fn is_empty(self) -> bool {
+        self.longest().is_none()
+    }
+
+    /// Does the promise hold at this N?
+    pub fn holds_at(self, n: u128) -> bool
+        ensures { IsTrue result ↔ IsWithin self.last n }
+    {
+        match self.last {
+            None => false,
+            Some(last) => n <= u128::from(last),
+        }
+    }
+}
+
+// How many characters the texts of a library have.
+fn characters_of(library: &Library) -> u64 {
+    let mut count = 0u64;
+    for name in NAMES {
+        if let Some(text) = Reg::of(*name).and_then(|register| library.text(register)) {
+            count = count.saturating_add(text.len() as u64);
+        }
+    }
+    count
+}
+
+impl fmt::Display for Premise {
+    fn fmt<W: fmt::Write>(&self, f: &mut fmt::Formatter<W>) -> fmt::Result {
+        let (Some(last), Some(longest)) = (self.last, self.longest()) else {
+            return write!(f, "holds for no text");
+        };
+        let (last, longest, taken) = (Grouped(last), Grouped(longest), Grouped(self.taken));
+        write!(
+            f,
+            "holds for texts up to {longest} characters (N up to {last}, of which the macro takes {taken})"
+        )
+    }
+}
+
+/// A number with a comma before each three digits.
+#[derive(Clone, Copy)]
+pub struct Grouped(pub u64);
+
+impl Grouped {
+    // Its digits by threes, the greatest first.
+    fn groups(self) -> [u64; 7] {
+        let n = self.0;
+        [
+            n / 1_000_000_000_000_000_000,
+            n / 1_000_000_000_000_000 % 1000,
+            n / 1_000_000_000_000 % 1000,
+            n / 1_000_000_000 % 1000,
+            n / 1_000_000 % 1000,
+            n / 1000 % 1000,
+            n % 1000,
+        ]
+    }
+}
+
+impl fmt::Display for Grouped {
+    fn fmt<W: fmt::Write>(&self, f: &mut fmt::Formatter<W>) -> fmt::Result {
+        if self.0 == 0 {
+            return write!(f, "0");
+        }
+        let mut is_begun = false;
+        for group in self.groups() {
+            if is_begun {
+                write!(f, ",{group:03}")?;
+            } else if group > 0 {
+                write!(f, "{group}")?;
+                is_begun = true;
+            }
+        }
+        Ok(())
+    }
+}
+
+/// A number that may not be known.
+#[derive(Clone, Copy)]
+pub struct Known(pub Option<u64>);
+
+impl fmt::Display for Known {
+    fn fmt<W: fmt::Write>(&self, f: &mut fmt::Formatter<W>) -> fmt::Result {
+        match self.0 {
+            None => write!(f, "unknown"),
+            Some(number) => write!(f, "{}", Grouped(number)),
+        }
+    }
+}
