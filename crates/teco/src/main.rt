@@ -12,7 +12,7 @@ use teco_applied::{Listing, Names, Task, apply_macro, trace_macro};
 use teco_console::{
     Console, Outcome, Request, Setting, explain, explain_all, method_for, show, show_source,
 };
-use teco_edits::{InPlace, choose, edit_files};
+use teco_edits::{InPlaceEdits, choose, edit_files};
 use teco_examples::{Tests, fuzz_macro, test_examples};
 use teco_pages::{Closing, FileHost};
 use teco_tools::{OUTPUT, Prompting, Run, Start, Streams, run_scripts};
@@ -20,7 +20,7 @@ use teco_verdicts::{
     check_macro, explain_macro, verify_library, verify_library_as_json, verify_macro,
     verify_macro_as_json,
 };
-use teco_words::{Arguments, WordsFault};
+use teco_words::{CommandLine, WordsFault};
 
 /// The command line names no command, or a file of macros, a certificate, standard input, standard
 /// output or memory failed.
@@ -161,7 +161,7 @@ fn apply<'a, O: Write + Drop, E: Write + Drop>(
     rt: &HostRuntime,
     console: &mut Console<O, E>,
     given: &ArgMatches<'a>,
-    arguments: &'a Arguments,
+    arguments: &'a CommandLine,
 ) -> Result<Outcome, ProgramFault> {
     if given.get_flag("quiet") {
         console.voice.hush();
@@ -245,7 +245,7 @@ fn edit<'a, O: Write + Drop, E: Write + Drop>(
     rt: &HostRuntime,
     console: &mut Console<O, E>,
     given: &ArgMatches<'a>,
-    arguments: &'a Arguments,
+    arguments: &'a CommandLine,
 ) -> Result<Outcome, ProgramFault> {
     if given.get_flag("quiet") {
         console.voice.hush();
@@ -264,7 +264,7 @@ fn edit<'a, O: Write + Drop, E: Write + Drop>(
     let choice = teco_words::choice(given, &names)?;
     let files = choose(rt, &mut console.voice, &choice)?;
     let look = teco_words::look(given, shows_colours(rt))?;
-    let edit = InPlace {
+    let edit = InPlaceEdits {
         files: &files,
         takes_binary: given.get_flag("binary"),
         diff: given.get_flag("diff").then_some(look),
@@ -283,7 +283,7 @@ fn trace<'a, O: Write + Drop, E: Write + Drop>(
     rt: &HostRuntime,
     console: &mut Console<O, E>,
     given: &ArgMatches<'a>,
-    arguments: &'a Arguments,
+    arguments: &'a CommandLine,
 ) -> Result<Outcome, ProgramFault> {
     let settings = settings(rt, given)?;
     let task = Task {
@@ -337,7 +337,7 @@ fn obey<'a, O: Write + Drop, E: Write + Drop>(
     rt: &HostRuntime,
     console: &mut Console<O, E>,
     matches: &ArgMatches<'a>,
-    arguments: &'a Arguments,
+    arguments: &'a CommandLine,
 ) -> Result<Outcome, ProgramFault> {
     if let Some((name, given)) = matches.subcommand() {
         teco_words::check_texts(rt.alloc(), name, given, arguments)?;
@@ -359,7 +359,7 @@ fn obey<'a, O: Write + Drop, E: Write + Drop>(
 // Prints why words are no command, or the help that they ask for, safe for a terminal.
 fn print_refusal(
     rt: &HostRuntime,
-    arguments: &Arguments,
+    arguments: &CommandLine,
     error: &clap::Error,
 ) -> Result<ExitCode, ProgramFault> {
     let text = format!(in rt.alloc(); "{error}")?;
@@ -374,7 +374,7 @@ fn print_refusal(
 
 // Reads the words, and does what they say.
 fn read_and_obey(rt: &HostRuntime) -> Result<ExitCode, ProgramFault> {
-    let arguments = Arguments::read(rt)?;
+    let arguments = CommandLine::read(rt)?;
     let command = teco_words::command(rt.alloc(), arguments.texts())?;
     let matches = match command.try_get_matches_from(arguments.texts()) {
         Ok(matches) => matches,

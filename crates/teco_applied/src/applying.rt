@@ -27,7 +27,7 @@ use teco_apply::{
     Edit, Edited, Ending, Observer, Pages, Rewrite, Rewritten, edit_file, edit_in_place,
 };
 use teco_base::Reg;
-use teco_console::{Console, Grouped, Known, Outcome, Request, Voice};
+use teco_console::{Console, Grouped, KnownNumber, Outcome, Request, Voice};
 use teco_model::Needs;
 use teco_pages::{Host, MemHost};
 use teco_run::Machine;
@@ -79,8 +79,8 @@ fn tell_counts<E: Write + Drop>(voice: &mut Voice<E>, name: &[u8], edited: Edite
     let name = Shown(told_name(name));
     let pages = Grouped(edited.pages);
     let steps = Grouped(edited.steps);
-    let bound = Known(seen.bound);
-    let most = Known(seen.most);
+    let bound = KnownNumber(seen.bound);
+    let most = KnownNumber(seen.most);
     tell_anyway(
         voice,
         format_args!(

@@ -49,9 +49,9 @@ fn stop_of(progress: Progress, steps: u64) -> Option<Stop>
 
 // The value that is pending behind a step, if there is one.
 #[derive(Clone, Copy)]
-struct Answer(Option<i32>);
+struct PendingValue(Option<i32>);
 
-impl fmt::Display for Answer {
+impl fmt::Display for PendingValue {
     fn fmt<W: fmt::Write>(&self, f: &mut fmt::Formatter<W>) -> fmt::Result {
         match self.0 {
             None => write!(f, "-"),
@@ -62,7 +62,7 @@ impl fmt::Display for Answer {
 
 // A step that is listed: the steps before it, and where it stands.
 #[derive(Clone, Copy)]
-struct Line<'a> {
+struct ListedStep<'a> {
     steps: u64,
     site: &'a str,
 }
@@ -71,8 +71,8 @@ struct Line<'a> {
 fn list<O: Write + Drop, E: Write + Drop>(
     console: &mut Console<O, E>,
     machine: &mut Machine<GapText>,
-    line: Line<'_>,
-    answer: Answer,
+    line: ListedStep<'_>,
+    answer: PendingValue,
 ) -> Result<(), ToolFault>
     ensures { machine.new ≡ record
         machine.old { kept = record machine.old.kept { typed = [] } } }
@@ -88,7 +88,7 @@ fn list<O: Write + Drop, E: Write + Drop>(
 
 /// The command string whose steps are listed, and how many are at most.
 #[derive(Clone, Copy)]
-pub struct Walk<'a> {
+pub struct ListedRun<'a> {
     pub command: &'a [u8],
     pub most: u64,
 }
@@ -99,7 +99,7 @@ fn advance<H: Host, O: Write + Drop, E: Write + Drop>(
     machine: &mut Machine<GapText>,
     host: &mut H,
     execution: &mut Execution<'_>,
-    walk: Walk<'_>,
+    walk: ListedRun<'_>,
 ) -> Result<Option<Stop>, ToolFault>
     ensures { Advances execution.old execution.new
         machine.old machine.new (H.files host.old) (H.files host.new) result }
@@ -109,11 +109,11 @@ fn advance<H: Host, O: Write + Drop, E: Write + Drop>(
     match stop_of(machine.step(execution, host), steps) {
         Some(stop) => Ok(Some(stop)),
         None => {
-            let line = Line {
+            let line = ListedStep {
                 steps,
                 site: site.as_str(),
             };
-            list(console, machine, line, Answer(execution.value()))?;
+            list(console, machine, line, PendingValue(execution.value()))?;
             Ok(None)
         }
     }
@@ -132,14 +132,14 @@ pub fn follow<H: Host, O: Write + Drop, E: Write + Drop>(
     machine: &mut Machine<GapText>,
     host: &mut H,
     execution: &mut Execution<'_>,
-    walk: Walk<'_>,
+    walk: ListedRun<'_>,
 ) -> Result<Followed, ToolFault>
     ensures { Follows walk.entry.most (state_at execution.old) (state_at execution.new)
         machine.old machine.new (H.files host.old) (H.files host.new) result }
 {
     for steps in 0..walk.most {
         let site = execution.site();
-        let here = Walk {
+        let here = ListedRun {
             command: walk.command,
             most: steps,
         };

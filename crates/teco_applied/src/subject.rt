@@ -9,10 +9,10 @@ use std::io::{Input, Write};
 use std::rt::Files;
 use teco_base::Reg;
 use teco_console::{AnswerFault, Console, Outcome, Sourced, Voice, lint};
-use teco_tools::{Case, ToolFault};
+use teco_tools::{LetterCase, ToolFault};
 use teco_verdicts::{
-    Accepted, Claim, accepted, read_claim, read_library_for, refuse_claim, refuse_macro,
-    tell_no_text, warn_no_text,
+    Accepted, ClaimedCertificate, accepted, read_claim, read_library_for, refuse_claim,
+    refuse_macro, tell_no_text, warn_no_text,
 };
 use teco_verify::Refusal;
 
@@ -20,7 +20,7 @@ use teco_verify::Refusal;
 #[derive(Drop)]
 pub struct Subject<'a> {
     pub sourced: Sourced,
-    claim: Option<Claim<'a>>,
+    claim: Option<ClaimedCertificate<'a>>,
 }
 
 impl Subject<'_> {
@@ -122,7 +122,7 @@ pub fn say_findings<O: Write + Drop, E: Write + Drop>(
     ensures { console.new.out ≡ console.old.out }
 {
     let mut apart = console.apart();
-    let is_exact = matches!(task.start.case, Some(Case::Exact));
+    let is_exact = matches!(task.start.case, Some(LetterCase::Exact));
     lint(&mut apart, sourced, task.entry, is_exact);
     say_apart(&mut console.voice, apart);
 }

@@ -4,7 +4,7 @@ ghost use Rattle.teco_applied.specs.Traces as traces;
 ghost use Rattle.teco_applied.specs.Traces.{FollowsMacro, FollowsOnce, Traces, TracesLibrary, TracesLoaded, outcome_of};
 
 use crate::applying::Task;
-use crate::following::{Followed, Walk, follow};
+use crate::following::{Followed, ListedRun, follow};
 use crate::names::Names;
 use crate::opening::{PAGES, call_bytes, open_pages, turn};
 use crate::subject::refuse_empty;
@@ -119,7 +119,7 @@ fn follow_macro<H: Host + Reporting, O: Write + Drop, E: Write + Drop>(
         return Err(ToolFault::Answer(AnswerFault::Memory));
     }
     let mut execution = machine.begin(command)?;
-    let walk = Walk { command, most };
+    let walk = ListedRun { command, most };
     follow(console, machine, host, &mut execution, walk)
 }
 
@@ -182,7 +182,7 @@ pub struct Listing<'a> {
 
 // A macro of a library.
 #[derive(Clone, Copy)]
-struct Subject<'t, 'a, 's> {
+struct TracedMacro<'t, 'a, 's> {
     task: &'t Task<'a, 's>,
     library: &'t Library,
 }
@@ -193,13 +193,13 @@ fn trace_loaded<H: Host + Reporting, O: Write + Drop, E: Write + Drop>(
     console: &mut Console<O, E>,
     machine: &mut Machine<GapText>,
     host: &mut H,
-    subject: Subject<'_, '_, '_>,
+    subject: TracedMacro<'_, '_, '_>,
     most: u64,
 ) -> Result<Outcome, ToolFault>
     ensures { TracesLoaded subject.entry.task.now subject.entry.library.now most
         machine.old machine.new (H.files host.old) (H.files host.new) result }
 {
-    let Subject { task, library } = subject;
+    let TracedMacro { task, library } = subject;
     machine.load(library.texts())?;
     console.answer(HEAD)?;
     match task.pages {
@@ -215,7 +215,7 @@ fn trace<H: Host + Reporting, O: Write + Drop, E: Write + Drop>(
     console: &mut Console<O, E>,
     machine: &mut Machine<GapText>,
     host: &mut H,
-    subject: Subject<'_, '_, '_>,
+    subject: TracedMacro<'_, '_, '_>,
     listing: Listing<'_>,
 ) -> Result<Outcome, ToolFault>
     ensures { TracesLibrary subject.entry.task.now subject.entry.library.now listing.entry.most
@@ -248,7 +248,7 @@ fn tell_opening<H: Host + Reporting, O: Write + Drop, E: Write + Drop>(
 // Lists the steps of a macro of a library.
 fn trace_library<H: Host + Reporting, O: Write + Drop, E: Write + Drop>(
     console: &mut Console<O, E>,
-    subject: Subject<'_, '_, '_>,
+    subject: TracedMacro<'_, '_, '_>,
     listing: Listing<'_>,
     host: &mut H,
 ) -> Result<Outcome, ToolFault>
@@ -297,7 +297,7 @@ pub fn trace_macro<R: Files + Input, H: Host + Reporting, O: Write + Drop, E: Wr
     if is_refused(console, task, &sourced)? {
         return Ok(Outcome::Refused);
     }
-    let subject = Subject {
+    let subject = TracedMacro {
         task,
         library: &sourced.library,
     };

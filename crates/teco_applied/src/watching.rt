@@ -143,7 +143,7 @@ impl<'a, E: Write + Drop> Warden<'a, E> {
         match n {
             Some(n) if !premise.holds_at(u128::from(n)) => {
                 let name = Shown(self.watch.name);
-                let held = Held { n, length };
+                let held = HeldLength { n, length };
                 self.voice.complain(format_args!(
                     "{name}: {held} is outside the promise, which {premise}"
                 ));
@@ -181,12 +181,12 @@ impl<'a, E: Write + Drop> Warden<'a, E> {
 
 // The N of a run, and the length of the file where it is told.
 #[derive(Clone, Copy)]
-struct Held {
+struct HeldLength {
     n: u64,
     length: Option<u64>,
 }
 
-impl fmt::Display for Held {
+impl fmt::Display for HeldLength {
     fn fmt<W: fmt::Write>(&self, f: &mut fmt::Formatter<W>) -> fmt::Result {
         let n = Grouped(self.n);
         match self.length {

@@ -1,4 +1,4 @@
-// Bounds on the differences of a few symbols.
+//! Bounds on the differences of a few symbols.
 use crate::numbers::{ceiling, floor, plus};
 use crate::units::Units;
 use std::alloc::{AllocError, Global};
@@ -21,7 +21,7 @@ pub struct Bounds {
 
 // A form taken once or minus once, without the terms of two symbols.
 #[derive(Clone, Copy)]
-struct Part<'a> {
+struct RestOfForm<'a> {
     form: &'a Form,
     is_minus: bool,
     without: [Option<u32>; 2],
@@ -35,7 +35,7 @@ struct Sum {
     minus: Units,
 }
 
-impl Part<'_> {
+impl RestOfForm<'_> {
     fn leaves_out(&self, term: &Term) -> bool {
         let [first, second] = self.without;
         term.symbol.is_some() && (first == term.symbol || second == term.symbol)
@@ -96,12 +96,6 @@ impl Bounds {
         } else {
             floor(number, divisor)
         }
-    }
-
-    // Whether these are the same bounds of the same symbols.
-    pub fn is(&self, other: &Bounds) -> bool {
-        self.symbols.as_slice() == other.symbols.as_slice()
-            && self.table.as_slice() == other.table.as_slice()
     }
 
     pub fn symbols(&self) -> &[u32] {
@@ -188,30 +182,41 @@ impl Bounds {
         }
     }
 
-    // The row of a symbol, which is made where there is none.
-    fn made(&mut self, symbol: Option<u32>, alloc: Global) -> Result<usize, AllocError> {
-        if let Some(place) = self.place(symbol) {
-            return Ok(place);
-        }
+    // Makes the row and the column of a symbol, where there are none.
+    fn make(&mut self, symbol: Option<u32>, alloc: Global) -> Result<(), AllocError> {
         let Some(symbol) = symbol else {
-            return Ok(0);
+            return Ok(());
         };
-        let mut symbols = Vec::from_slice(alloc, &self.symbols)?;
-        symbols.push(symbol).map_err(AllocError::from)?;
-        let place = symbols.len();
-        *self = self.of_symbols(&symbols, alloc)?;
-        Ok(place)
+        if self.symbols.contains(&symbol) {
+            return Ok(());
+        }
+        let size = self.size();
+        let more = size.saturating_add(1);
+        let mut table = Vec::with_capacity(alloc, more.saturating_mul(more))?;
+        for row in 0..size {
+            let first = row.saturating_mul(size);
+            if let Some(bounds) = self.table.get(first..first.saturating_add(size)) {
+                table.extend_from_slice(bounds)?;
+            }
+            table.push(NONE).map_err(AllocError::from)?;
+        }
+        for _ in 0..size {
+            table.push(NONE).map_err(AllocError::from)?;
+        }
+        table.push(0).map_err(AllocError::from)?;
+        self.table = table;
+        self.symbols.push(symbol).map_err(AllocError::from)
     }
 
-    // Lowers all bounds by one, in rows that there are.
+    // Lowers all bounds by one, in rows that there are. A row stays where the bound does not lower what
+    // it is above the second symbol.
     pub fn lower(&mut self, left: usize, right: usize, most: i64) {
         if self.at(left, right) <= most {
             return;
         }
-        let size = self.size();
-        for row in 0..size {
+        for row in 0..self.size() {
             let ahead = plus(self.at(row, left), most);
-            if ahead != NONE {
+            if ahead < self.at(row, right) {
                 self.lower_row(row, right, ahead);
             }
         }
@@ -241,7 +246,7 @@ impl Bounds {
     }
 
     // What a part adds up, if its units are few and are of symbols that are bounded.
-    fn sum(&self, part: &Part<'_>) -> Option<Sum> {
+    fn sum(&self, part: &RestOfForm<'_>) -> Option<Sum> {
         let mut sum = Sum {
             number: 0,
             plus: Units::none(),
@@ -277,7 +282,7 @@ impl Bounds {
     }
 
     // What a part is at the least by the bounds of each symbol alone.
-    fn least_of_each(&self, part: &Part<'_>) -> Option<i64> {
+    fn least_of_each(&self, part: &RestOfForm<'_>) -> Option<i64> {
         let mut least = 0i64;
         for term in part.form.terms() {
             if part.leaves_out(term) {
@@ -336,7 +341,7 @@ impl Bounds {
     }
 
     // What a part is at the least.
-    fn least_of(&self, part: &Part<'_>) -> Option<i64> {
+    fn least_of(&self, part: &RestOfForm<'_>) -> Option<i64> {
         let Some(sum) = self.sum(part) else {
             return self.least_of_each(part);
         };
@@ -358,7 +363,7 @@ impl Bounds {
 
     // What a form is at the least.
     pub fn least(&self, form: &Form) -> Option<i64> {
-        self.least_of(&Part {
+        self.least_of(&RestOfForm {
             form,
             is_minus: false,
             without: [None, None],
@@ -372,7 +377,7 @@ impl Bounds {
 
     // What it is at the most without the terms of two symbols.
     fn most_without(&self, form: &Form, without: [Option<u32>; 2]) -> Option<i64> {
-        self.least_of(&Part {
+        self.least_of(&RestOfForm {
             form,
             is_minus: true,
             without,
@@ -388,20 +393,28 @@ impl Bounds {
     // Takes it that a form is at least 0.
     pub fn add(&mut self, form: &Form, alloc: Global) -> Result<(), AllocError> {
         for term in form.terms() {
-            let _row = self.made(term.symbol, alloc)?;
+            self.make(term.symbol, alloc)?;
         }
-        if self.is_void || self.shows(form) {
-            return Ok(());
-        }
-        if self.most(form).is_some_and(|most| most < 0) {
-            self.is_void = true;
+        if self.is_void {
             return Ok(());
         }
         match Difference::of(form) {
             Some(difference) => self.add_difference(&difference),
-            None => self.add_rough(form),
+            None => self.add_other(form),
         }
         Ok(())
+    }
+
+    // Takes it of a form that is no difference, if it says something.
+    fn add_other(&mut self, form: &Form) {
+        if self.shows(form) {
+            return;
+        }
+        if self.most(form).is_some_and(|most| most < 0) {
+            self.is_void = true;
+        } else {
+            self.add_rough(form);
+        }
     }
 
     fn add_difference(&mut self, difference: &Difference) {
@@ -412,7 +425,12 @@ impl Bounds {
         ) else {
             return;
         };
-        if left != right {
+        if self.at(left, right) <= most {
+            return;
+        }
+        if plus(self.at(right, left), most) < 0 {
+            self.is_void = true;
+        } else {
             self.lower(left, right, most);
         }
     }

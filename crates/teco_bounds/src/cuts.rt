@@ -1,5 +1,5 @@
-// Where paths are cut first.
-use crate::fault::Stop;
+//! Where paths are cut first.
+use crate::fault::SearchStop;
 use std::alloc::Global;
 use teco_expansion::Nodes;
 use teco_model::Kind;
@@ -56,7 +56,11 @@ fn mark(marks: &mut [bool], place: usize) {
 }
 
 // Marks where the first search of each iteration has answered, and tells which iterations have one.
-fn mark_answers(nodes: &Nodes<'_>, is_cut: &mut [bool], alloc: Global) -> Result<Vec<bool>, Stop> {
+fn mark_answers(
+    nodes: &Nodes<'_>,
+    is_cut: &mut [bool],
+    alloc: Global,
+) -> Result<Vec<bool>, SearchStop> {
     let mut has_search = Vec::from_elem(alloc, false, nodes.len().saturating_add(2))?;
     for at in 0..nodes.len() {
         let number = at + 1;
@@ -88,7 +92,7 @@ pub fn around(
     nodes: &Nodes<'_>,
     number: usize,
     alloc: Global,
-) -> Result<Vec<(usize, usize)>, Stop> {
+) -> Result<Vec<(usize, usize)>, SearchStop> {
     let mut spans = Vec::new(alloc);
     if number == 0 || number > nodes.len() {
         return Ok(spans);
@@ -102,7 +106,7 @@ pub fn around(
 }
 
 // The nodes where paths are cut first.
-pub fn first_cuts(nodes: &Nodes<'_>, cuts: Cuts, alloc: Global) -> Result<Vec<bool>, Stop> {
+pub fn first_cuts(nodes: &Nodes<'_>, cuts: Cuts, alloc: Global) -> Result<Vec<bool>, SearchStop> {
     let mut is_cut = Vec::from_elem(alloc, false, nodes.len().saturating_add(2))?;
     let mut has_search = Vec::new(alloc);
     if cuts == Cuts::Answers {

@@ -1,4 +1,4 @@
-// Why no claims are found.
+//! Why no claims are found.
 use std::alloc::{AllocError, AllocFailed};
 use teco_linear::LinearFault;
 use teco_paths::fault::PathFault;
@@ -8,7 +8,7 @@ use thiserror::Error;
 
 /// Why no claims are found.
 #[derive(Clone, Copy, Debug, PartialEq, Eq, Error)]
-pub enum Refusal {
+pub enum SearchRefusal {
     /// What comes of an element is not told.
     #[error("what comes of this element is not told")]
     NotTold(usize),
@@ -35,70 +35,70 @@ pub enum Refusal {
     Memory,
 }
 
-// Why a part of the search stops: it gives up; it is begun again with a cut point more, or with the
-// number in a place no longer taken to be tame; or what it rests on was not the last word.
+// Why a part of the search stops: it gives up; it is begun again with a cut point more, or with fewer
+// numbers that are taken to be tame; or what it rests on was not the last word.
 #[derive(Clone, Copy, Debug, PartialEq, Eq)]
-pub enum Stop {
-    Refused(Refusal),
+pub enum SearchStop {
+    Refused(SearchRefusal),
     CutAt(usize),
-    Wild(u32),
+    Wild,
     Unstable,
 }
 
-impl From<Refusal> for Stop {
-    fn from(refused: Refusal) -> Stop {
-        Stop::Refused(refused)
+impl From<SearchRefusal> for SearchStop {
+    fn from(refused: SearchRefusal) -> SearchStop {
+        SearchStop::Refused(refused)
     }
 }
 
-impl From<AllocError> for Stop {
-    fn from(_refused: AllocError) -> Stop {
-        Stop::Refused(Refusal::Memory)
+impl From<AllocError> for SearchStop {
+    fn from(_refused: AllocError) -> SearchStop {
+        SearchStop::Refused(SearchRefusal::Memory)
     }
 }
 
-impl<T: Drop> From<AllocFailed<T>> for Stop {
-    fn from(_refused: AllocFailed<T>) -> Stop {
-        Stop::Refused(Refusal::Memory)
+impl<T: Drop> From<AllocFailed<T>> for SearchStop {
+    fn from(_refused: AllocFailed<T>) -> SearchStop {
+        SearchStop::Refused(SearchRefusal::Memory)
     }
 }
 
-impl From<PathFault> for Stop {
-    fn from(refused: PathFault) -> Stop {
-        Stop::Refused(match refused {
-            PathFault::NotTold(number) => Refusal::NotTold(number),
-            PathFault::NotOpen(number) => Refusal::NotOpen(number),
-            PathFault::Condition(number) => Refusal::Condition(number),
-            PathFault::Memory => Refusal::Memory,
-            PathFault::TooLong => Refusal::TooMuch,
-            _ => Refusal::NotAccepted(refused),
+impl From<PathFault> for SearchStop {
+    fn from(refused: PathFault) -> SearchStop {
+        SearchStop::Refused(match refused {
+            PathFault::NotTold(number) => SearchRefusal::NotTold(number),
+            PathFault::NotOpen(number) => SearchRefusal::NotOpen(number),
+            PathFault::Condition(number) => SearchRefusal::Condition(number),
+            PathFault::Memory => SearchRefusal::Memory,
+            PathFault::TooLong => SearchRefusal::TooMuch,
+            _ => SearchRefusal::NotAccepted(refused),
         })
     }
 }
 
-impl From<LinearFault> for Stop {
-    fn from(refused: LinearFault) -> Stop {
-        Stop::Refused(match refused {
-            LinearFault::Memory => Refusal::Memory,
-            _ => Refusal::TooMuch,
+impl From<LinearFault> for SearchStop {
+    fn from(refused: LinearFault) -> SearchStop {
+        SearchStop::Refused(match refused {
+            LinearFault::Memory => SearchRefusal::Memory,
+            _ => SearchRefusal::TooMuch,
         })
     }
 }
 
-impl From<Fault> for Stop {
-    fn from(refused: Fault) -> Stop {
+impl From<Fault> for SearchStop {
+    fn from(refused: Fault) -> SearchStop {
         match refused {
-            Fault::Linear(refused) => Stop::from(refused),
-            _ => Stop::Refused(Refusal::TooMuch),
+            Fault::Linear(refused) => SearchStop::from(refused),
+            _ => SearchStop::Refused(SearchRefusal::TooMuch),
         }
     }
 }
 
-impl From<SimplexFault> for Stop {
-    fn from(refused: SimplexFault) -> Stop {
-        Stop::Refused(match refused {
-            SimplexFault::Memory => Refusal::Memory,
-            _ => Refusal::TooMuch,
+impl From<SimplexFault> for SearchStop {
+    fn from(refused: SimplexFault) -> SearchStop {
+        SearchStop::Refused(match refused {
+            SimplexFault::Memory => SearchRefusal::Memory,
+            _ => SearchRefusal::TooMuch,
         })
     }
 }

@@ -1,6 +1,6 @@
-// Where paths are cut: a node with the shape of a state, and what tells its states apart.
+//! Where paths are cut: a node with the shape of a state, and what tells its states apart.
 use crate::bounds::{Bounds, NONE};
-use crate::fault::Stop;
+use crate::fault::SearchStop;
 use crate::measures::{LENGTH, NUMBER, PUSHED_LENGTH, PUSHED_NUMBER, TURNS, family_of};
 use crate::trail::Trail;
 use std::alloc::Global;
@@ -79,7 +79,7 @@ impl Key {
 }
 
 // Which measures of a case bounds are kept of.
-fn told_of(present: &[bool], spoken: &[bool], alloc: Global) -> Result<Vec<u32>, Stop> {
+fn told_of(present: &[bool], spoken: &[bool], alloc: Global) -> Result<Vec<u32>, SearchStop> {
     let mut told = Vec::new(alloc);
     for place in 0..present.len() {
         if present.get(place) == Some(&true) && spoken.get(place) != Some(&false) {
@@ -90,7 +90,7 @@ fn told_of(present: &[bool], spoken: &[bool], alloc: Global) -> Result<Vec<u32>,
 }
 
 // Whether the pointer is at the buffer's end.
-fn at_end(trail: &Trail, alloc: Global) -> Result<Option<bool>, Stop> {
+fn at_end(trail: &Trail, alloc: Global) -> Result<Option<bool>, SearchStop> {
     let (Some(pointer), Some(size)) = (
         form_at(&trail.case.forms, POINTER as usize, alloc)?,
         form_at(&trail.case.forms, SIZE as usize, alloc)?,
@@ -133,7 +133,7 @@ pub fn raise_quotients(facts: &mut Bounds, key: &Key, flags: &[Flag]) {
 }
 
 // The number of a flag, if it is one of its numbers.
-fn flag_at(trail: &Trail, flag: &Flag, alloc: Global) -> Result<Option<i64>, Stop> {
+fn flag_at(trail: &Trail, flag: &Flag, alloc: Global) -> Result<Option<i64>, SearchStop> {
     let Some(number) = form_at(&trail.case.forms, flag.place as usize, alloc)? else {
         return Ok(None);
     };
@@ -149,7 +149,12 @@ fn flag_at(trail: &Trail, flag: &Flag, alloc: Global) -> Result<Option<i64>, Sto
 }
 
 // The key of a trail.
-pub fn key_of(trail: &Trail, flags: &[Flag], spoken: &[bool], alloc: Global) -> Result<Key, Stop> {
+pub fn key_of(
+    trail: &Trail,
+    flags: &[Flag],
+    spoken: &[bool],
+    alloc: Global,
+) -> Result<Key, SearchStop> {
     let mut present = Vec::new(alloc);
     for form in &trail.case.forms {
         present.push(form.is_some())?;
@@ -193,7 +198,7 @@ pub fn simple(form: &Form) -> Option<(Option<u32>, i64)> {
 }
 
 // What one measure is above another at most.
-fn between(trail: &Trail, one: &Form, other: &Form, alloc: Global) -> Result<i64, Stop> {
+fn between(trail: &Trail, one: &Form, other: &Form, alloc: Global) -> Result<i64, SearchStop> {
     let most = match (simple(one), simple(other)) {
         (Some((left, more)), Some((right, less))) if left != right => {
             let most = trail.bounds.bound(left, right);
@@ -219,7 +224,7 @@ fn near(most: i64, is_alone: bool) -> i64 {
 }
 
 // What a trail says of the differences of the measures of a key.
-pub fn projected(trail: &Trail, told: &[u32], alloc: Global) -> Result<Bounds, Stop> {
+pub fn projected(trail: &Trail, told: &[u32], alloc: Global) -> Result<Bounds, SearchStop> {
     let mut forms = Vec::new(alloc);
     forms.push(Form::zero(alloc))?;
     for place in told {
@@ -298,7 +303,7 @@ pub fn stands_for(bounds: &Bounds, row: usize, is_own: &[bool]) -> Option<(usize
 }
 
 // A symbol, or none, and a number.
-pub fn shifted(symbol: Option<u32>, more: i64, alloc: Global) -> Result<Form, Stop> {
+pub fn shifted(symbol: Option<u32>, more: i64, alloc: Global) -> Result<Form, SearchStop> {
     let number = Form::constant(i128::from(more), alloc)?;
     match symbol {
         Some(symbol) => Ok(Form::symbol(symbol, alloc)?.add(&number, alloc)?),
@@ -312,7 +317,12 @@ pub fn symbol_of(bounds: &Bounds, row: usize) -> Option<u32> {
 }
 
 // That the bound between two rows holds.
-pub fn bound_form(bounds: &Bounds, row: usize, column: usize, alloc: Global) -> Result<Form, Stop> {
+pub fn bound_form(
+    bounds: &Bounds,
+    row: usize,
+    column: usize,
+    alloc: Global,
+) -> Result<Form, SearchStop> {
     let left = shifted(symbol_of(bounds, row), 0, alloc)?;
     let right = shifted(symbol_of(bounds, column), bounds.at(row, column), alloc)?;
     Ok(right.sub(&left, alloc)?)
@@ -333,7 +343,7 @@ fn follows(bounds: &Bounds, row: usize, column: usize) -> bool {
 }
 
 // The bounds that do not follow from two others, as constraints. None of the bounds are equations.
-pub fn least_forms(bounds: &Bounds, alloc: Global) -> Result<Vec<Form>, Stop> {
+pub fn least_forms(bounds: &Bounds, alloc: Global) -> Result<Vec<Form>, SearchStop> {
     let mut forms = Vec::new(alloc);
     for row in 0..bounds.size() {
         for column in 0..bounds.size() {
@@ -347,7 +357,7 @@ pub fn least_forms(bounds: &Bounds, alloc: Global) -> Result<Vec<Form>, Stop> {
 }
 
 // All bounds as constraints: the equations, and the least of the others.
-pub fn all_forms(bounds: &Bounds, alloc: Global) -> Result<Vec<Form>, Stop> {
+pub fn all_forms(bounds: &Bounds, alloc: Global) -> Result<Vec<Form>, SearchStop> {
     let mut is_own = Vec::from_elem(alloc, true, bounds.size())?;
     let mut own = Vec::new(alloc);
     let mut equations = Vec::new(alloc);
@@ -373,13 +383,13 @@ pub fn all_forms(bounds: &Bounds, alloc: Global) -> Result<Vec<Form>, Stop> {
 
 // The forms of measures by bounds, and the symbols that are left.
 #[derive(Drop)]
-struct Given {
+struct KeyForms {
     forms: Vec<Option<Form>>,
     own: Vec<u32>,
 }
 
 // The form of each measure: its own symbol, or another one's and a number.
-fn give_forms(key: &Key, bounds: &Bounds, alloc: Global) -> Result<Given, Stop> {
+fn give_forms(key: &Key, bounds: &Bounds, alloc: Global) -> Result<KeyForms, SearchStop> {
     let mut forms: Vec<Option<Form>> = Vec::new(alloc);
     for place in 0..key.present.len() {
         let symbol = u32::try_from(place).unwrap_or(0);
@@ -407,7 +417,7 @@ fn give_forms(key: &Key, bounds: &Bounds, alloc: Global) -> Result<Given, Stop> 
             None => own.push(place)?,
         }
     }
-    Ok(Given { forms, own })
+    Ok(KeyForms { forms, own })
 }
 
 // Where paths begin at a key by facts, and the measures that have their own symbols, where
@@ -417,12 +427,12 @@ pub fn begun(
     facts: &Bounds,
     tame: &[u32],
     alloc: Global,
-) -> Result<(Trail, Vec<u32>), Stop> {
+) -> Result<(Trail, Vec<u32>), SearchStop> {
     let mut all = facts.copied(alloc)?;
     all.close();
     add_always(&mut all, &key.told);
     add_tame(&mut all, tame);
-    let Given { forms, own } = give_forms(key, &all, alloc)?;
+    let KeyForms { forms, own } = give_forms(key, &all, alloc)?;
     let bounds = all.of_symbols(&own, alloc)?;
     let constraints = least_forms(&bounds, alloc)?;
     let symbols = u32::try_from(key.present.len()).unwrap_or(0);
@@ -443,7 +453,7 @@ pub fn begun(
 }
 
 // N times a number, to a power.
-pub fn power_of(power: u32, coefficient: i128, alloc: Global) -> Result<Form, Stop> {
+pub fn power_of(power: u32, coefficient: i128, alloc: Global) -> Result<Form, SearchStop> {
     Ok(Form::term(
         Term {
             symbol: None,

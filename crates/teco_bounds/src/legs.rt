@@ -1,11 +1,11 @@
-// The paths between keys, as programs need them.
+//! The paths between keys, as programs need them.
 use crate::bounds::Bounds;
 use crate::cuts::around;
-use crate::fault::Stop;
+use crate::fault::SearchStop;
 use crate::keys::{bound_form, key_of, projected};
 use crate::record::Record;
 use crate::rounds::at_trail;
-use crate::search::{Keys, Search};
+use crate::search::{Keys, PathSearch};
 use crate::trail::Trail;
 use teco_linear::Form;
 
@@ -24,7 +24,7 @@ pub struct Leg {
 // Where paths begin at a key: its node, the forms of measures, the constraints, the measures that have
 // their own symbols, and the bounds of these.
 #[derive(Drop)]
-pub struct Start {
+pub struct LegStart {
     pub number: usize,
     pub forms: Vec<Option<Form>>,
     pub constraints: Vec<Form>,
@@ -37,7 +37,7 @@ pub struct Start {
 // All paths, and what was noted on them.
 #[derive(Drop)]
 pub struct Web {
-    pub starts: Vec<Start>,
+    pub starts: Vec<LegStart>,
     pub legs: Vec<Leg>,
     pub record: Record,
 }
@@ -74,9 +74,9 @@ impl Web {
     }
 }
 
-impl Search<'_> {
+impl PathSearch<'_> {
     // Whether a trail shows the facts of a key.
-    fn is_covered(&self, keys: &Keys, target: usize, trail: &Trail) -> Result<bool, Stop> {
+    fn is_covered(&self, keys: &Keys, target: usize, trail: &Trail) -> Result<bool, SearchStop> {
         let (Some(key), Some(facts)) = (keys.keys.get(target), keys.facts.get(target)) else {
             return Ok(false);
         };
@@ -96,16 +96,16 @@ impl Search<'_> {
     }
 
     // The path that a trail is the end of.
-    fn leg(&self, keys: &Keys, source: usize, trail: Trail) -> Result<Leg, Stop> {
+    fn leg(&self, keys: &Keys, source: usize, trail: Trail) -> Result<Leg, SearchStop> {
         let target = if trail.number > self.course.nodes.len() {
             None
         } else {
             let key = key_of(&trail, &self.flags, &self.spoken, self.alloc)?;
             let Some(target) = keys.place(&key) else {
-                return Err(Stop::Unstable);
+                return Err(SearchStop::Unstable);
             };
             if !self.is_covered(keys, target, &trail)? {
-                return Err(Stop::Unstable);
+                return Err(SearchStop::Unstable);
             }
             Some(target)
         };
@@ -122,7 +122,7 @@ impl Search<'_> {
     }
 
     // A key, as a trail that begins there tells it.
-    fn start_of(&self, first: Trail, own: Vec<u32>) -> Result<Start, Stop> {
+    fn start_of(&self, first: Trail, own: Vec<u32>) -> Result<LegStart, SearchStop> {
         let around = around(self.course.nodes, first.number, self.alloc)?;
         let Trail {
             number,
@@ -130,7 +130,7 @@ impl Search<'_> {
             bounds,
             ..
         } = first;
-        Ok(Start {
+        Ok(LegStart {
             number,
             forms: case.forms,
             constraints: case.constraints,
@@ -141,7 +141,7 @@ impl Search<'_> {
     }
 
     // All paths between keys.
-    pub fn web(&mut self, keys: &Keys) -> Result<Web, Stop> {
+    pub fn web(&mut self, keys: &Keys) -> Result<Web, SearchStop> {
         let alloc = self.alloc;
         let mut web = Web {
             starts: Vec::new(alloc),

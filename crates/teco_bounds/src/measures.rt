@@ -1,5 +1,5 @@
-// Which measures a macro speaks of.
-use crate::fault::Stop;
+//! Which measures a macro speaks of.
+use crate::fault::SearchStop;
 use crate::keys::LAST_LENGTH;
 use std::alloc::Global;
 use teco_base::{REGISTERS, Reg};
@@ -118,7 +118,7 @@ fn mark_element(spoken: &mut [bool], element: &Element<'_>) {
 
 // The places of the measures that a macro speaks of: the pointer and the like, turns, values and pairs
 // always, of registers the numbers and lengths that elements use.
-pub fn spoken_of(nodes: &Nodes<'_>, alloc: Global) -> Result<Vec<bool>, Stop> {
+pub fn spoken_of(nodes: &Nodes<'_>, alloc: Global) -> Result<Vec<bool>, SearchStop> {
     let mut spoken = Vec::new(alloc);
     for place in 0..PLACES {
         let is_always = match family_of(place) {
@@ -143,7 +143,7 @@ fn are_named(spoken: &[bool], number: u32) -> bool {
 
 // The places of the measures of which anything is told: all but those of registers that no element
 // names.
-pub fn used_of(spoken: &[bool], alloc: Global) -> Result<Vec<bool>, Stop> {
+pub fn used_of(spoken: &[bool], alloc: Global) -> Result<Vec<bool>, SearchStop> {
     let mut used = Vec::new(alloc);
     for place in 0..PLACES {
         let is_used = match family_of(place) {

@@ -1,4 +1,4 @@
-// Numbers that bounds are made of.
+//! Numbers that bounds are made of.
 use crate::bounds::NONE;
 
 // The sum of two bounds, where there are both.

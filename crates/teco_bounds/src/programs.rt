@@ -1,22 +1,24 @@
-// Linear programs whose variables are coefficients: that sums of them are implied by constraints.
-use crate::fault::{Refusal, Stop};
+//! Linear programs whose variables are coefficients: that sums of them are implied by constraints.
+use crate::fault::{SearchRefusal, SearchStop};
 use std::alloc::Global;
 use teco_linear::Form;
-use teco_simplex::{Answer, Program, Relation, Row, Sign, SimplexFault, Term, Values};
+use teco_simplex::{
+    Assignment, Condition, LinearProgram, Relation, Sign, SimplexFault, SolverAnswer, Summand,
+};
 
 // How many rows the pivots of a program may go through.
 const WORK: usize = 600_000;
 
 // A number times a variable, or alone, at a symbol, or at none, and a power of N.
 #[derive(Clone, Copy)]
-pub struct Entry {
+pub struct Coefficient {
     pub symbol: Option<u32>,
     pub power: u32,
     pub variable: Option<usize>,
     pub coefficient: i128,
 }
 
-impl Entry {
+impl Coefficient {
     // Entries are grouped by this.
     fn place(&self) -> u64 {
         let symbol = match self.symbol {
@@ -29,24 +31,24 @@ impl Entry {
 
 // A program that is being made, and how many pivots it may take.
 #[derive(Drop)]
-pub struct Draft {
-    program: Program,
+pub struct DraftProgram {
+    program: LinearProgram,
     pub alloc: Global,
 }
 
 // Adds a form times a number, and times a variable, to entries.
 pub fn add_form(
-    entries: &mut Vec<Entry>,
+    entries: &mut Vec<Coefficient>,
     form: &Form,
     power: u32,
     variable: Option<usize>,
     times: i128,
-) -> Result<(), Stop> {
+) -> Result<(), SearchStop> {
     for term in form.terms() {
         let Some(coefficient) = term.coefficient.checked_mul(times) else {
-            return Err(Stop::Refused(Refusal::TooMuch));
+            return Err(SearchStop::Refused(SearchRefusal::TooMuch));
         };
-        entries.push(Entry {
+        entries.push(Coefficient {
             symbol: term.symbol,
             power: term.power.saturating_add(power),
             variable,
@@ -56,15 +58,15 @@ pub fn add_form(
     Ok(())
 }
 
-impl Draft {
-    pub fn new(alloc: Global) -> Draft {
-        Draft {
-            program: Program::new(alloc),
+impl DraftProgram {
+    pub fn new(alloc: Global) -> DraftProgram {
+        DraftProgram {
+            program: LinearProgram::new(alloc),
             alloc,
         }
     }
 
-    pub fn variable(&mut self, sign: Sign) -> Result<usize, Stop> {
+    pub fn variable(&mut self, sign: Sign) -> Result<usize, SearchStop> {
         Ok(self.program.add_variable(sign)?)
     }
 
@@ -73,35 +75,37 @@ impl Draft {
     }
 
     // That entries of one symbol and power come to 0, or to no less than 0 where there is no symbol.
-    fn add_group(&mut self, group: &[Entry]) -> Result<(), Stop> {
-        let mut terms: Vec<Term> = Vec::new(self.alloc);
+    fn add_group(&mut self, group: &[Coefficient]) -> Result<(), SearchStop> {
+        let mut terms: Vec<Summand> = Vec::new(self.alloc);
         let mut number = 0i128;
         let mut is_free = true;
         for entry in group {
             is_free = entry.symbol.is_none();
             match entry.variable {
-                Some(variable) => terms.push(Term {
+                Some(variable) => terms.push(Summand {
                     variable,
                     coefficient: entry.coefficient,
                 })?,
                 None => {
                     number = number
                         .checked_add(entry.coefficient)
-                        .ok_or(Stop::Refused(Refusal::TooMuch))?;
+                        .ok_or(SearchStop::Refused(SearchRefusal::TooMuch))?;
                 }
             }
         }
         if terms.is_empty() && number == 0 {
             return Ok(());
         }
-        self.program.add_row(Row {
+        self.program.add_row(Condition {
             terms,
             relation: if is_free {
                 Relation::AtLeast
             } else {
                 Relation::Equal
             },
-            bound: number.checked_neg().ok_or(Stop::Refused(Refusal::TooMuch))?,
+            bound: number
+                .checked_neg()
+                .ok_or(SearchStop::Refused(SearchRefusal::TooMuch))?,
         })?;
         Ok(())
     }
@@ -110,10 +114,10 @@ impl Draft {
     // degree.
     pub fn imply(
         &mut self,
-        entries: Vec<Entry>,
+        entries: Vec<Coefficient>,
         constraints: &[Form],
         degree: u32,
-    ) -> Result<(), Stop> {
+    ) -> Result<(), SearchStop> {
         let mut all = entries;
         for constraint in constraints {
             for power in 0..degree {
@@ -138,10 +142,10 @@ impl Draft {
     }
 
     // Adds that the sum of variables is to be least, behind what was added before.
-    pub fn minimise(&mut self, variables: &[usize]) -> Result<(), Stop> {
+    pub fn minimise(&mut self, variables: &[usize]) -> Result<(), SearchStop> {
         let mut objective = Vec::new(self.alloc);
         for variable in variables {
-            objective.push(Term {
+            objective.push(Summand {
                 variable: *variable,
                 coefficient: 1,
             })?;
@@ -151,13 +155,18 @@ impl Draft {
     }
 
     // Takes it that a variable stands so to a number.
-    pub fn bound(&mut self, variable: usize, relation: Relation, bound: i128) -> Result<(), Stop> {
+    pub fn bound(
+        &mut self,
+        variable: usize,
+        relation: Relation,
+        bound: i128,
+    ) -> Result<(), SearchStop> {
         let mut terms = Vec::new(self.alloc);
-        terms.push(Term {
+        terms.push(Summand {
             variable,
             coefficient: 1,
         })?;
-        self.program.add_row(Row {
+        self.program.add_row(Condition {
             terms,
             relation,
             bound,
@@ -178,13 +187,13 @@ impl Draft {
 
     // The values of the variables, if there are some and they are found. A large program may take
     // fewer pivots.
-    pub fn solved(&self, pivots: usize) -> Result<Option<Values>, Stop> {
+    pub fn solved(&self, pivots: usize) -> Result<Option<Assignment>, SearchStop> {
         let rows = self.program.rows.len().saturating_add(1);
         let pivots = pivots.min(WORK.checked_div(rows).unwrap_or(0));
         match self.program.solve(self.alloc, pivots) {
-            Ok(Answer::Found(values)) => Ok(Some(values)),
+            Ok(SolverAnswer::Found(values)) => Ok(Some(values)),
             Ok(_) => Ok(None),
-            Err(SimplexFault::Memory) => Err(Stop::Refused(Refusal::Memory)),
+            Err(SimplexFault::Memory) => Err(SearchStop::Refused(SearchRefusal::Memory)),
             Err(_) => Ok(None),
         }
     }

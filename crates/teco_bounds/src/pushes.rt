@@ -1,6 +1,6 @@
-// Whether what iterations push is popped.
+//! Whether what iterations push is popped.
 use crate::cuts::kind_at;
-use crate::fault::{Refusal, Stop};
+use crate::fault::{SearchRefusal, SearchStop};
 use std::alloc::Global;
 use teco_expansion::Nodes;
 use teco_model::Kind;
@@ -8,31 +8,31 @@ use teco_model::kind::Stack;
 
 // What an element does with the push-down list.
 #[derive(Clone, Copy, PartialEq, Eq)]
-enum Change {
+enum PushChange {
     None,
     Push,
     Pop,
 }
 
 // What the element of each node does with the push-down list, from that of number 0 on.
-fn changes(nodes: &Nodes<'_>, alloc: Global) -> Result<Vec<Change>, Stop> {
+fn changes(nodes: &Nodes<'_>, alloc: Global) -> Result<Vec<PushChange>, SearchStop> {
     let mut changes = Vec::new(alloc);
     for number in 0..nodes.len().saturating_add(1) {
         changes.push(match kind_at(nodes, number) {
-            Some(Kind::Stack(Stack::Push(_))) => Change::Push,
-            Some(Kind::Stack(Stack::Pop(_))) => Change::Pop,
-            _ => Change::None,
+            Some(Kind::Stack(Stack::Push(_))) => PushChange::Push,
+            Some(Kind::Stack(Stack::Pop(_))) => PushChange::Pop,
+            _ => PushChange::None,
         })?;
     }
     Ok(changes)
 }
 
 // How many pushes there are behind an element; none where a pop finds nothing.
-fn behind(change: Change, pushes: usize) -> Option<usize> {
+fn behind(change: PushChange, pushes: usize) -> Option<usize> {
     match change {
-        Change::None => Some(pushes),
-        Change::Push => Some(pushes.saturating_add(1)),
-        Change::Pop => pushes.checked_sub(1),
+        PushChange::None => Some(pushes),
+        PushChange::Push => Some(pushes.saturating_add(1)),
+        PushChange::Pop => pushes.checked_sub(1),
     }
 }
 
@@ -48,7 +48,7 @@ fn raise(most: &mut [Option<usize>], number: usize, pushes: usize) -> bool {
 }
 
 // Raises the pushes of the nodes that an element leads to; says whether it did.
-fn pass(nodes: &Nodes<'_>, most: &mut [Option<usize>], number: usize, change: Change) -> bool {
+fn pass(nodes: &Nodes<'_>, most: &mut [Option<usize>], number: usize, change: PushChange) -> bool {
     if number == 0 || number > nodes.len() {
         return false;
     }
@@ -66,19 +66,19 @@ fn pass(nodes: &Nodes<'_>, most: &mut [Option<usize>], number: usize, change: Ch
 }
 
 // The node of a push that finds more pushes than there are in the macro.
-fn excess(changes: &[Change], most: &[Option<usize>], count: usize) -> Option<usize> {
+fn excess(changes: &[PushChange], most: &[Option<usize>], count: usize) -> Option<usize> {
     changes.iter().zip(most.iter()).position(|(change, known)| {
-        *change == Change::Push && known.is_some_and(|pushes| pushes >= count)
+        *change == PushChange::Push && known.is_some_and(|pushes| pushes >= count)
     })
 }
 
 // Refuses where paths, whatever numbers are, may push ever more: on a path that comes to no node twice
 // no push finds as many pushes as there are in the macro.
-pub fn check_pushes(nodes: &Nodes<'_>, alloc: Global) -> Result<(), Stop> {
+pub fn check_pushes(nodes: &Nodes<'_>, alloc: Global) -> Result<(), SearchStop> {
     let changes = changes(nodes, alloc)?;
     let count = changes
         .iter()
-        .filter(|change| **change == Change::Push)
+        .filter(|change| **change == PushChange::Push)
         .count();
     if count == 0 {
         return Ok(());
@@ -94,7 +94,7 @@ pub fn check_pushes(nodes: &Nodes<'_>, alloc: Global) -> Result<(), Stop> {
             is_raised = pass(nodes, &mut most, number, *change) || is_raised;
         }
         if let Some(number) = excess(&changes, &most, count) {
-            return Err(Stop::Refused(Refusal::Condition(number)));
+            return Err(SearchStop::Refused(SearchRefusal::Condition(number)));
         }
     }
     Ok(())

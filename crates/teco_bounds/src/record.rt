@@ -1,5 +1,5 @@
-// What the search notes of paths on the way.
-use crate::fault::{Refusal, Stop};
+//! What the search notes of paths on the way.
+use crate::fault::{SearchRefusal, SearchStop};
 use crate::trail::Trail;
 use std::alloc::Global;
 use teco_linear::Form;
@@ -20,7 +20,7 @@ pub struct Peak {
 
 // A condition of an element that bounds do not show, where these constraints hold, and the measures there.
 #[derive(Drop)]
-pub struct Open {
+pub struct OpenCondition {
     pub number: usize,
     pub source: usize,
     pub wanted: Form,
@@ -29,7 +29,7 @@ pub struct Open {
 }
 
 // Forms, copied.
-fn copied_forms(forms: &[Option<Form>], alloc: Global) -> Result<Vec<Option<Form>>, Stop> {
+fn copied_forms(forms: &[Option<Form>], alloc: Global) -> Result<Vec<Option<Form>>, SearchStop> {
     let mut copies: Vec<Option<Form>> = Vec::new(alloc);
     for form in forms {
         match form {
@@ -58,7 +58,7 @@ pub struct Record {
     // How many constraints were copied.
     copies: usize,
     pub peaks: Vec<Peak>,
-    pub opens: Vec<Open>,
+    pub opens: Vec<OpenCondition>,
     pub passed: Vec<Passed>,
 }
 
@@ -77,10 +77,10 @@ impl Record {
     }
 
     // Counts constraints that are copied.
-    fn count(&mut self, constraints: &[Form]) -> Result<(), Stop> {
+    fn count(&mut self, constraints: &[Form]) -> Result<(), SearchStop> {
         self.copies = self.copies.saturating_add(constraints.len());
         if self.copies > MOST_COPIES {
-            return Err(Stop::Refused(Refusal::TooMuch));
+            return Err(SearchStop::Refused(SearchRefusal::TooMuch));
         }
         Ok(())
     }
@@ -93,7 +93,7 @@ impl Record {
         form: &Form,
         constraints: &[Form],
         alloc: Global,
-    ) -> Result<Option<usize>, Stop> {
+    ) -> Result<Option<usize>, SearchStop> {
         if !self.is_kept {
             return Ok(before);
         }
@@ -109,7 +109,7 @@ impl Record {
     }
 
     // Notes that a path passes the node that a trail has come to, and tells the place of that.
-    pub fn pass(&mut self, trail: &Trail) -> Result<Option<usize>, Stop> {
+    pub fn pass(&mut self, trail: &Trail) -> Result<Option<usize>, SearchStop> {
         if !self.is_kept {
             return Ok(None);
         }
@@ -122,7 +122,7 @@ impl Record {
     }
 
     // The numbers of the nodes that a path has passed, from its first one on.
-    pub fn way(&self, last: Option<usize>, alloc: Global) -> Result<Vec<usize>, Stop> {
+    pub fn way(&self, last: Option<usize>, alloc: Global) -> Result<Vec<usize>, SearchStop> {
         let mut numbers = Vec::new(alloc);
         let mut at = last;
         for _ in 0..self.passed.len() {
@@ -143,12 +143,12 @@ impl Record {
         wanted: &Form,
         constraints: &[Form],
         alloc: Global,
-    ) -> Result<(), Stop> {
+    ) -> Result<(), SearchStop> {
         if !self.is_kept {
             return Ok(());
         }
         self.count(constraints)?;
-        self.opens.push(Open {
+        self.opens.push(OpenCondition {
             number: trail.number,
             source: self.source,
             wanted: copied(wanted, alloc)?,

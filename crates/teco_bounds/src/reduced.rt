@@ -1,9 +1,9 @@
-// Fewer constraints that say the same of the symbols that matter.
+//! Fewer constraints that say the same of the symbols that matter.
 use crate::bounds::Bounds;
-use crate::fault::Stop;
+use crate::fault::SearchStop;
 use crate::keys::{least_forms, shifted, stands_for, symbol_of};
 use crate::numbers::common;
-use crate::programs::{Entry, add_form};
+use crate::programs::{Coefficient, add_form};
 use std::alloc::Global;
 use teco_linear::{Difference, Form, Scale};
 use teco_rows::applied::copied;
@@ -29,19 +29,19 @@ const NUMBERS: u128 = 1 << 30;
 
 // Which limits are used: the greatest number of 32 bits, or the greatest length too.
 #[derive(Clone, Copy, PartialEq, Eq)]
-pub enum Limits {
+pub enum UsedLimits {
     None,
     Numbers,
     All,
 }
 
-impl Limits {
+impl UsedLimits {
     // Whether a form may be used.
     pub fn take(self, form: &Form) -> bool {
         let least = match self {
-            Limits::None => u128::MAX,
-            Limits::Numbers => NUMBERS,
-            Limits::All => return true,
+            UsedLimits::None => u128::MAX,
+            UsedLimits::Numbers => NUMBERS,
+            UsedLimits::All => return true,
         };
         form.terms().iter().all(|term| {
             let size = term.coefficient.unsigned_abs();
@@ -56,7 +56,7 @@ fn speaks(form: &Form) -> bool {
 }
 
 // Whether two forms differ by a number at most, and by how much.
-fn differs_by(one: &Form, other: &Form, alloc: Global) -> Result<Option<i128>, Stop> {
+fn differs_by(one: &Form, other: &Form, alloc: Global) -> Result<Option<i128>, SearchStop> {
     if one.terms().len().abs_diff(other.terms().len()) > 1 {
         return Ok(None);
     }
@@ -69,7 +69,7 @@ fn differs_by(one: &Form, other: &Form, alloc: Global) -> Result<Option<i128>, S
 }
 
 // Adds a constraint, unless one that is there says as much; it takes the place of one that says less.
-fn add(forms: &mut Vec<Form>, form: Form, alloc: Global) -> Result<(), Stop> {
+fn add(forms: &mut Vec<Form>, form: Form, alloc: Global) -> Result<(), SearchStop> {
     if !speaks(&form) && form.is_harmless() {
         return Ok(());
     }
@@ -86,7 +86,7 @@ fn add(forms: &mut Vec<Form>, form: Form, alloc: Global) -> Result<(), Stop> {
 }
 
 // The sum of two constraints that is without a symbol, divided by what divides its terms.
-fn without(one: &Form, other: &Form, symbol: u32, alloc: Global) -> Result<Form, Stop> {
+fn without(one: &Form, other: &Form, symbol: u32, alloc: Global) -> Result<Form, SearchStop> {
     let up = coefficient(one, symbol).unsigned_abs();
     let down = coefficient(other, symbol).unsigned_abs();
     let shared = common(up, down).max(1);
@@ -119,7 +119,7 @@ fn counts(forms: &[Form], symbol: u32) -> (usize, usize) {
 }
 
 // The constraints without a symbol.
-fn taken_out(forms: Vec<Form>, symbol: u32, alloc: Global) -> Result<Vec<Form>, Stop> {
+fn taken_out(forms: Vec<Form>, symbol: u32, alloc: Global) -> Result<Vec<Form>, SearchStop> {
     let mut above = Vec::new(alloc);
     let mut below = Vec::new(alloc);
     let mut left = Vec::new(alloc);
@@ -142,7 +142,7 @@ fn taken_out(forms: Vec<Form>, symbol: u32, alloc: Global) -> Result<Vec<Form>, 
 }
 
 // The symbols of constraints that are not to be kept.
-fn others(forms: &[Form], kept: &[u32], alloc: Global) -> Result<Vec<u32>, Stop> {
+fn others(forms: &[Form], kept: &[u32], alloc: Global) -> Result<Vec<u32>, SearchStop> {
     let mut symbols: Vec<u32> = Vec::new(alloc);
     for form in forms {
         for term in form.terms() {
@@ -157,7 +157,11 @@ fn others(forms: &[Form], kept: &[u32], alloc: Global) -> Result<Vec<u32>, Stop>
 }
 
 // Constraints without symbols that are not kept, where that makes them no more.
-fn eliminated(constraints: Vec<Form>, kept: &[u32], alloc: Global) -> Result<Vec<Form>, Stop> {
+fn eliminated(
+    constraints: Vec<Form>,
+    kept: &[u32],
+    alloc: Global,
+) -> Result<Vec<Form>, SearchStop> {
     let mut forms = constraints;
     for _ in 0..ROUNDS {
         let mut is_less = false;
@@ -176,7 +180,7 @@ fn eliminated(constraints: Vec<Form>, kept: &[u32], alloc: Global) -> Result<Vec
 }
 
 // Adds the symbols of a form to others.
-pub fn add_symbols(symbols: &mut Vec<u32>, form: &Form) -> Result<(), Stop> {
+pub fn add_symbols(symbols: &mut Vec<u32>, form: &Form) -> Result<(), SearchStop> {
     for term in form.terms() {
         if let Some(symbol) = term.symbol {
             if !symbols.contains(&symbol) {
@@ -205,7 +209,7 @@ impl Equals {
     }
 
     // A form with them in place of symbols.
-    fn put(&self, form: &Form, alloc: Global) -> Result<Form, Stop> {
+    fn put(&self, form: &Form, alloc: Global) -> Result<Form, SearchStop> {
         let mut sum = Form::zero(alloc);
         for term in form.terms() {
             let scale = Scale {
@@ -222,7 +226,11 @@ impl Equals {
     }
 
     // Entries with them in place of symbols.
-    fn put_entries(&self, entries: &[Entry], alloc: Global) -> Result<Vec<Entry>, Stop> {
+    fn put_entries(
+        &self,
+        entries: &[Coefficient],
+        alloc: Global,
+    ) -> Result<Vec<Coefficient>, SearchStop> {
         let mut all = Vec::new(alloc);
         for entry in entries {
             match entry.symbol.and_then(|symbol| self.of(symbol)) {
@@ -243,7 +251,7 @@ impl Equals {
 }
 
 // The equal symbols by bounds.
-fn equal_symbols(bounds: &Bounds, alloc: Global) -> Result<Equals, Stop> {
+fn equal_symbols(bounds: &Bounds, alloc: Global) -> Result<Equals, SearchStop> {
     let mut is_own = Vec::from_elem(alloc, true, bounds.size())?;
     let mut symbols = Vec::new(alloc);
     let mut forms = Vec::new(alloc);
@@ -263,7 +271,7 @@ fn equal_symbols(bounds: &Bounds, alloc: Global) -> Result<Equals, Stop> {
 }
 
 // What bounds of differences say of these symbols, at the least.
-fn differences(bounds: &Bounds, symbols: &[u32], alloc: Global) -> Result<Vec<Form>, Stop> {
+fn differences(bounds: &Bounds, symbols: &[u32], alloc: Global) -> Result<Vec<Form>, SearchStop> {
     let mut known: Vec<u32> = Vec::new(alloc);
     for symbol in symbols {
         if bounds.place(Some(*symbol)).is_some() {
@@ -276,7 +284,7 @@ fn differences(bounds: &Bounds, symbols: &[u32], alloc: Global) -> Result<Vec<Fo
 // A demand: that what entries add up to is implied by constraints.
 #[derive(Drop)]
 pub struct Demand {
-    pub entries: Vec<Entry>,
+    pub entries: Vec<Coefficient>,
     pub constraints: Vec<Form>,
 }
 
@@ -284,9 +292,9 @@ pub struct Demand {
 // left out.
 pub fn bounded(
     constraints: &[Form],
-    limits: Limits,
+    limits: UsedLimits,
     alloc: Global,
-) -> Result<(Bounds, Vec<Form>), Stop> {
+) -> Result<(Bounds, Vec<Form>), SearchStop> {
     let mut bounds = Bounds::none(alloc)?;
     let mut rough: Vec<Form> = Vec::new(alloc);
     for form in constraints {
@@ -302,14 +310,14 @@ pub fn bounded(
     Ok((bounds, rough))
 }
 
-// The same demand with fewer constraints and symbols; none where the constraints can't all hold. Limits
+// A demand that says as much by fewer constraints and symbols; none where the constraints can't all hold. Limits
 // may be left out.
 pub fn reduced(
-    entries: &[Entry],
+    entries: &[Coefficient],
     constraints: &[Form],
-    limits: Limits,
+    limits: UsedLimits,
     alloc: Global,
-) -> Result<Option<Demand>, Stop> {
+) -> Result<Option<Demand>, SearchStop> {
     let (bounds, rough) = bounded(constraints, limits, alloc)?;
     if bounds.is_void() {
         return Ok(None);
@@ -344,7 +352,7 @@ pub fn reduced(
 }
 
 // Whether two entries are the same.
-fn is_same_entry(one: &Entry, other: &Entry) -> bool {
+fn is_same_entry(one: &Coefficient, other: &Coefficient) -> bool {
     one.symbol == other.symbol
         && one.power == other.power
         && one.variable == other.variable

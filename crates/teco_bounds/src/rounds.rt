@@ -1,10 +1,10 @@
-// Facts of keys, round by round, until they stay.
+//! Facts of keys, round by round, until they stay.
 use crate::bounds::{Bounds, NONE};
-use crate::fault::{Refusal, Stop};
+use crate::fault::{SearchRefusal, SearchStop};
 use crate::keys::{bound_form, key_of, projected, raise_quotients};
 use crate::measures::{NUMBER, family_of};
 use crate::record::Record;
-use crate::search::{Keys, Search};
+use crate::search::{Keys, PathSearch};
 use crate::trail::Trail;
 use std::alloc::Global;
 use teco_base::LIMIT;
@@ -28,7 +28,7 @@ const LARGE: i64 = 1 << 24;
 
 // How often each key was raised, and which are to be gone through.
 #[derive(Drop)]
-struct Work {
+struct RoundWork {
     raised: Vec<usize>,
     is_due: Vec<bool>,
     // Whether bounds may have been widened.
@@ -36,7 +36,7 @@ struct Work {
 }
 
 // The key of the least node that is due.
-fn next_due(keys: &Keys, work: &Work) -> Option<usize> {
+fn next_due(keys: &Keys, work: &RoundWork) -> Option<usize> {
     let mut found = None;
     let mut least = usize::MAX;
     for place in 0..keys.keys.len() {
@@ -75,7 +75,7 @@ fn is_number(facts: &Bounds, row: usize, column: usize) -> bool {
     }
 }
 
-impl Search<'_> {
+impl PathSearch<'_> {
     // A bound that was raised, in a round; behind the first ones it is widened.
     fn raised(&self, facts: &Bounds, row: usize, column: usize, most: i64, round: usize) -> i64 {
         if round < WIDENS {
@@ -99,7 +99,7 @@ impl Search<'_> {
         facts: &Bounds,
         row: usize,
         column: usize,
-    ) -> Result<bool, Stop> {
+    ) -> Result<bool, SearchStop> {
         if !trail.bounds.is_rough() {
             return Ok(false);
         }
@@ -114,7 +114,7 @@ impl Search<'_> {
         trail: &Trail,
         new: &Bounds,
         round: usize,
-    ) -> Result<bool, Stop> {
+    ) -> Result<bool, SearchStop> {
         let mut is_raised = false;
         for row in 0..facts.size() {
             for column in 0..facts.size() {
@@ -131,7 +131,12 @@ impl Search<'_> {
     }
 
     // Takes a trail to its key.
-    fn arrive(&self, keys: &mut Keys, work: &mut Work, trail: &Trail) -> Result<(), Stop> {
+    fn arrive(
+        &self,
+        keys: &mut Keys,
+        work: &mut RoundWork,
+        trail: &Trail,
+    ) -> Result<(), SearchStop> {
         if trail.number > self.course.nodes.len() {
             return Ok(());
         }
@@ -140,7 +145,7 @@ impl Search<'_> {
         raise_quotients(&mut new, &key, &self.flags);
         let Some(place) = keys.place(&key) else {
             if keys.keys.len() >= MOST_KEYS || key.told.len() > MOST_TOLD {
-                return Err(Stop::Refused(Refusal::TooMuch));
+                return Err(SearchStop::Refused(SearchRefusal::TooMuch));
             }
             keys.keys.push(key)?;
             keys.facts.push(new)?;
@@ -166,7 +171,7 @@ impl Search<'_> {
     }
 
     // The key of the entry alone.
-    fn first_key(&self) -> Result<Keys, Stop> {
+    fn first_key(&self) -> Result<Keys, SearchStop> {
         let (trail, _own) = self.start(
             &Keys {
                 keys: Vec::new(self.alloc),
@@ -182,9 +187,9 @@ impl Search<'_> {
     }
 
     // The facts that stay; says whether they may be narrowed.
-    pub fn settled(&mut self) -> Result<(Keys, bool), Stop> {
+    pub fn settled(&mut self) -> Result<(Keys, bool), SearchStop> {
         let mut keys = self.first_key()?;
-        let mut work = Work {
+        let mut work = RoundWork {
             raised: Vec::from_elem(self.alloc, 0usize, 1)?,
             is_due: Vec::from_elem(self.alloc, true, 1)?,
             is_widened: false,
@@ -201,7 +206,7 @@ impl Search<'_> {
                 self.arrive(&mut keys, &mut work, &trail)?;
             }
         }
-        Err(Stop::Refused(Refusal::TooMuch))
+        Err(SearchStop::Refused(SearchRefusal::TooMuch))
     }
 
     // Of a key's facts, one by one, what a trail says, joined with what was found before.
@@ -211,7 +216,7 @@ impl Search<'_> {
         trail: &Trail,
         facts: &Bounds,
         new: Bounds,
-    ) -> Result<Bounds, Stop> {
+    ) -> Result<Bounds, SearchStop> {
         let mut new = new;
         for row in 0..new.size() {
             for column in 0..new.size() {
@@ -239,7 +244,7 @@ impl Search<'_> {
         keys: &Keys,
         trail: &Trail,
         new: &mut Vec<Option<Bounds>>,
-    ) -> Result<bool, Stop> {
+    ) -> Result<bool, SearchStop> {
         let alloc = self.alloc;
         let key = key_of(trail, &self.flags, &self.spoken, alloc)?;
         let Some(target) = keys.place(&key) else {
@@ -262,7 +267,7 @@ impl Search<'_> {
         keys: &Keys,
         trails: Vec<Trail>,
         new: &mut Vec<Option<Bounds>>,
-    ) -> Result<bool, Stop> {
+    ) -> Result<bool, SearchStop> {
         for trail in trails {
             let is_over = trail.number > self.course.nodes.len();
             if !is_over && !self.join_trail(keys, &trail, new)? {
@@ -274,8 +279,7 @@ impl Search<'_> {
 
     // The facts that paths by these facts lead to, of the keys that are come to. Where they lead to a
     // key that has none, they stay.
-    // Says whether some were lowered.
-    pub fn narrowed(&mut self, keys: Keys) -> Result<(Keys, bool), Stop> {
+    pub fn narrowed(&mut self, keys: Keys) -> Result<Keys, SearchStop> {
         let alloc = self.alloc;
         let mut new: Vec<Option<Bounds>> = Vec::new(alloc);
         for place in 0..keys.keys.len() {
@@ -300,7 +304,7 @@ impl Search<'_> {
             }
             let trails = self.explore(&keys, place, &mut record)?;
             if !self.join_all(&keys, trails, &mut new)? {
-                return Ok((keys, false));
+                return Ok(keys);
             }
         }
         kept(keys, new, alloc)
@@ -308,33 +312,27 @@ impl Search<'_> {
 }
 
 // The keys that have new facts.
-fn kept(keys: Keys, new: Vec<Option<Bounds>>, alloc: Global) -> Result<(Keys, bool), Stop> {
-    let mut is_changed = false;
+fn kept(keys: Keys, new: Vec<Option<Bounds>>, alloc: Global) -> Result<Keys, SearchStop> {
     let mut left = Keys {
         keys: Vec::new(alloc),
         facts: Vec::new(alloc),
     };
-    let olds = keys.facts.into_iter();
-    for ((key, old), facts) in keys.keys.into_iter().zip(olds).zip(new.into_iter()) {
-        match facts {
-            Some(facts) => {
-                is_changed = is_changed || !facts.is(&old);
-                left.keys.push(key)?;
-                left.facts.push(facts)?;
-            }
-            None => is_changed = true,
+    for (key, facts) in keys.keys.into_iter().zip(new.into_iter()) {
+        if let Some(facts) = facts {
+            left.keys.push(key)?;
+            left.facts.push(facts)?;
         }
     }
-    Ok((left, is_changed))
+    Ok(left)
 }
 
 // A form over the places of measures, at a trail.
-pub fn at_trail(form: &Form, trail: &Trail, alloc: Global) -> Result<Form, Stop> {
+pub fn at_trail(form: &Form, trail: &Trail, alloc: Global) -> Result<Form, SearchStop> {
     at_forms(form, &trail.case.forms, alloc)
 }
 
 // A form over the places of measures, where they are given by forms.
-pub fn at_forms(form: &Form, forms: &[Option<Form>], alloc: Global) -> Result<Form, Stop> {
+pub fn at_forms(form: &Form, forms: &[Option<Form>], alloc: Global) -> Result<Form, SearchStop> {
     let mut sum = Form::zero(alloc);
     for term in form.terms() {
         let scale = teco_linear::Scale {
@@ -344,7 +342,7 @@ pub fn at_forms(form: &Form, forms: &[Option<Form>], alloc: Global) -> Result<Fo
         let part = match term.symbol {
             Some(place) => match form_at(forms, place as usize, alloc)? {
                 Some(form) => form.scaled(&scale, alloc)?,
-                None => return Err(Stop::Refused(Refusal::TooMuch)),
+                None => return Err(SearchStop::Refused(SearchRefusal::TooMuch)),
             },
             None => Form::constant(1, alloc)?.scaled(&scale, alloc)?,
         };

@@ -1,6 +1,6 @@
-// The paths from a key to the next ones.
+//! The paths from a key to the next ones.
 use crate::bounds::Bounds;
-use crate::fault::{Refusal, Stop};
+use crate::fault::{SearchRefusal, SearchStop};
 use crate::keys::{Flag, Key, TYPED, begun};
 use crate::measures::{FIRST_VALUE, LAST_VALUE};
 use crate::record::Record;
@@ -8,7 +8,7 @@ use crate::steps::onward;
 use crate::trail::Trail;
 use std::alloc::Global;
 use teco_model::ArgumentRange;
-use teco_paths::course::Course;
+use teco_paths::course::MacroGraph;
 use teco_paths::cut::case_of;
 use teco_paths::entry::entry_cut;
 use teco_rows::case::Case;
@@ -16,13 +16,16 @@ use teco_rows::case::Case;
 // The most cases of a node at all.
 const MOST_PENDING: usize = 64;
 
+// The most terms of what a measure is: with more a path takes too long.
+const MOST_TERMS: usize = 24;
+
 // How often a path may pass the whole macro between two cut points.
 const MOST_PASSES: usize = 3;
 
 // What is searched: the macro, its argument, and where paths are cut.
 #[derive(Drop)]
-pub struct Search<'a> {
-    pub course: Course<'a>,
+pub struct PathSearch<'a> {
+    pub course: MacroGraph<'a>,
     pub argument: Option<ArgumentRange>,
     pub is_cut: Vec<bool>,
     pub flags: Vec<Flag>,
@@ -61,7 +64,7 @@ impl Keys {
 }
 
 // The trails of the least node among some, and the others.
-fn of_least(trails: Vec<Trail>, alloc: Global) -> Result<(Vec<Trail>, Vec<Trail>), Stop> {
+fn of_least(trails: Vec<Trail>, alloc: Global) -> Result<(Vec<Trail>, Vec<Trail>), SearchStop> {
     let mut least = usize::MAX;
     for trail in &trails {
         least = least.min(trail.number);
@@ -84,9 +87,17 @@ fn is_settled(case: &Case) -> bool {
     case.shape.operators.len() <= 1 && !is_waiting(FIRST_VALUE) && !is_waiting(LAST_VALUE)
 }
 
-impl Search<'_> {
+// Whether a measure of a case is a sum of too many terms.
+fn is_long(case: &Case) -> bool {
+    case.forms
+        .iter()
+        .flatten()
+        .any(|form| form.terms().len() > MOST_TERMS)
+}
+
+impl PathSearch<'_> {
     // Where paths begin at the entry.
-    fn entry(&self) -> Result<Trail, Stop> {
+    fn entry(&self) -> Result<Trail, SearchStop> {
         let alloc = self.alloc;
         let mut cut = entry_cut(self.course.lengths, self.argument, self.course.used, alloc)?;
         for place in 0..cut.present.len() {
@@ -121,13 +132,13 @@ impl Search<'_> {
     }
 
     // Where paths begin at a key, as exact as the search is.
-    pub fn start(&self, keys: &Keys, place: usize) -> Result<(Trail, Vec<u32>), Stop> {
+    pub fn start(&self, keys: &Keys, place: usize) -> Result<(Trail, Vec<u32>), SearchStop> {
         let (mut first, own) = if place == 0 {
             (self.entry()?, Vec::new(self.alloc))
         } else {
             match (keys.keys.get(place), keys.facts.get(place)) {
                 (Some(key), Some(facts)) => begun(key, facts, &self.tame, self.alloc)?,
-                _ => return Err(Stop::Unstable),
+                _ => return Err(SearchStop::Unstable),
             }
         };
         if self.is_exact {
@@ -147,16 +158,16 @@ impl Search<'_> {
     }
 
     // Whether so many trails at a node ask for a cut point there.
-    fn check_count(&mut self, here: &[Trail], is_first: bool) -> Result<(), Stop> {
+    fn check_count(&mut self, here: &[Trail], is_first: bool) -> Result<(), SearchStop> {
         let Some(trail) = here.first() else {
             return Ok(());
         };
         if here.len() > MOST_PENDING {
-            return Err(Stop::Refused(Refusal::TooMuch));
+            return Err(SearchStop::Refused(SearchRefusal::TooMuch));
         }
         let is_wide = here.len() > self.most_cases && !is_first;
         if is_wide && here.iter().all(|trail| is_settled(&trail.case)) {
-            return Err(Stop::CutAt(trail.number));
+            return Err(SearchStop::CutAt(trail.number));
         }
         Ok(())
     }
@@ -168,8 +179,11 @@ impl Search<'_> {
         ahead: &mut Vec<Trail>,
         arrived: &mut Vec<Trail>,
         record: &mut Record,
-    ) -> Result<(), Stop> {
+    ) -> Result<(), SearchStop> {
         for trail in here {
+            if is_long(&trail.case) {
+                return Err(SearchStop::Refused(SearchRefusal::TooMuch));
+            }
             let work = trail
                 .case
                 .constraints
@@ -179,7 +193,7 @@ impl Search<'_> {
             self.fuel = self
                 .fuel
                 .checked_sub(work)
-                .ok_or(Stop::Refused(Refusal::TooMuch))?;
+                .ok_or(SearchStop::Refused(SearchRefusal::TooMuch))?;
             for next in onward(&self.course, trail, record, self.alloc)? {
                 if self.is_arrived(&next) {
                     arrived.push(next)?;
@@ -192,7 +206,7 @@ impl Search<'_> {
     }
 
     // Where paths from a key begin, as a record wants it.
-    fn first(&self, keys: &Keys, place: usize, record: &mut Record) -> Result<Trail, Stop> {
+    fn first(&self, keys: &Keys, place: usize, record: &mut Record) -> Result<Trail, SearchStop> {
         let (mut first, _own) = self.start(keys, place)?;
         if !record.is_kept {
             first.make_lean();
@@ -209,7 +223,7 @@ impl Search<'_> {
         arrived: &mut Vec<Trail>,
         record: &mut Record,
         is_first: bool,
-    ) -> Result<Vec<Trail>, Stop> {
+    ) -> Result<Vec<Trail>, SearchStop> {
         let (here, mut rest) = of_least(ahead, self.alloc)?;
         self.check_count(&here, is_first)?;
         self.advance(&here, &mut rest, arrived, record)?;
@@ -222,7 +236,7 @@ impl Search<'_> {
         keys: &Keys,
         place: usize,
         record: &mut Record,
-    ) -> Result<Vec<Trail>, Stop> {
+    ) -> Result<Vec<Trail>, SearchStop> {
         let mut arrived = Vec::new(self.alloc);
         let mut ahead = Vec::new(self.alloc);
         ahead.push(self.first(keys, place, record)?)?;
@@ -232,6 +246,6 @@ impl Search<'_> {
             }
             ahead = self.turn(ahead, &mut arrived, record, step == 0)?;
         }
-        Err(Stop::Refused(Refusal::TooMuch))
+        Err(SearchStop::Refused(SearchRefusal::TooMuch))
     }
 }

@@ -1,9 +1,9 @@
-// One step of a path of the search.
+//! One step of a path of the search.
 ghost use Rattle.std.specs.Prelude.{◌<◌, ◌≤◌, length};
 
 use crate::bounds::Bounds;
 use crate::cuts::kind_at;
-use crate::fault::{Refusal, Stop};
+use crate::fault::{SearchRefusal, SearchStop};
 use crate::keys::HELD;
 use crate::measures::{LENGTH, place_of};
 use crate::record::Record;
@@ -12,7 +12,7 @@ use std::alloc::Global;
 use teco_linear::Form;
 use teco_model::Kind;
 use teco_model::kind::{Command, Stack, Storage};
-use teco_paths::course::Course;
+use teco_paths::course::MacroGraph;
 use teco_paths::fault::PathFault;
 use teco_paths::outcomes::{outcomes_at, passing, wrapped_at};
 use teco_paths::steps::is_plain;
@@ -29,7 +29,7 @@ const LONGEST: i128 = 1 << 28;
 
 // What comes of an element, and those of its conditions that bounds do not show.
 #[derive(Drop)]
-struct Asked {
+struct AskedConditions {
     outcomes: Outcomes,
     open: Vec<Form>,
     guarded: Vec<Guarded>,
@@ -52,7 +52,7 @@ fn is_room(form: &Form) -> bool {
 }
 
 // Whether a guarded condition is shown.
-fn is_kept(trail: &Trail, guarded: &Guarded, alloc: Global) -> Result<bool, Stop> {
+fn is_kept(trail: &Trail, guarded: &Guarded, alloc: Global) -> Result<bool, SearchStop> {
     if is_room(&guarded.wanted) {
         return Ok(true);
     }
@@ -65,7 +65,11 @@ fn is_kept(trail: &Trail, guarded: &Guarded, alloc: Global) -> Result<bool, Stop
 }
 
 // What is not shown of outcomes.
-fn asked_of(trail: &Trail, outcomes: Outcomes, alloc: Global) -> Result<Asked, Stop> {
+fn asked_of(
+    trail: &Trail,
+    outcomes: Outcomes,
+    alloc: Global,
+) -> Result<AskedConditions, SearchStop> {
     let Outcomes {
         conditions,
         guarded,
@@ -84,7 +88,7 @@ fn asked_of(trail: &Trail, outcomes: Outcomes, alloc: Global) -> Result<Asked, S
             unguarded.push(each)?;
         }
     }
-    Ok(Asked {
+    Ok(AskedConditions {
         outcomes: Outcomes {
             conditions,
             guarded: Vec::new(alloc),
@@ -97,7 +101,11 @@ fn asked_of(trail: &Trail, outcomes: Outcomes, alloc: Global) -> Result<Asked, S
 }
 
 // What comes of the element of a node, where a sum may pass 32 bits.
-fn wrapped(course: &Course<'_>, trail: &Trail, alloc: Global) -> Result<Option<Outcomes>, Stop>
+fn wrapped(
+    course: &MacroGraph<'_>,
+    trail: &Trail,
+    alloc: Global,
+) -> Result<Option<Outcomes>, SearchStop>
     requires one { 0 < trail.now.number }
     requires last { trail.now.number ≤ length course.now.nodes }
 {
@@ -106,7 +114,7 @@ fn wrapped(course: &Course<'_>, trail: &Trail, alloc: Global) -> Result<Option<O
             Kind::Call(_) => Ok(None),
             _ => match wrapped_at(course, trail.number, &trail.case, &element, alloc) {
                 Ok(outcomes) => Ok(Some(outcomes)),
-                Err(PathFault::Memory) => Err(Stop::Refused(Refusal::Memory)),
+                Err(PathFault::Memory) => Err(SearchStop::Refused(SearchRefusal::Memory)),
                 Err(_) => Ok(None),
             },
         },
@@ -115,7 +123,7 @@ fn wrapped(course: &Course<'_>, trail: &Trail, alloc: Global) -> Result<Option<O
 }
 
 // What comes of it.
-fn fitting(course: &Course<'_>, trail: &Trail, alloc: Global) -> Result<Outcomes, Stop>
+fn fitting(course: &MacroGraph<'_>, trail: &Trail, alloc: Global) -> Result<Outcomes, SearchStop>
     requires one { 0 < trail.now.number }
     requires last { trail.now.number ≤ length course.now.nodes }
 {
@@ -124,7 +132,7 @@ fn fitting(course: &Course<'_>, trail: &Trail, alloc: Global) -> Result<Outcomes
             Kind::Call(_) => Ok(passing(&trail.case, alloc)?),
             _ => {
                 if !is_plain(course.nodes, trail.number, element.kind) {
-                    return Err(Stop::Refused(Refusal::NotTold(trail.number)));
+                    return Err(SearchStop::Refused(SearchRefusal::NotTold(trail.number)));
                 }
                 Ok(outcomes_at(course, trail.number, &trail.case, &element, alloc)?)
             }
@@ -134,7 +142,7 @@ fn fitting(course: &Course<'_>, trail: &Trail, alloc: Global) -> Result<Outcomes
 }
 
 // What comes of it, as is asked of it.
-fn ask(course: &Course<'_>, trail: &Trail, alloc: Global) -> Result<Asked, Stop>
+fn ask(course: &MacroGraph<'_>, trail: &Trail, alloc: Global) -> Result<AskedConditions, SearchStop>
     requires one { 0 < trail.now.number }
     requires last { trail.now.number ≤ length course.now.nodes }
 {
@@ -165,7 +173,7 @@ fn text_of(storage: Storage) -> u32 {
 }
 
 // The place of the measure that an element may raise to a limit: a text's length, or what is held.
-fn limited(course: &Course<'_>, number: usize) -> u32
+fn limited(course: &MacroGraph<'_>, number: usize) -> u32
     requires one { 0 < number }
     requires last { number ≤ length course.now.nodes }
 {
@@ -180,12 +188,12 @@ fn limited(course: &Course<'_>, number: usize) -> u32
 
 // Notes the conditions that are not shown, and tells the last peak.
 fn noted(
-    course: &Course<'_>,
+    course: &MacroGraph<'_>,
     trail: &Trail,
-    asked: &Asked,
+    asked: &AskedConditions,
     record: &mut Record,
     alloc: Global,
-) -> Result<Option<usize>, Stop>
+) -> Result<Option<usize>, SearchStop>
     requires one { 0 < trail.now.number }
     requires last { trail.now.number ≤ length course.now.nodes }
 {
@@ -206,7 +214,12 @@ fn noted(
 }
 
 // Whether what is held was raised.
-fn is_raised(trail: &Trail, case: &Case, bounds: &Bounds, alloc: Global) -> Result<bool, Stop> {
+fn is_raised(
+    trail: &Trail,
+    case: &Case,
+    bounds: &Bounds,
+    alloc: Global,
+) -> Result<bool, SearchStop> {
     let (Some(was), Some(is)) = (
         form_at(&trail.case.forms, HELD as usize, alloc)?,
         form_at(&case.forms, HELD as usize, alloc)?,
@@ -219,14 +232,14 @@ fn is_raised(trail: &Trail, case: &Case, bounds: &Bounds, alloc: Global) -> Resu
 // A way behind an element: whether it leads elsewhere than behind the element, the case there, and the
 // last peak before it.
 #[derive(Drop)]
-struct Way {
+struct WayBehind {
     is_away: bool,
     case: Case,
     peak: Option<usize>,
 }
 
 // What a case behind a trail says of differences.
-fn bounds_behind(trail: &Trail, case: &Case, alloc: Global) -> Result<Bounds, Stop> {
+fn bounds_behind(trail: &Trail, case: &Case, alloc: Global) -> Result<Bounds, SearchStop> {
     let known = trail.case.constraints.len();
     let new = case.constraints.get(known..).unwrap_or(&[]);
     let mut bounds = trail.bounds.copied(alloc)?;
@@ -248,7 +261,7 @@ fn completed(
     is_raised: bool,
     record: &mut Record,
     alloc: Global,
-) -> Result<Option<Trail>, Stop> {
+) -> Result<Option<Trail>, SearchStop> {
     let mut next = trail;
     for form in open {
         next.assume(form, alloc)?;
@@ -269,17 +282,17 @@ fn completed(
 
 // The trail behind a way, if it may be taken.
 fn along(
-    course: &Course<'_>,
+    course: &MacroGraph<'_>,
     trail: &Trail,
     open: &[Form],
-    way: Way,
+    way: WayBehind,
     record: &mut Record,
-) -> Result<Option<Trail>, Stop>
+) -> Result<Option<Trail>, SearchStop>
     requires one { 0 < trail.now.number }
     requires last { trail.now.number ≤ length course.now.nodes }
 {
     let alloc = record.alloc;
-    let Way {
+    let WayBehind {
         is_away,
         case,
         peak,
@@ -308,11 +321,11 @@ fn along(
 // Adds the trails behind ways.
 fn add_ways(
     trails: &mut Vec<Trail>,
-    course: &Course<'_>,
+    course: &MacroGraph<'_>,
     trail: &Trail,
-    ways: (&[Form], Vec<Way>),
+    ways: (&[Form], Vec<WayBehind>),
     record: &mut Record,
-) -> Result<(), Stop>
+) -> Result<(), SearchStop>
     requires one { 0 < trail.now.number }
     requires last { trail.now.number ≤ length course.now.nodes }
 {
@@ -327,13 +340,13 @@ fn add_ways(
 
 // Adds the ways that cases are.
 fn add_cases(
-    ways: &mut Vec<Way>,
+    ways: &mut Vec<WayBehind>,
     cases: Vec<Case>,
     is_away: bool,
     peak: Option<usize>,
-) -> Result<(), Stop> {
+) -> Result<(), SearchStop> {
     for case in cases {
-        ways.push(Way {
+        ways.push(WayBehind {
             is_away,
             case,
             peak,
@@ -343,7 +356,7 @@ fn add_cases(
 }
 
 // Whether an element pops.
-fn is_pop(course: &Course<'_>, number: usize) -> bool {
+fn is_pop(course: &MacroGraph<'_>, number: usize) -> bool {
     matches!(
         kind_at(course.nodes, number),
         Some(Kind::Stack(Stack::Pop(_)))
@@ -352,20 +365,20 @@ fn is_pop(course: &Course<'_>, number: usize) -> bool {
 
 // The trails behind one.
 pub fn onward(
-    course: &Course<'_>,
+    course: &MacroGraph<'_>,
     trail: &Trail,
     record: &mut Record,
     alloc: Global,
-) -> Result<Vec<Trail>, Stop> {
+) -> Result<Vec<Trail>, SearchStop> {
     if trail.number == 0 || trail.number > course.nodes.len() {
-        return Err(Stop::Refused(Refusal::TooMuch));
+        return Err(SearchStop::Refused(SearchRefusal::TooMuch));
     }
     if trail.case.shape.pushes == 0 && is_pop(course, trail.number) {
-        return Err(Stop::Refused(Refusal::Condition(trail.number)));
+        return Err(SearchStop::Refused(SearchRefusal::Condition(trail.number)));
     }
     let asked = ask(course, trail, alloc)?;
     let peak = noted(course, trail, &asked, record, alloc)?;
-    let Asked {
+    let AskedConditions {
         outcomes,
         open,
         guarded: _guarded,

@@ -1,8 +1,8 @@
-// Where a path of the search has come to.
+//! Where a path of the search has come to.
 use crate::bounds::Bounds;
-use crate::fault::Stop;
+use crate::fault::SearchStop;
 use crate::keys::{CODE_BEFORE, CODE_HERE, all_forms};
-use crate::reduced::{Limits, add_symbols, bounded};
+use crate::reduced::{UsedLimits, add_symbols, bounded};
 use std::alloc::Global;
 use teco_linear::{Difference, Form};
 use teco_paths::cut::copied_shape;
@@ -44,7 +44,7 @@ pub struct Trail {
 
 impl Trail {
     // Whether a form is at least 0, as far as bounds show it or, where they do not tell all, programs.
-    pub fn shows(&self, form: &Form, alloc: Global) -> Result<bool, Stop> {
+    pub fn shows(&self, form: &Form, alloc: Global) -> Result<bool, SearchStop> {
         if self.bounds.shows(form) {
             return Ok(true);
         }
@@ -58,7 +58,7 @@ impl Trail {
     }
 
     // The case with the constraints that bound differences, and no forms.
-    fn whole(&self, alloc: Global) -> Result<Case, Stop> {
+    fn whole(&self, alloc: Global) -> Result<Case, SearchStop> {
         let mut constraints = all_forms(&self.bounds, alloc)?;
         let mut rough = copied_constraints(&self.case.constraints, alloc)?;
         constraints.append(&mut rough)?;
@@ -89,14 +89,14 @@ impl Trail {
     }
 
     // Takes it that a form is at least 0.
-    pub fn assume(&mut self, form: &Form, alloc: Global) -> Result<(), Stop> {
+    pub fn assume(&mut self, form: &Form, alloc: Global) -> Result<(), SearchStop> {
         self.bounds.add(form, alloc)?;
         self.case.constraints.push(copied(form, alloc)?)?;
         Ok(())
     }
 
     // In front of the buffer's end the line's end is behind the pointer.
-    pub fn sharpen(&mut self, alloc: Global) -> Result<(), Stop> {
+    pub fn sharpen(&mut self, alloc: Global) -> Result<(), SearchStop> {
         let behind = single(&self.case, Single::Pointer, alloc)?.add(
             &Form::constant(1, alloc)?,
             alloc,
@@ -113,11 +113,11 @@ impl Trail {
 
     // Makes the constraints fewer where there are many: symbols that neither a measure nor the path's
     // start is given by are taken out of those that bound differences.
-    pub fn compact(&mut self, first: u32, alloc: Global) -> Result<(), Stop> {
+    pub fn compact(&mut self, first: u32, alloc: Global) -> Result<(), SearchStop> {
         if self.is_lean || self.case.constraints.len() <= MOST_CONSTRAINTS {
             return Ok(());
         }
-        let (bounds, mut rough) = bounded(&self.case.constraints, Limits::All, alloc)?;
+        let (bounds, mut rough) = bounded(&self.case.constraints, UsedLimits::All, alloc)?;
         let mut live: Vec<u32> = Vec::new(alloc);
         for form in self.case.forms.iter().flatten() {
             add_symbols(&mut live, form)?;
@@ -138,7 +138,7 @@ impl Trail {
     }
 
     // Adds the symbols of a form that are bounded.
-    fn add_live(&self, live: &mut Vec<u32>, form: &Form) -> Result<(), Stop> {
+    fn add_live(&self, live: &mut Vec<u32>, form: &Form) -> Result<(), SearchStop> {
         for term in form.terms() {
             if let Some(symbol) = term.symbol {
                 if !live.contains(&symbol) && self.bounds.place(Some(symbol)).is_some() {
@@ -150,7 +150,7 @@ impl Trail {
     }
 
     // Keeps of the bounds those of symbols that measures are given by.
-    pub fn forget(&mut self, alloc: Global) -> Result<(), Stop> {
+    pub fn forget(&mut self, alloc: Global) -> Result<(), SearchStop> {
         let mut live: Vec<u32> = Vec::new(alloc);
         for form in &self.case.forms {
             if let Some(form) = form {

@@ -1,4 +1,4 @@
-// A few units: the symbols of a form, each as often as it is taken.
+//! A few units: the symbols of a form, each as often as it is taken.
 
 // How many units there are at most.
 pub const MOST: usize = 6;

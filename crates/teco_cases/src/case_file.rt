@@ -1,13 +1,13 @@
 //! Files of cases: a line that names their kind, and cases, each with its fields.
 use crate::fault::{CaseFault, Mistake};
 use crate::phrase::Phrase;
-use crate::spelling::{Ending, Line};
+use crate::spelling::{FileLine, LineEnding};
 use std::alloc::{AllocError, Global};
 use std::str;
 
 /// What the cases of a file are about.
 #[derive(Clone, Copy)]
-pub enum Kind {
+pub enum CaseKind {
     /// Command strings: what they type, and the files that they leave.
     Sessions,
     /// Macros: what `teco verify` prints.
@@ -33,23 +33,23 @@ pub enum Kind {
 }
 
 /// The kinds, by their names.
-const KINDS: &[(&str, Kind)] = &[
-    ("sessions", Kind::Sessions),
-    ("verdicts", Kind::Verdicts),
-    ("certificates", Kind::Certificates),
-    ("edits", Kind::Edits),
-    ("macros", Kind::Macros),
-    ("formats", Kind::Formats),
-    ("programs", Kind::Programs),
-    ("implications", Kind::Implications),
-    ("claims", Kind::Claims),
-    ("outcomes", Kind::Outcomes),
-    ("paths", Kind::Paths),
+const KINDS: &[(&str, CaseKind)] = &[
+    ("sessions", CaseKind::Sessions),
+    ("verdicts", CaseKind::Verdicts),
+    ("certificates", CaseKind::Certificates),
+    ("edits", CaseKind::Edits),
+    ("macros", CaseKind::Macros),
+    ("formats", CaseKind::Formats),
+    ("programs", CaseKind::Programs),
+    ("implications", CaseKind::Implications),
+    ("claims", CaseKind::Claims),
+    ("outcomes", CaseKind::Outcomes),
+    ("paths", CaseKind::Paths),
 ];
 
-impl Kind {
+impl CaseKind {
     // The kind of a name.
-    fn of(name: &str) -> Option<Kind> {
+    fn of(name: &str) -> Option<CaseKind> {
         for (word, kind) in KINDS {
             if *word == name {
                 return Some(*kind);
@@ -68,7 +68,7 @@ pub struct NamedText<'a> {
 
 /// The keys that the cases of a kind may have.
 #[derive(Clone, Copy)]
-pub struct Keys {
+pub struct CaseKeys {
     /// Those with a text.
     pub plain: &'static [&'static str],
     /// Those with a name and a text.
@@ -77,10 +77,10 @@ pub struct Keys {
     pub bare: &'static [&'static str],
 }
 
-impl Keys {
+impl CaseKeys {
     /// Keys with texts alone.
-    pub fn of_texts(keys: &'static [&'static str]) -> Keys {
-        Keys {
+    pub fn of_texts(keys: &'static [&'static str]) -> CaseKeys {
+        CaseKeys {
             plain: keys,
             named: &[],
             bare: &[],
@@ -91,7 +91,7 @@ impl Keys {
 // A text of a case, under its key, with the name that stands behind the key.
 #[derive(Drop)]
 struct Field<'a> {
-    line: Line<'a>,
+    line: FileLine<'a>,
     key: &'a str,
     name: Vec<u8>,
     text: Vec<u8>,
@@ -115,12 +115,12 @@ impl Field<'_> {
     }
 
     // Takes a line of its text, behind so many empty ones.
-    fn take(&mut self, line: Line<'_>, empty_lines: usize) -> Result<(), CaseFault> {
+    fn take(&mut self, line: FileLine<'_>, empty_lines: usize) -> Result<(), CaseFault> {
         let line_end = line_end_of(self.key);
         for _ in 0..empty_lines {
             self.text.extend_from_slice(line_end)?;
         }
-        if let Ending::Plain = line.append_to(&mut self.text)? {
+        if let LineEnding::Plain = line.append_to(&mut self.text)? {
             self.text.extend_from_slice(line_end)?;
         }
         self.has_text = true;
@@ -128,7 +128,7 @@ impl Field<'_> {
     }
 
     // Is it one of these keys, with what these have?
-    fn check(&self, keys: Keys) -> Result<(), CaseFault> {
+    fn check(&self, keys: CaseKeys) -> Result<(), CaseFault> {
         if !self.has_text && !keys.bare.contains(&self.key) {
             return Err(self.line.fault(Mistake::Bare));
         }
@@ -147,13 +147,13 @@ impl Field<'_> {
 
 /// A case.
 #[derive(Drop)]
-pub struct Case<'a> {
-    line: Line<'a>,
+pub struct NamedCase<'a> {
+    line: FileLine<'a>,
     name: &'a str,
     fields: Vec<Field<'a>>,
 }
 
-impl<'a> Case<'a> {
+impl<'a> NamedCase<'a> {
     /// The number of the line that begins it.
     pub fn line(&self) -> usize {
         self.line.number
@@ -165,7 +165,7 @@ impl<'a> Case<'a> {
     }
 
     /// Refuses keys that are none of these.
-    pub fn check(&self, keys: Keys) -> Result<(), CaseFault> {
+    pub fn check(&self, keys: CaseKeys) -> Result<(), CaseFault> {
         for field in self.fields.iter() {
             field.check(keys)?;
         }
@@ -292,25 +292,25 @@ impl<'a> Case<'a> {
 /// The cases of a file.
 #[derive(Drop)]
 pub struct CaseFile<'a> {
-    pub kind: Kind,
-    pub cases: Vec<Case<'a>>,
+    pub kind: CaseKind,
+    pub cases: Vec<NamedCase<'a>>,
 }
 
 impl<'a> CaseFile<'a> {
     /// Reads a file.
     pub fn read(alloc: Global, text: &'a str) -> Result<CaseFile<'a>, CaseFault> {
         let mut lines = text.split('\n');
-        let first = Line {
+        let first = FileLine {
             number: 1,
             text: lines.next().unwrap_or(""),
         };
-        let Some(kind) = Kind::of(first.text) else {
+        let Some(kind) = CaseKind::of(first.text) else {
             return Err(first.fault(Mistake::Kind));
         };
         let mut reader = CaseReader::new(alloc);
         for (before, text) in lines.enumerate() {
             let number = before.saturating_add(2);
-            reader.take(Line { number, text })?;
+            reader.take(FileLine { number, text })?;
         }
         Ok(CaseFile {
             kind,
@@ -323,7 +323,7 @@ impl<'a> CaseFile<'a> {
 #[derive(Drop)]
 struct CaseReader<'a> {
     alloc: Global,
-    cases: Vec<Case<'a>>,
+    cases: Vec<NamedCase<'a>>,
     // an indented line is one of the last field's text
     is_in_text: bool,
     // the empty lines since the last one of the text
@@ -341,7 +341,7 @@ impl<'a> CaseReader<'a> {
     }
 
     // Takes a line.
-    fn take(&mut self, line: Line<'a>) -> Result<(), CaseFault> {
+    fn take(&mut self, line: FileLine<'a>) -> Result<(), CaseFault> {
         line.check()?;
         if line.text.is_empty() {
             self.empty_lines = self.empty_lines.saturating_add(1);
@@ -371,11 +371,11 @@ impl<'a> CaseReader<'a> {
     }
 
     // Begins a case.
-    fn take_case(&mut self, line: Line<'a>, name: &'a str) -> Result<(), CaseFault> {
+    fn take_case(&mut self, line: FileLine<'a>, name: &'a str) -> Result<(), CaseFault> {
         if self.has_case(name) {
             return Err(line.fault(Mistake::NameTwice));
         }
-        self.cases.push(Case {
+        self.cases.push(NamedCase {
             line,
             name,
             fields: Vec::new(self.alloc),
@@ -384,7 +384,7 @@ impl<'a> CaseReader<'a> {
     }
 
     // Begins a field, which has its text on this line or on the lines below.
-    fn take_field(&mut self, line: Line<'a>) -> Result<(), CaseFault> {
+    fn take_field(&mut self, line: FileLine<'a>) -> Result<(), CaseFault> {
         let (head, text) = match line.text.split_once(": ") {
             Some((head, text)) => (head, Some(text)),
             None => match line.text.strip_suffix(":") {
@@ -418,7 +418,7 @@ impl<'a> CaseReader<'a> {
     }
 
     // Takes a line of a text.
-    fn take_text(&mut self, line: Line<'a>) -> Result<(), CaseFault> {
+    fn take_text(&mut self, line: FileLine<'a>) -> Result<(), CaseFault> {
         if !self.is_in_text {
             return Err(line.fault(Mistake::NoText));
         }

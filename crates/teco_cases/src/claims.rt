@@ -1,5 +1,5 @@
 //! Cases of the texts of claims: those that are read and written back, and those that are refused.
-use crate::case_file::{Case, Keys};
+use crate::case_file::{CaseKeys, NamedCase};
 use crate::fault::CaseFault;
 use crate::findings::Findings;
 use std::alloc::Global;
@@ -13,7 +13,7 @@ const BEFORE: &[u8] = b"commands 6\nsize N\ntypes -\ncut 1\n0 <= z\n";
 const BEHIND: &[u8] = b"\n0 <= h\nend\n";
 
 // The text of a case, and how many bytes of it stand before its own.
-fn text_of(alloc: Global, case: &Case<'_>) -> Result<(Vec<u8>, usize), CaseFault> {
+fn text_of(alloc: Global, case: &NamedCase<'_>) -> Result<(Vec<u8>, usize), CaseFault> {
     let mut text = Vec::new(alloc);
     let Some(claim) = case.text_if_any("claim") else {
         text.extend_from_slice(case.text("claims")?)?;
@@ -37,8 +37,8 @@ fn said_of(alloc: Global, text: &[u8]) -> Result<String, CaseFault> {
 }
 
 /// Reads the claims of a case, which are written back, or refused at their byte.
-pub fn run_claims(alloc: Global, case: &Case<'_>) -> Result<Findings, CaseFault> {
-    case.check(Keys::of_texts(KEYS))?;
+pub fn run_claims(alloc: Global, case: &NamedCase<'_>) -> Result<Findings, CaseFault> {
+    case.check(CaseKeys::of_texts(KEYS))?;
     let (text, before) = text_of(alloc, case)?;
     let wanted = match case.phrase_if_any("refused")? {
         Some(place) => {

@@ -2,7 +2,7 @@
 use crate::case_file::NamedText;
 use crate::fault::CaseFault;
 use crate::findings::Findings;
-use crate::running::{Job, Left, Ran, buffer_of, run_over_each};
+use crate::running::{CaseRun, CaseRunner, FilesLeft, buffer_of, run_over_each};
 use crate::settings::{IN_FOLDER, IN_MEMORY};
 use std::alloc::{AllocError, Global};
 use teco_apply::{Edit, Edited, Pages, Willing, edit_file};
@@ -25,7 +25,7 @@ const NOT_TAKEN: u64 = 2;
 
 /// What is edited, and how.
 #[derive(Clone, Copy)]
-pub struct Task<'a> {
+pub struct EditTask<'a> {
     pub promise: &'a Promise<'a>,
     pub argument: Option<i32>,
     pub pages: Pages,
@@ -34,7 +34,7 @@ pub struct Task<'a> {
 
 /// What is to come of an edit.
 #[derive(Clone, Copy)]
-pub struct Wanted<'a> {
+pub struct ExpectedEdit<'a> {
     pub typed: &'a [u8],
     pub status: u64,
     /// The file that is made; none where none is.
@@ -52,7 +52,7 @@ fn status_of(edited: Result<Edited, SessionFault>) -> Result<(u64, u64), Session
     }
 }
 
-impl Task<'_> {
+impl EditTask<'_> {
     // What a promised polynomial is at the N of its only run.
     fn most(&self, promised: Poly) -> Option<u64> {
         let Pages::First = self.pages else {
@@ -96,14 +96,14 @@ fn compare_most(
 #[derive(Drop)]
 struct Trial<'a> {
     alloc: Global,
-    task: Task<'a>,
+    task: EditTask<'a>,
     files: [NamedText<'a>; 1],
-    wanted: Wanted<'a>,
+    wanted: ExpectedEdit<'a>,
 }
 
 impl<'a> Trial<'a> {
     // The trial of a task.
-    fn new(alloc: Global, task: Task<'a>, wanted: Wanted<'a>) -> Trial<'a> {
+    fn new(alloc: Global, task: EditTask<'a>, wanted: ExpectedEdit<'a>) -> Trial<'a> {
         Trial {
             alloc,
             task,
@@ -116,7 +116,11 @@ impl<'a> Trial<'a> {
     }
 
     // Finds files beside the one that is edited and the one that is made.
-    fn compare_names(&self, findings: &mut Findings, left: Left<'_>) -> Result<(), AllocError> {
+    fn compare_names(
+        &self,
+        findings: &mut Findings,
+        left: FilesLeft<'_>,
+    ) -> Result<(), AllocError> {
         for name in left.names {
             let name = name.as_bytes();
             if name != SOURCE && name != TARGET {
@@ -167,7 +171,7 @@ impl<'a> Trial<'a> {
     }
 }
 
-impl Job for Trial<'_> {
+impl CaseRunner for Trial<'_> {
     fn files(&self) -> &[NamedText<'_>] {
         &self.files
     }
@@ -177,11 +181,11 @@ impl Job for Trial<'_> {
         text: T,
         _piece: usize,
         host: &mut H,
-    ) -> Result<Ran, CaseFault> {
+    ) -> Result<CaseRun, CaseFault> {
         let mut machine = Machine::new(self.alloc, text);
         let mut typed = Vec::new(self.alloc);
         let (status, steps) = self.edited(&mut machine, host, &mut typed)?;
-        Ok(Ran {
+        Ok(CaseRun {
             typed,
             status,
             steps,
@@ -193,8 +197,8 @@ impl Job for Trial<'_> {
     fn compare(
         &self,
         findings: &mut Findings,
-        ran: &Ran,
-        left: Left<'_>,
+        ran: &CaseRun,
+        left: FilesLeft<'_>,
     ) -> Result<(), AllocError> {
         let wanted = self.wanted;
         findings.compare("typed", wanted.typed, &ran.typed)?;
@@ -213,8 +217,8 @@ impl Job for Trial<'_> {
 /// which something is not as it is wanted.
 pub fn try_edit(
     rt: &HostRuntime,
-    task: Task<'_>,
-    wanted: Wanted<'_>,
+    task: EditTask<'_>,
+    wanted: ExpectedEdit<'_>,
 ) -> Result<Findings, CaseFault> {
     let trial = Trial::new(rt.alloc(), task, wanted);
     let findings = run_over_each(rt, &trial, IN_MEMORY)?;

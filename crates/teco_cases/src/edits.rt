@@ -1,9 +1,9 @@
 //! Cases of edits: files that a verified macro edits.
-use crate::case_file::{Case, Keys};
-use crate::editing::{Task, Wanted, try_edit};
+use crate::case_file::{CaseKeys, NamedCase};
+use crate::editing::{EditTask, ExpectedEdit, try_edit};
 use crate::fault::CaseFault;
 use crate::findings::Findings;
-use crate::subject::{Subject, library_of};
+use crate::subject::{MacroSubject, library_of};
 use std::alloc::Global;
 use teco_apply::Pages;
 use teco_verdicts::{Verdict, verified_by};
@@ -14,7 +14,7 @@ const KEYS: &[&str] = &[
 ];
 
 // The argument that the macro of a case is given, if it is.
-fn argument_of(case: &Case<'_>) -> Result<Option<i32>, CaseFault> {
+fn argument_of(case: &NamedCase<'_>) -> Result<Option<i32>, CaseFault> {
     let Some(word) = case.word_if_any("argument")? else {
         return Ok(None);
     };
@@ -25,7 +25,7 @@ fn argument_of(case: &Case<'_>) -> Result<Option<i32>, CaseFault> {
 }
 
 // The pages that are edited: the first where the case names none.
-fn pages_of(case: &Case<'_>) -> Result<Pages, CaseFault> {
+fn pages_of(case: &NamedCase<'_>) -> Result<Pages, CaseFault> {
     match case.word_if_any("pages")? {
         None | Some("first") => Ok(Pages::First),
         Some("each") => Ok(Pages::Each),
@@ -46,22 +46,22 @@ pub fn refused(alloc: Global, refusal: &Refusal) -> Result<Findings, CaseFault> 
 }
 
 /// Edits the file of a case.
-pub fn run_edit(rt: &HostRuntime, case: &Case<'_>) -> Result<Findings, CaseFault> {
+pub fn run_edit(rt: &HostRuntime, case: &NamedCase<'_>) -> Result<Findings, CaseFault> {
     let alloc = rt.alloc();
-    case.check(Keys::of_texts(KEYS))?;
-    let Subject { entry, method } = Subject::of(case)?;
+    case.check(CaseKeys::of_texts(KEYS))?;
+    let MacroSubject { entry, method } = MacroSubject::of(case)?;
     let library = library_of(alloc, case)?;
     let accepted = match verified_by(alloc, &library, entry, method) {
         Ok(accepted) => accepted,
         Err(refusal) => return refused(alloc, &refusal),
     };
-    let task = Task {
+    let task = EditTask {
         promise: &accepted.promise(),
         argument: argument_of(case)?,
         pages: pages_of(case)?,
         input: case.text("in")?,
     };
-    let wanted = Wanted {
+    let wanted = ExpectedEdit {
         typed: case.text_if_any("typed").unwrap_or(b""),
         status: case.status()?,
         output: case.text_if_any("out"),

@@ -1,13 +1,13 @@
 //! What is found to be other than a case says.
 use crate::fault::CaseFault;
-use crate::settings::Setting;
+use crate::settings::CaseSetting;
 use std::alloc::{AllocError, Global};
 use std::fmt;
 use teco_source::Shown;
 
 // What a case says, and what was got in its place.
 #[derive(Drop)]
-struct Difference {
+struct CaseDifference {
     what: String,
     expected: String,
     got: String,
@@ -17,8 +17,8 @@ struct Difference {
 #[derive(Drop)]
 pub struct Findings {
     alloc: Global,
-    setting: Option<Setting>,
-    all: Vec<Difference>,
+    setting: Option<CaseSetting>,
+    all: Vec<CaseDifference>,
 }
 
 impl Findings {
@@ -32,7 +32,7 @@ impl Findings {
     }
 
     /// None yet, in a run over this.
-    pub fn over(alloc: Global, setting: Setting) -> Findings {
+    pub fn over(alloc: Global, setting: CaseSetting) -> Findings {
         Findings {
             alloc,
             setting: Some(setting),
@@ -65,7 +65,7 @@ impl Findings {
         got: G,
     ) -> Result<(), AllocError> {
         let alloc = self.alloc;
-        self.all.push(Difference {
+        self.all.push(CaseDifference {
             what: format!(in alloc; "{what}")?,
             expected: format!(in alloc; "{expected}")?,
             got: format!(in alloc; "{got}")?,
@@ -121,7 +121,7 @@ impl fmt::Display for Findings {
             writeln!(f, "  over {setting}")?;
         }
         for difference in self.all.iter() {
-            let Difference {
+            let CaseDifference {
                 what,
                 expected,
                 got,

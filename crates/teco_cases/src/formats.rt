@@ -1,5 +1,5 @@
 //! Cases of files of cases: the mistake that is told of one, or what its first text says.
-use crate::case_file::{Case, CaseFile, Keys};
+use crate::case_file::{CaseFile, CaseKeys, NamedCase};
 use crate::fault::CaseFault;
 use crate::findings::Findings;
 use std::alloc::{AllocError, Global};
@@ -36,8 +36,8 @@ fn said_of(alloc: Global, file: &str, key: &str) -> Result<String, AllocError> {
 }
 
 /// Reads the file of a case.
-pub fn run_format(alloc: Global, case: &Case<'_>) -> Result<Findings, CaseFault> {
-    case.check(Keys::of_texts(KEYS))?;
+pub fn run_format(alloc: Global, case: &NamedCase<'_>) -> Result<Findings, CaseFault> {
+    case.check(CaseKeys::of_texts(KEYS))?;
     let file = str::from_utf8(case.text("file")?).unwrap_or("");
     let key = case.word_if_any("text")?.unwrap_or("typed");
     let (what, wanted) = match case.text_if_any("mistake") {

@@ -1,5 +1,5 @@
 //! Cases of linear forms: sums, and what follows from inequalities between them.
-use crate::case_file::{Case, Keys};
+use crate::case_file::{CaseKeys, NamedCase};
 use crate::fault::CaseFault;
 use crate::findings::Findings;
 use crate::phrase::Phrase;
@@ -54,7 +54,7 @@ fn widened(alloc: Global, sum: Form, count: u32) -> Result<Form, LinearFault> {
 }
 
 // The sum of a case, with what stands for its symbols.
-fn summed(alloc: Global, case: &Case<'_>, sum: Phrase<'_>) -> Result<String, CaseFault> {
+fn summed(alloc: Global, case: &NamedCase<'_>, sum: Phrase<'_>) -> Result<String, CaseFault> {
     let mut form = form_of(alloc, sum)?;
     if let Some(count) = case.phrase_if_any("wide")? {
         let count = u32::try_from(count.count()?).unwrap_or(0);
@@ -119,7 +119,7 @@ fn word_of(is_so: bool) -> &'static str {
 }
 
 // Whether multipliers show that the constraints of a case imply its target.
-fn judged(alloc: Global, case: &Case<'_>, text: Phrase<'_>) -> Result<bool, CaseFault> {
+fn judged(alloc: Global, case: &NamedCase<'_>, text: Phrase<'_>) -> Result<bool, CaseFault> {
     let multipliers = multipliers_of(alloc, text)?;
     let constraints = forms_of(alloc, case.phrase("constraints")?)?;
     let target = form_of(alloc, case.phrase("target")?)?;
@@ -164,7 +164,7 @@ fn bounds_text(
 }
 
 // What the bounds on differences of so many symbols say.
-fn bounded(alloc: Global, case: &Case<'_>, symbols: usize) -> Result<String, CaseFault> {
+fn bounded(alloc: Global, case: &NamedCase<'_>, symbols: usize) -> Result<String, CaseFault> {
     let constraints = forms_of(alloc, case.phrase("constraints")?)?;
     let bounds = DifferenceBounds::of(symbols, &constraints, alloc)?;
     if let Some(wanted) = case.phrase_if_any("bounds")? {
@@ -175,7 +175,7 @@ fn bounded(alloc: Global, case: &Case<'_>, symbols: usize) -> Result<String, Cas
 }
 
 // What is said of a case.
-fn said_of(alloc: Global, case: &Case<'_>) -> Result<String, CaseFault> {
+fn said_of(alloc: Global, case: &NamedCase<'_>) -> Result<String, CaseFault> {
     if let Some(sum) = case.phrase_if_any("sum")? {
         return summed(alloc, case, sum);
     }
@@ -189,8 +189,8 @@ fn said_of(alloc: Global, case: &Case<'_>) -> Result<String, CaseFault> {
 }
 
 /// Works out the sum of a case, or what follows from its constraints.
-pub fn run_implication(alloc: Global, case: &Case<'_>) -> Result<Findings, CaseFault> {
-    case.check(Keys::of_texts(KEYS))?;
+pub fn run_implication(alloc: Global, case: &NamedCase<'_>) -> Result<Findings, CaseFault> {
+    case.check(CaseKeys::of_texts(KEYS))?;
     let said = match said_of(alloc, case) {
         Err(CaseFault::Linear(fault)) => format!(in alloc; "{fault}")?,
         said => said?,

@@ -1,10 +1,10 @@
 //! Cases of macros: by which edition each is accepted, what it promises, and what it makes of a file.
-use crate::case_file::{Case, Keys};
-use crate::editing::{Task, Wanted, try_edit};
+use crate::case_file::{CaseKeys, NamedCase};
+use crate::editing::{EditTask, ExpectedEdit, try_edit};
 use crate::edits::refused;
 use crate::fault::CaseFault;
 use crate::findings::Findings;
-use crate::subject::{METHODS, Subject, library_of};
+use crate::subject::{METHODS, MacroSubject, library_of};
 use crate::verdicts::accepted_by;
 use std::alloc::Global;
 use std::str;
@@ -16,7 +16,7 @@ use teco_promise::Promise;
 use teco_verdicts::{Accepted, Verdict, verified_by};
 use teco_verify::Refusal;
 
-const KEYS: Keys = Keys {
+const KEYS: CaseKeys = CaseKeys {
     plain: &[
         "library",
         "entry",
@@ -100,7 +100,7 @@ fn compare_bound(
 fn compare_verdicts(
     alloc: Global,
     findings: &mut Findings,
-    case: &Case<'_>,
+    case: &NamedCase<'_>,
     library: &Library,
     entry: Reg,
 ) -> Result<(), CaseFault> {
@@ -134,7 +134,7 @@ fn line_of<'a>(certificate: &'a str, word: &str) -> &'a str {
 // Compares what a case says of the certificate of its macro.
 fn compare_promise(
     findings: &mut Findings,
-    case: &Case<'_>,
+    case: &NamedCase<'_>,
     certificate: &[u8],
 ) -> Result<(), CaseFault> {
     let lines = str::from_utf8(certificate).unwrap_or("");
@@ -154,7 +154,7 @@ fn compare_checked(
     rt: &HostRuntime,
     findings: &mut Findings,
     library: &Library,
-    subject: Subject,
+    subject: MacroSubject,
     certificate: &[u8],
 ) -> Result<(), CaseFault> {
     let checked = accepted_by(rt, library, subject, certificate)?;
@@ -166,10 +166,10 @@ fn compare_checked(
 // Runs the macro of a case on its file.
 fn run_task(
     rt: &HostRuntime,
-    case: &Case<'_>,
+    case: &NamedCase<'_>,
     promise: &Promise<'_>,
 ) -> Result<Findings, CaseFault> {
-    let task = Task {
+    let task = EditTask {
         promise,
         argument: None,
         pages: Pages::First,
@@ -182,7 +182,7 @@ fn run_task(
     if !findings.is_empty() {
         return Ok(findings);
     }
-    let wanted = Wanted {
+    let wanted = ExpectedEdit {
         typed: case.text_if_any("typed").unwrap_or(b""),
         status: 0,
         output: Some(case.text("out")?),
@@ -194,9 +194,9 @@ fn run_task(
 // Runs a case whose macro makes a promise.
 fn run_promise(
     rt: &HostRuntime,
-    case: &Case<'_>,
+    case: &NamedCase<'_>,
     library: &Library,
-    subject: Subject,
+    subject: MacroSubject,
 ) -> Result<Findings, CaseFault> {
     let alloc = rt.alloc();
     let accepted = match verified_by(alloc, library, subject.entry, subject.method) {
@@ -214,10 +214,10 @@ fn run_promise(
 }
 
 /// Verifies the macro of a case and, where it tells what is promised, runs it on its file.
-pub fn run_macro(rt: &HostRuntime, case: &Case<'_>) -> Result<Findings, CaseFault> {
+pub fn run_macro(rt: &HostRuntime, case: &NamedCase<'_>) -> Result<Findings, CaseFault> {
     let alloc = rt.alloc();
     case.check(KEYS)?;
-    let subject = Subject::of(case)?;
+    let subject = MacroSubject::of(case)?;
     let library = library_of(alloc, case)?;
     let mut findings = Findings::new(alloc);
     compare_verdicts(alloc, &mut findings, case, &library, subject.entry)?;

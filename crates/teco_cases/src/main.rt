@@ -24,7 +24,7 @@ mod subject;
 mod sums;
 mod verdicts;
 
-use crate::case_file::{Case, CaseFile, Kind};
+use crate::case_file::{CaseFile, CaseKind, NamedCase};
 use crate::claims::run_claims;
 use crate::edits::run_edit;
 use crate::fault::CaseFault;
@@ -46,29 +46,29 @@ const SUFFIX: &str = ".cases";
 
 // How many cases were run, and how many of them passed.
 #[derive(Clone, Copy)]
-struct Tally {
+struct CaseTally {
     passed: usize,
     cases: usize,
 }
 
 /// None yet.
-const NONE: Tally = Tally {
+const NONE: CaseTally = CaseTally {
     passed: 0,
     cases: 0,
 };
 
-impl Tally {
+impl CaseTally {
     // These, and one more.
-    fn with(self, is_passed: bool) -> Tally {
-        Tally {
+    fn with(self, is_passed: bool) -> CaseTally {
+        CaseTally {
             passed: self.passed.saturating_add(usize::from(is_passed)),
             cases: self.cases.saturating_add(1),
         }
     }
 
     // These and those.
-    fn and(self, other: Tally) -> Tally {
-        Tally {
+    fn and(self, other: CaseTally) -> CaseTally {
+        CaseTally {
             passed: self.passed.saturating_add(other.passed),
             cases: self.cases.saturating_add(other.cases),
         }
@@ -83,22 +83,22 @@ impl Tally {
 // Runs a case.
 fn run_case(
     rt: &HostRuntime,
-    kind: Kind,
-    case: &Case<'_>,
+    kind: CaseKind,
+    case: &NamedCase<'_>,
     extent: Extent,
 ) -> Result<Findings, CaseFault> {
     match kind {
-        Kind::Sessions => run_session(rt, case, extent),
-        Kind::Verdicts => run_verdict(rt, case),
-        Kind::Certificates => run_certificate(rt, case),
-        Kind::Edits => run_edit(rt, case),
-        Kind::Macros => run_macro(rt, case),
-        Kind::Formats => run_format(rt.alloc(), case),
-        Kind::Programs => run_program(rt.alloc(), case),
-        Kind::Implications => run_implication(rt.alloc(), case),
-        Kind::Claims => run_claims(rt.alloc(), case),
-        Kind::Outcomes => run_outcomes(rt.alloc(), case),
-        Kind::Paths => run_paths(rt.alloc(), case),
+        CaseKind::Sessions => run_session(rt, case, extent),
+        CaseKind::Verdicts => run_verdict(rt, case),
+        CaseKind::Certificates => run_certificate(rt, case),
+        CaseKind::Edits => run_edit(rt, case),
+        CaseKind::Macros => run_macro(rt, case),
+        CaseKind::Formats => run_format(rt.alloc(), case),
+        CaseKind::Programs => run_program(rt.alloc(), case),
+        CaseKind::Implications => run_implication(rt.alloc(), case),
+        CaseKind::Claims => run_claims(rt.alloc(), case),
+        CaseKind::Outcomes => run_outcomes(rt.alloc(), case),
+        CaseKind::Paths => run_paths(rt.alloc(), case),
     }
 }
 
@@ -108,7 +108,7 @@ fn run_cases(
     path: &str,
     file: &CaseFile<'_>,
     extent: Extent,
-) -> Result<Tally, CaseFault> {
+) -> Result<CaseTally, CaseFault> {
     let mut tally = NONE;
     for case in file.cases.iter() {
         let findings = run_case(rt, file.kind, case, extent)?;
@@ -123,7 +123,7 @@ fn run_cases(
 }
 
 // Runs a file of cases.
-fn run_file(rt: &HostRuntime, path: &str, extent: Extent) -> Result<Tally, CaseFault> {
+fn run_file(rt: &HostRuntime, path: &str, extent: Extent) -> Result<CaseTally, CaseFault> {
     let text = fs::read_to_string(rt, path)?;
     let file = CaseFile::read(rt.alloc(), text.as_str())?;
     run_cases(rt, path, &file, extent)
@@ -146,7 +146,7 @@ fn run_files(rt: &HostRuntime, paths: &[String], extent: Extent) -> io::Result<b
         let path = path.as_str();
         match run_file(rt, path, extent) {
             Ok(tally) => {
-                let Tally { passed, cases } = tally;
+                let CaseTally { passed, cases } = tally;
                 println!(rt; "{}: {passed} of {cases}", subject_of(path))?;
                 is_good = is_good && tally.is_all();
                 all = all.and(tally);
@@ -157,7 +157,7 @@ fn run_files(rt: &HostRuntime, paths: &[String], extent: Extent) -> io::Result<b
             }
         }
     }
-    let Tally { passed, cases } = all;
+    let CaseTally { passed, cases } = all;
     println!(rt; "all: {passed} of {cases}")?;
     Ok(is_good)
 }

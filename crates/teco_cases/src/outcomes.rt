@@ -1,5 +1,5 @@
 //! Cases of outcomes: what may come of the last element of a command string, by forms.
-use crate::case_file::{Case, Keys, NamedText};
+use crate::case_file::{CaseKeys, NamedCase, NamedText};
 use crate::fault::CaseFault;
 use crate::findings::Findings;
 use crate::phrase::Phrase;
@@ -19,7 +19,7 @@ use teco_rows::outcomes::Outcomes;
 use teco_search_outcomes::pages::{read_pages, write_pages};
 use teco_search_outcomes::searches::search;
 
-const KEYS: Keys = Keys {
+const KEYS: CaseKeys = CaseKeys {
     plain: &[
         "commands",
         "conditions",
@@ -293,7 +293,7 @@ fn compare_case(
 fn compare_cases(
     findings: &mut Findings,
     alloc: Global,
-    case: &Case<'_>,
+    case: &NamedCase<'_>,
     key: &str,
     cases: &[case::Case],
 ) -> Result<(), CaseFault> {
@@ -309,7 +309,7 @@ fn compare_cases(
 // Compares a number, where it is told.
 fn compare_count(
     findings: &mut Findings,
-    case: &Case<'_>,
+    case: &NamedCase<'_>,
     key: &'static str,
     got: usize,
 ) -> Result<(), CaseFault> {
@@ -320,7 +320,7 @@ fn compare_count(
 }
 
 // Compares what may come of the last element with what is said of it.
-fn compare(alloc: Global, case: &Case<'_>, all: &Outcomes) -> Result<Findings, CaseFault> {
+fn compare(alloc: Global, case: &NamedCase<'_>, all: &Outcomes) -> Result<Findings, CaseFault> {
     let mut findings = Findings::new(alloc);
     compare_count(&mut findings, case, "conditions", all.conditions.len())?;
     compare_count(&mut findings, case, "guarded", all.guarded.len())?;
@@ -334,7 +334,7 @@ fn compare(alloc: Global, case: &Case<'_>, all: &Outcomes) -> Result<Findings, C
 }
 
 /// Performs the command string of a case on a state at the start of a run.
-pub fn run_outcomes(alloc: Global, case: &Case<'_>) -> Result<Findings, CaseFault> {
+pub fn run_outcomes(alloc: Global, case: &NamedCase<'_>) -> Result<Findings, CaseFault> {
     case.check(KEYS)?;
     match performed(case.text("commands")?, alloc) {
         Ok(all) => compare(alloc, case, &all),

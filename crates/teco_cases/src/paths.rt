@@ -1,8 +1,8 @@
 //! Cases of macros with claims at cut points: whether these are found to hang together.
-use crate::case_file::{Case, Keys};
+use crate::case_file::{CaseKeys, NamedCase};
 use crate::fault::CaseFault;
 use crate::findings::Findings;
-use crate::subject::{Subject, library_of};
+use crate::subject::{MacroSubject, library_of};
 use std::alloc::Global;
 use teco_claims::Claims;
 use teco_expansion::expand;
@@ -26,8 +26,8 @@ fn lengths_of(alloc: Global, library: &Library) -> Result<Vec<Option<usize>>, Ca
 }
 
 // What is said of the claims of a case, where both files are open.
-fn said_of(alloc: Global, case: &Case<'_>) -> Result<String, CaseFault> {
-    let Subject { entry, .. } = Subject::of(case)?;
+fn said_of(alloc: Global, case: &NamedCase<'_>) -> Result<String, CaseFault> {
+    let MacroSubject { entry, .. } = MacroSubject::of(case)?;
     let library = library_of(alloc, case)?;
     let Ok(claims) = Claims::read(alloc, case.text("claims")?) else {
         return Err(case.wrong("claims"));
@@ -52,8 +52,8 @@ fn said_of(alloc: Global, case: &Case<'_>) -> Result<String, CaseFault> {
 }
 
 /// Follows all paths of the macro of a case by its claims.
-pub fn run_paths(alloc: Global, case: &Case<'_>) -> Result<Findings, CaseFault> {
-    case.check(Keys::of_texts(KEYS))?;
+pub fn run_paths(alloc: Global, case: &NamedCase<'_>) -> Result<Findings, CaseFault> {
+    case.check(CaseKeys::of_texts(KEYS))?;
     let said = said_of(alloc, case)?;
     Findings::of_text(alloc, "verdict", case.text("verdict")?, said.as_bytes())
 }

@@ -1,11 +1,13 @@
 //! Cases of linear programs: their least values, or why there are none.
-use crate::case_file::{Case, Keys};
+use crate::case_file::{CaseKeys, NamedCase};
 use crate::fault::CaseFault;
 use crate::findings::Findings;
 use crate::phrase::Phrase;
 use crate::sums::terms_of;
 use std::alloc::Global;
-use teco_simplex::{Answer, Program, Relation, Row, Sign, SimplexFault, Term, Values};
+use teco_simplex::{
+    Assignment, Condition, LinearProgram, Relation, Sign, SimplexFault, SolverAnswer, Summand,
+};
 
 const KEYS: &[&str] = &[
     "variables",
@@ -30,7 +32,7 @@ const RELATIONS: &[(&str, Relation)] = &[
 ];
 
 // A sum of variables. A 0 alone is a sum of none.
-fn variables_of(alloc: Global, sum: Phrase<'_>) -> Result<Vec<Term>, CaseFault> {
+fn variables_of(alloc: Global, sum: Phrase<'_>) -> Result<Vec<Summand>, CaseFault> {
     let mut terms = Vec::new(alloc);
     if sum.words == "0" {
         return Ok(terms);
@@ -40,7 +42,7 @@ fn variables_of(alloc: Global, sum: Phrase<'_>) -> Result<Vec<Term>, CaseFault> 
         let Some(variable) = term.symbol else {
             return Err(sum.wrong());
         };
-        terms.push(Term {
+        terms.push(Summand {
             variable: variable as usize,
             coefficient: term.coefficient,
         })?;
@@ -49,10 +51,10 @@ fn variables_of(alloc: Global, sum: Phrase<'_>) -> Result<Vec<Term>, CaseFault> 
 }
 
 // A condition.
-fn row_of(alloc: Global, line: Phrase<'_>) -> Result<Row, CaseFault> {
+fn row_of(alloc: Global, line: Phrase<'_>) -> Result<Condition, CaseFault> {
     for (sign, relation) in RELATIONS {
         if let Some((sum, bound)) = line.words.split_once(*sign) {
-            return Ok(Row {
+            return Ok(Condition {
                 terms: variables_of(alloc, line.part(sum))?,
                 relation: *relation,
                 bound: line.part(bound).number()?,
@@ -63,7 +65,7 @@ fn row_of(alloc: Global, line: Phrase<'_>) -> Result<Row, CaseFault> {
 }
 
 // Adds a condition, or an objective behind `min`.
-fn add_line(alloc: Global, program: &mut Program, line: Phrase<'_>) -> Result<(), CaseFault> {
+fn add_line(alloc: Global, program: &mut LinearProgram, line: Phrase<'_>) -> Result<(), CaseFault> {
     match line.words.strip_prefix("min ") {
         Some(sum) => program.add_objective(variables_of(alloc, line.part(sum))?)?,
         None => program.add_row(row_of(alloc, line)?)?,
@@ -80,8 +82,8 @@ fn sign_of(letter: u8) -> Sign {
 }
 
 // The program of a case.
-fn program_of(alloc: Global, case: &Case<'_>) -> Result<Program, CaseFault> {
-    let mut program = Program::new(alloc);
+fn program_of(alloc: Global, case: &NamedCase<'_>) -> Result<LinearProgram, CaseFault> {
+    let mut program = LinearProgram::new(alloc);
     for letter in case.text("variables")? {
         let _place = program.add_variable(sign_of(*letter))?;
     }
@@ -105,7 +107,7 @@ fn common_divisor(left: u128, right: u128) -> u128 {
 }
 
 // A sum at values: what it is over their denominator, if that fits 128 bits.
-fn value_of(sum: &[Term], values: &Values) -> Option<i128> {
+fn value_of(sum: &[Summand], values: &Assignment) -> Option<i128> {
     let mut value = 0i128;
     for term in sum {
         let numerator = values.numerators.get(term.variable)?;
@@ -133,7 +135,7 @@ fn push_fraction(
 }
 
 // The least values of the objectives.
-fn least(alloc: Global, program: &Program, values: &Values) -> Result<String, CaseFault> {
+fn least(alloc: Global, program: &LinearProgram, values: &Assignment) -> Result<String, CaseFault> {
     let mut text = String::from_str(alloc, "least")?;
     for objective in program.objectives.iter() {
         match value_of(objective, values) {
@@ -149,32 +151,36 @@ fn least(alloc: Global, program: &Program, values: &Values) -> Result<String, Ca
 // What is said of a program.
 fn answer_of(
     alloc: Global,
-    program: &Program,
-    answer: Result<Answer, SimplexFault>,
+    program: &LinearProgram,
+    answer: Result<SolverAnswer, SimplexFault>,
 ) -> Result<String, CaseFault> {
     match answer {
-        Ok(Answer::Found(values)) => least(alloc, program, &values),
-        Ok(Answer::Infeasible) => Ok(String::from_str(alloc, "infeasible")?),
-        Ok(Answer::Unbounded) => Ok(String::from_str(alloc, "unbounded")?),
+        Ok(SolverAnswer::Found(values)) => least(alloc, program, &values),
+        Ok(SolverAnswer::Infeasible) => Ok(String::from_str(alloc, "infeasible")?),
+        Ok(SolverAnswer::Unbounded) => Ok(String::from_str(alloc, "unbounded")?),
         Err(fault) => Ok(format!(in alloc; "{fault}")?),
     }
 }
 
 // The values of a case, over a denominator.
-fn values_of(alloc: Global, case: &Case<'_>, denominator: i128) -> Result<Values, CaseFault> {
+fn values_of(
+    alloc: Global,
+    case: &NamedCase<'_>,
+    denominator: i128,
+) -> Result<Assignment, CaseFault> {
     let mut numerators = Vec::new(alloc);
     let text = case.phrase("numerators")?;
     for word in text.words.split_whitespace() {
         numerators.push(text.part(word).number()?)?;
     }
-    Ok(Values {
+    Ok(Assignment {
         denominator,
         numerators,
     })
 }
 
 // Whether a program is satisfied, in a word.
-fn satisfied(program: &Program, values: &Values) -> &'static str {
+fn satisfied(program: &LinearProgram, values: &Assignment) -> &'static str {
     if program.is_satisfied_by(values) {
         "satisfied"
     } else {
@@ -183,7 +189,7 @@ fn satisfied(program: &Program, values: &Values) -> &'static str {
 }
 
 // What is said of the program of a case.
-fn said_of(alloc: Global, case: &Case<'_>) -> Result<String, CaseFault> {
+fn said_of(alloc: Global, case: &NamedCase<'_>) -> Result<String, CaseFault> {
     let program = program_of(alloc, case)?;
     if let Some(text) = case.phrase_if_any("denominator")? {
         let values = values_of(alloc, case, text.number()?)?;
@@ -195,8 +201,8 @@ fn said_of(alloc: Global, case: &Case<'_>) -> Result<String, CaseFault> {
 }
 
 /// Solves the program of a case, or sees whether values satisfy it.
-pub fn run_program(alloc: Global, case: &Case<'_>) -> Result<Findings, CaseFault> {
-    case.check(Keys::of_texts(KEYS))?;
+pub fn run_program(alloc: Global, case: &NamedCase<'_>) -> Result<Findings, CaseFault> {
+    case.check(CaseKeys::of_texts(KEYS))?;
     let said = said_of(alloc, case)?;
     Findings::of_text(alloc, "answer", case.text("answer")?, said.as_bytes())
 }

@@ -3,7 +3,7 @@ use crate::case_file::NamedText;
 use crate::fault::CaseFault;
 use crate::findings::Findings;
 use crate::folder;
-use crate::settings::{Place, Setting, Store, by_pieces};
+use crate::settings::{CaseSetting, FilePlace, Store, by_pieces};
 use std::alloc::{AllocError, Global};
 use teco_pages::{Closing, FileHost, Handling, Host, MemHost};
 use teco_run::Machine;
@@ -11,7 +11,7 @@ use teco_text::{GapText, TextStore, VecText};
 
 /// What came of a run.
 #[derive(Drop)]
-pub struct Ran {
+pub struct CaseRun {
     pub typed: Vec<u8>,
     /// The exit status.
     pub status: u64,
@@ -32,14 +32,14 @@ pub fn buffer_of<T: TextStore>(alloc: Global, machine: &Machine<T>) -> Result<Ve
 
 /// The files that a run has left.
 #[derive(Clone, Copy)]
-pub struct Left<'a> {
+pub struct FilesLeft<'a> {
     pub files: &'a MemHost,
     /// All their names, where these are known.
     pub names: &'a [String],
 }
 
 /// What is run over a text and a host.
-pub trait Job {
+pub trait CaseRunner {
     /// The files that are there before.
     fn files(&self) -> &[NamedText<'_>];
 
@@ -49,10 +49,15 @@ pub trait Job {
         text: T,
         piece: usize,
         host: &mut H,
-    ) -> Result<Ran, CaseFault>;
+    ) -> Result<CaseRun, CaseFault>;
 
     /// Compares what came of it with what the case says.
-    fn compare(&self, findings: &mut Findings, ran: &Ran, left: Left<'_>) -> Result<(), AllocError>;
+    fn compare(
+        &self,
+        findings: &mut Findings,
+        ran: &CaseRun,
+        left: FilesLeft<'_>,
+    ) -> Result<(), AllocError>;
 }
 
 /// Outputs need not outlast a power cut.
@@ -63,13 +68,13 @@ const QUICK: Handling = Handling {
 };
 
 // Runs a job over a store and a host.
-fn run_on<J: Job, H: Host>(
+fn run_on<J: CaseRunner, H: Host>(
     alloc: Global,
     job: &J,
     store: Store,
     piece: usize,
     host: &mut H,
-) -> Result<Ran, CaseFault> {
+) -> Result<CaseRun, CaseFault> {
     match store {
         Store::Vector => job.run(VecText::new(alloc), piece, host),
         Store::Gap => job.run(GapText::new(alloc), piece, host),
@@ -77,7 +82,7 @@ fn run_on<J: Job, H: Host>(
 }
 
 // A host with the files of a job in memory.
-fn host_of<J: Job>(alloc: Global, job: &J) -> Result<MemHost, AllocError> {
+fn host_of<J: CaseRunner>(alloc: Global, job: &J) -> Result<MemHost, AllocError> {
     let mut host = MemHost::new(alloc);
     for file in job.files() {
         host.put(file.name, file.text)?;
@@ -86,7 +91,7 @@ fn host_of<J: Job>(alloc: Global, job: &J) -> Result<MemHost, AllocError> {
 }
 
 // Runs a job over files in memory.
-fn run_in_memory<J: Job>(
+fn run_in_memory<J: CaseRunner>(
     alloc: Global,
     job: &J,
     store: Store,
@@ -94,7 +99,7 @@ fn run_in_memory<J: Job>(
 ) -> Result<(), CaseFault> {
     let mut host = host_of(alloc, job)?;
     let ran = run_on(alloc, job, store, usize::MAX, &mut host)?;
-    let left = Left {
+    let left = FilesLeft {
         files: &host,
         names: &[],
     };
@@ -103,7 +108,7 @@ fn run_in_memory<J: Job>(
 }
 
 // Runs a job over files in memory, so many bytes at a time.
-fn run_by_pieces<J: Job>(
+fn run_by_pieces<J: CaseRunner>(
     alloc: Global,
     job: &J,
     store: Store,
@@ -112,7 +117,7 @@ fn run_by_pieces<J: Job>(
 ) -> Result<(), CaseFault> {
     let mut host = by_pieces(host_of(alloc, job)?, piece);
     let ran = run_on(alloc, job, store, piece, &mut host)?;
-    let left = Left {
+    let left = FilesLeft {
         files: host.mem(),
         names: &[],
     };
@@ -121,14 +126,14 @@ fn run_by_pieces<J: Job>(
 }
 
 // Runs a job over the files of the folder that it is run in.
-fn run_here<J: Job>(rt: &HostRuntime, job: &J, store: Store) -> Result<Ran, CaseFault> {
+fn run_here<J: CaseRunner>(rt: &HostRuntime, job: &J, store: Store) -> Result<CaseRun, CaseFault> {
     let mut host = FileHost::new(rt.alloc(), *rt);
     host.set_handling(QUICK);
     run_on(rt.alloc(), job, store, usize::MAX, &mut host)
 }
 
 // Runs a job over files of the system.
-fn run_in_folder<J: Job>(
+fn run_in_folder<J: CaseRunner>(
     rt: &HostRuntime,
     job: &J,
     store: Store,
@@ -137,7 +142,7 @@ fn run_in_folder<J: Job>(
     folder::enter(rt, job.files())?;
     let ran = run_here(rt, job, store);
     let contents = folder::leave(rt)?;
-    let left = Left {
+    let left = FilesLeft {
         files: &contents.files,
         names: &contents.names,
     };
@@ -146,23 +151,27 @@ fn run_in_folder<J: Job>(
 }
 
 // Runs a job over a setting.
-fn run_over<J: Job>(rt: &HostRuntime, job: &J, setting: Setting) -> Result<Findings, CaseFault> {
+fn run_over<J: CaseRunner>(
+    rt: &HostRuntime,
+    job: &J,
+    setting: CaseSetting,
+) -> Result<Findings, CaseFault> {
     let alloc = rt.alloc();
     let mut findings = Findings::over(alloc, setting);
-    let Setting(store, place) = setting;
+    let CaseSetting(store, place) = setting;
     match place {
-        Place::Memory => run_in_memory(alloc, job, store, &mut findings)?,
-        Place::Pieces(piece) => run_by_pieces(alloc, job, store, piece, &mut findings)?,
-        Place::Folder => run_in_folder(rt, job, store, &mut findings)?,
+        FilePlace::Memory => run_in_memory(alloc, job, store, &mut findings)?,
+        FilePlace::Pieces(piece) => run_by_pieces(alloc, job, store, piece, &mut findings)?,
+        FilePlace::Folder => run_in_folder(rt, job, store, &mut findings)?,
     }
     Ok(findings)
 }
 
 /// Runs a job over each of some settings, up to the first in which something is not as it is to be.
-pub fn run_over_each<J: Job>(
+pub fn run_over_each<J: CaseRunner>(
     rt: &HostRuntime,
     job: &J,
-    settings: &[Setting],
+    settings: &[CaseSetting],
 ) -> Result<Findings, CaseFault> {
     for setting in settings {
         let findings = run_over(rt, job, *setting)?;

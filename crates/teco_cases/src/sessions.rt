@@ -1,9 +1,9 @@
 //! Cases of sessions: what is typed, and the files that are left.
-use crate::case_file::{Case, Keys, NamedText};
+use crate::case_file::{CaseKeys, NamedCase, NamedText};
 use crate::fault::CaseFault;
 use crate::findings::Findings;
 use crate::pieces::PieceReader;
-use crate::running::{Job, Left, Ran, buffer_of, run_over_each};
+use crate::running::{CaseRun, CaseRunner, FilesLeft, buffer_of, run_over_each};
 use crate::settings::Extent;
 use std::alloc::{AllocError, Global};
 use teco_pages::Host;
@@ -11,7 +11,7 @@ use teco_run::Machine;
 use teco_session::{SessionFault, session};
 use teco_text::TextStore;
 
-const KEYS: Keys = Keys {
+const KEYS: CaseKeys = CaseKeys {
     plain: &[
         "input", "limit", "over", "typed", "words", "status", "buffer", "pointer",
     ],
@@ -33,7 +33,7 @@ enum Typed<'a> {
 
 impl<'a> Typed<'a> {
     // What a case says of it.
-    fn of(case: &'a Case<'_>) -> Result<Typed<'a>, CaseFault> {
+    fn of(case: &'a NamedCase<'_>) -> Result<Typed<'a>, CaseFault> {
         match (case.text_if_any("words"), case.text_if_any("typed")) {
             (Some(words), None) => Ok(Typed::Words(words)),
             (None, Some(typed)) => Ok(Typed::Exactly(typed)),
@@ -90,7 +90,7 @@ struct Session<'a> {
 
 impl<'a> Session<'a> {
     // The session of a case.
-    fn of(alloc: Global, case: &'a Case<'_>) -> Result<Session<'a>, CaseFault> {
+    fn of(alloc: Global, case: &'a NamedCase<'_>) -> Result<Session<'a>, CaseFault> {
         Ok(Session {
             alloc,
             input: case.text("input")?,
@@ -126,7 +126,7 @@ impl<'a> Session<'a> {
     }
 
     // Compares the buffer and the pointer, where these are told.
-    fn compare_buffer(&self, findings: &mut Findings, ran: &Ran) -> Result<(), AllocError> {
+    fn compare_buffer(&self, findings: &mut Findings, ran: &CaseRun) -> Result<(), AllocError> {
         if let Some(buffer) = self.buffer {
             findings.compare("buffer", buffer, &ran.buffer)?;
         }
@@ -137,7 +137,7 @@ impl<'a> Session<'a> {
     }
 
     // Compares the files that are left.
-    fn compare_left(&self, findings: &mut Findings, left: Left<'_>) -> Result<(), AllocError> {
+    fn compare_left(&self, findings: &mut Findings, left: FilesLeft<'_>) -> Result<(), AllocError> {
         for file in self.left.iter() {
             findings.compare_files(file.name, Some(file.text), left.files.file(file.name))?;
         }
@@ -156,7 +156,7 @@ impl<'a> Session<'a> {
     }
 }
 
-impl Job for Session<'_> {
+impl CaseRunner for Session<'_> {
     fn files(&self) -> &[NamedText<'_>] {
         &self.files
     }
@@ -166,11 +166,11 @@ impl Job for Session<'_> {
         text: T,
         piece: usize,
         host: &mut H,
-    ) -> Result<Ran, CaseFault> {
+    ) -> Result<CaseRun, CaseFault> {
         let mut machine = Machine::new(self.alloc, text);
         let mut typed = Vec::new(self.alloc);
         let coded = self.coded(&mut machine, piece, host, &mut typed)?;
-        Ok(Ran {
+        Ok(CaseRun {
             typed,
             status: u64::from(coded || machine.has_output()),
             steps: 0,
@@ -182,8 +182,8 @@ impl Job for Session<'_> {
     fn compare(
         &self,
         findings: &mut Findings,
-        ran: &Ran,
-        left: Left<'_>,
+        ran: &CaseRun,
+        left: FilesLeft<'_>,
     ) -> Result<(), AllocError> {
         self.typed.compare(self.alloc, findings, &ran.typed)?;
         findings.compare_numbers("status", self.status, ran.status)?;
@@ -193,7 +193,7 @@ impl Job for Session<'_> {
 }
 
 // The files that a case is to leave: those that it tells, and those that it keeps as they were.
-fn left_of<'a>(alloc: Global, case: &'a Case<'_>) -> Result<Vec<NamedText<'a>>, CaseFault> {
+fn left_of<'a>(alloc: Global, case: &'a NamedCase<'_>) -> Result<Vec<NamedText<'a>>, CaseFault> {
     let mut left = case.named_texts(alloc, "left")?;
     for kept in case.named_texts(alloc, "kept")? {
         let name = kept.name;
@@ -206,7 +206,7 @@ fn left_of<'a>(alloc: Global, case: &'a Case<'_>) -> Result<Vec<NamedText<'a>>, 
 }
 
 // Is a case about what only the files of the system do?
-fn is_of_folder(case: &Case<'_>) -> Result<bool, CaseFault> {
+fn is_of_folder(case: &NamedCase<'_>) -> Result<bool, CaseFault> {
     match case.word_if_any("over")? {
         None => Ok(false),
         Some("folder") => Ok(true),
@@ -217,7 +217,7 @@ fn is_of_folder(case: &Case<'_>) -> Result<bool, CaseFault> {
 /// Runs a case over files in memory and, where it has files, over files of the system.
 pub fn run_session(
     rt: &HostRuntime,
-    case: &Case<'_>,
+    case: &NamedCase<'_>,
     extent: Extent,
 ) -> Result<Findings, CaseFault> {
     case.check(KEYS)?;

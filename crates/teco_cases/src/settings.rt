@@ -22,7 +22,7 @@ impl fmt::Display for Store {
 
 /// Where files are.
 #[derive(Clone, Copy)]
-pub enum Place {
+pub enum FilePlace {
     /// In memory.
     Memory,
     /// In memory, with so many bytes a call at most.
@@ -31,43 +31,43 @@ pub enum Place {
     Folder,
 }
 
-impl fmt::Display for Place {
+impl fmt::Display for FilePlace {
     fn fmt<W: fmt::Write>(&self, f: &mut fmt::Formatter<W>) -> fmt::Result {
         match self {
-            Place::Memory => write!(f, "files in memory"),
-            Place::Pieces(piece) => write!(f, "files in memory, {piece} bytes a call"),
-            Place::Folder => write!(f, "files of the system"),
+            FilePlace::Memory => write!(f, "files in memory"),
+            FilePlace::Pieces(piece) => write!(f, "files in memory, {piece} bytes a call"),
+            FilePlace::Folder => write!(f, "files of the system"),
         }
     }
 }
 
 /// What a case is run over.
 #[derive(Clone, Copy)]
-pub struct Setting(pub Store, pub Place);
+pub struct CaseSetting(pub Store, pub FilePlace);
 
-impl fmt::Display for Setting {
+impl fmt::Display for CaseSetting {
     fn fmt<W: fmt::Write>(&self, f: &mut fmt::Formatter<W>) -> fmt::Result {
-        let Setting(store, place) = self;
+        let CaseSetting(store, place) = self;
         write!(f, "{store}, {place}")
     }
 }
 
 /// Over files in memory: each store with each host.
-pub const IN_MEMORY: &[Setting] = &[
-    Setting(Store::Vector, Place::Memory),
-    Setting(Store::Vector, Place::Pieces(1)),
-    Setting(Store::Vector, Place::Pieces(2)),
-    Setting(Store::Vector, Place::Pieces(4096)),
-    Setting(Store::Gap, Place::Memory),
-    Setting(Store::Gap, Place::Pieces(1)),
-    Setting(Store::Gap, Place::Pieces(2)),
-    Setting(Store::Gap, Place::Pieces(4096)),
+pub const IN_MEMORY: &[CaseSetting] = &[
+    CaseSetting(Store::Vector, FilePlace::Memory),
+    CaseSetting(Store::Vector, FilePlace::Pieces(1)),
+    CaseSetting(Store::Vector, FilePlace::Pieces(2)),
+    CaseSetting(Store::Vector, FilePlace::Pieces(4096)),
+    CaseSetting(Store::Gap, FilePlace::Memory),
+    CaseSetting(Store::Gap, FilePlace::Pieces(1)),
+    CaseSetting(Store::Gap, FilePlace::Pieces(2)),
+    CaseSetting(Store::Gap, FilePlace::Pieces(4096)),
 ];
 
 /// Over files of the system: each store.
-pub const IN_FOLDER: &[Setting] = &[
-    Setting(Store::Vector, Place::Folder),
-    Setting(Store::Gap, Place::Folder),
+pub const IN_FOLDER: &[CaseSetting] = &[
+    CaseSetting(Store::Vector, FilePlace::Folder),
+    CaseSetting(Store::Gap, FilePlace::Folder),
 ];
 
 /// Over how much sessions are run.
@@ -81,18 +81,18 @@ pub enum Extent {
 
 impl Extent {
     /// The settings with files in memory.
-    pub fn in_memory(self) -> &'static [Setting] {
+    pub fn in_memory(self) -> &'static [CaseSetting] {
         match self {
             Extent::Whole => IN_MEMORY,
-            Extent::Quick => &[Setting(Store::Gap, Place::Memory)],
+            Extent::Quick => &[CaseSetting(Store::Gap, FilePlace::Memory)],
         }
     }
 
     /// The settings with files of the system.
-    pub fn in_folder(self) -> &'static [Setting] {
+    pub fn in_folder(self) -> &'static [CaseSetting] {
         match self {
             Extent::Whole => IN_FOLDER,
-            Extent::Quick => &[Setting(Store::Gap, Place::Folder)],
+            Extent::Quick => &[CaseSetting(Store::Gap, FilePlace::Folder)],
         }
     }
 }

@@ -5,15 +5,15 @@ use teco_base::bytes::ESC;
 
 /// A line of a file, or a part of it, with the line's number.
 #[derive(Clone, Copy)]
-pub struct Line<'a> {
+pub struct FileLine<'a> {
     pub number: usize,
     pub text: &'a str,
 }
 
-impl<'a> Line<'a> {
+impl<'a> FileLine<'a> {
     /// A part of this line.
-    pub fn part(self, text: &'a str) -> Line<'a> {
-        Line {
+    pub fn part(self, text: &'a str) -> FileLine<'a> {
+        FileLine {
             number: self.number,
             text,
         }
@@ -45,13 +45,13 @@ impl<'a> Line<'a> {
     pub fn bytes(self, alloc: Global) -> Result<Vec<u8>, CaseFault> {
         let mut bytes = Vec::new(alloc);
         match self.append_to(&mut bytes)? {
-            Ending::Plain => Ok(bytes),
-            Ending::Backslash => Err(self.fault(Mistake::Escape)),
+            LineEnding::Plain => Ok(bytes),
+            LineEnding::Backslash => Err(self.fault(Mistake::Escape)),
         }
     }
 
     /// Appends the bytes that this spells, and says how it ends.
-    pub fn append_to(self, bytes: &mut Vec<u8>) -> Result<Ending, CaseFault> {
+    pub fn append_to(self, bytes: &mut Vec<u8>) -> Result<LineEnding, CaseFault> {
         let mut within = Within::Plain;
         for byte in self.text.bytes() {
             within = match within.after(byte, bytes)? {
@@ -60,8 +60,8 @@ impl<'a> Line<'a> {
             };
         }
         match within {
-            Within::Plain => Ok(Ending::Plain),
-            Within::Escape => Ok(Ending::Backslash),
+            Within::Plain => Ok(LineEnding::Plain),
+            Within::Escape => Ok(LineEnding::Backslash),
             Within::Code | Within::HalfCode(_) => Err(self.fault(Mistake::Escape)),
         }
     }
@@ -79,7 +79,7 @@ fn has_control(line: &str) -> bool {
 
 /// How a line ends.
 #[derive(Clone, Copy)]
-pub enum Ending {
+pub enum LineEnding {
     /// As any line.
     Plain,
     /// By a backslash, which takes the line end away.

@@ -1,5 +1,5 @@
 //! The macro that a case is about.
-use crate::case_file::Case;
+use crate::case_file::NamedCase;
 use crate::fault::CaseFault;
 use std::alloc::Global;
 use teco_base::{LIMIT, Reg};
@@ -14,19 +14,19 @@ pub const METHODS: &[(&str, Method)] = &[
 
 /// A macro of a library, and how it is verified.
 #[derive(Clone, Copy)]
-pub struct Subject {
+pub struct MacroSubject {
     pub entry: Reg,
     pub method: Method,
 }
 
-impl Subject {
+impl MacroSubject {
     /// The macro of a case. It is verified by the first edition where the case names none.
-    pub fn of(case: &Case<'_>) -> Result<Subject, CaseFault> {
+    pub fn of(case: &NamedCase<'_>) -> Result<MacroSubject, CaseFault> {
         let entry = match case.text("entry")? {
             [name] => Reg::of(*name),
             _ => None,
         };
-        Ok(Subject {
+        Ok(MacroSubject {
             entry: entry.ok_or(case.wrong("entry"))?,
             method: method_of(case)?,
         })
@@ -34,7 +34,7 @@ impl Subject {
 }
 
 /// The library of a case.
-pub fn library_of(alloc: Global, case: &Case<'_>) -> Result<Library, CaseFault> {
+pub fn library_of(alloc: Global, case: &NamedCase<'_>) -> Result<Library, CaseFault> {
     let text = case.text("library")?;
     if text.len() > LIMIT {
         return Err(case.wrong("library"));
@@ -47,7 +47,7 @@ pub fn library_of(alloc: Global, case: &Case<'_>) -> Result<Library, CaseFault> 
 }
 
 // The way of verifying that a case names by its edition of the rules.
-fn method_of(case: &Case<'_>) -> Result<Method, CaseFault> {
+fn method_of(case: &NamedCase<'_>) -> Result<Method, CaseFault> {
     let name = case.word_if_any("rules")?.unwrap_or("1");
     for (edition, method) in METHODS.iter() {
         if *edition == name {

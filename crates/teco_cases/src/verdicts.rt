@@ -1,8 +1,8 @@
 //! Cases of verdicts: what `teco verify` and `teco check` print.
-use crate::case_file::{Case, Keys};
+use crate::case_file::{CaseKeys, NamedCase};
 use crate::fault::CaseFault;
 use crate::findings::Findings;
-use crate::subject::{Subject, library_of};
+use crate::subject::{MacroSubject, library_of};
 use std::fs;
 use teco_console::{AnswerFault, Console, Escape, Method, Origin, Outcome, Request};
 use teco_library::Library;
@@ -27,7 +27,7 @@ const CERTIFICATE_FILE: &str = "certificate.work";
 
 // What was printed, and the exit status.
 #[derive(Drop)]
-struct Printed {
+struct ProgramOutput {
     output: Vec<u8>,
     status: u64,
 }
@@ -42,9 +42,9 @@ fn console(rt: &HostRuntime) -> Console<Vec<u8>, Vec<u8>> {
 fn printed_by(
     console: Console<Vec<u8>, Vec<u8>>,
     outcome: Result<Outcome, AnswerFault>,
-) -> Result<Printed, CaseFault> {
+) -> Result<ProgramOutput, CaseFault> {
     let (output, _messages) = console.into_parts();
-    Ok(Printed {
+    Ok(ProgramOutput {
         output,
         status: u64::from(outcome?.status()),
     })
@@ -60,8 +60,8 @@ fn request(method: Method) -> Request<'static> {
 }
 
 // What `verify` prints of the macro of a case.
-fn verified(rt: &HostRuntime, case: &Case<'_>) -> Result<Printed, CaseFault> {
-    let Subject { entry, method } = Subject::of(case)?;
+fn verified(rt: &HostRuntime, case: &NamedCase<'_>) -> Result<ProgramOutput, CaseFault> {
+    let MacroSubject { entry, method } = MacroSubject::of(case)?;
     let mut console = console(rt);
     fs::write(rt, LIBRARY_FILE, case.text("library")?)?;
     let outcome = verify_macro(rt, &mut console, request(method), entry);
@@ -70,8 +70,12 @@ fn verified(rt: &HostRuntime, case: &Case<'_>) -> Result<Printed, CaseFault> {
 }
 
 // What `check` prints of it with this certificate.
-fn checked(rt: &HostRuntime, case: &Case<'_>, certificate: &[u8]) -> Result<Printed, CaseFault> {
-    let Subject { entry, method } = Subject::of(case)?;
+fn checked(
+    rt: &HostRuntime,
+    case: &NamedCase<'_>,
+    certificate: &[u8],
+) -> Result<ProgramOutput, CaseFault> {
+    let MacroSubject { entry, method } = MacroSubject::of(case)?;
     let mut console = console(rt);
     fs::write(rt, LIBRARY_FILE, case.text("library")?)?;
     fs::write(rt, CERTIFICATE_FILE, certificate)?;
@@ -82,7 +86,11 @@ fn checked(rt: &HostRuntime, case: &Case<'_>, certificate: &[u8]) -> Result<Prin
 }
 
 // Compares what a case says with what was printed.
-fn compare(findings: &mut Findings, case: &Case<'_>, printed: &Printed) -> Result<(), CaseFault> {
+fn compare(
+    findings: &mut Findings,
+    case: &NamedCase<'_>,
+    printed: &ProgramOutput,
+) -> Result<(), CaseFault> {
     findings.compare("output", case.text("output")?, &printed.output)?;
     findings.compare_numbers("status", case.status()?, printed.status)?;
     Ok(())
@@ -92,10 +100,10 @@ fn compare(findings: &mut Findings, case: &Case<'_>, printed: &Printed) -> Resul
 pub fn accepted_by<'l>(
     rt: &HostRuntime,
     library: &'l Library,
-    subject: Subject,
+    subject: MacroSubject,
     certificate: &[u8],
 ) -> Result<Result<Accepted<'l>, Refusal>, CaseFault> {
-    let Subject { entry, method } = subject;
+    let MacroSubject { entry, method } = subject;
     fs::write(rt, CERTIFICATE_FILE, certificate)?;
     let claim = read_claim(rt, rt.alloc(), Some(CERTIFICATE_FILE));
     fs::remove_file(rt, CERTIFICATE_FILE)?;
@@ -106,12 +114,12 @@ pub fn accepted_by<'l>(
 fn compare_certificate(
     rt: &HostRuntime,
     findings: &mut Findings,
-    case: &Case<'_>,
+    case: &NamedCase<'_>,
     certificate: &[u8],
 ) -> Result<(), CaseFault> {
     let alloc = rt.alloc();
     let library = library_of(alloc, case)?;
-    match accepted_by(rt, &library, Subject::of(case)?, certificate)? {
+    match accepted_by(rt, &library, MacroSubject::of(case)?, certificate)? {
         Ok(accepted) => {
             findings.compare("certificate", certificate, &accepted.certificate(alloc)?)?;
             Ok(())
@@ -121,8 +129,8 @@ fn compare_certificate(
 }
 
 /// Verifies the macro of a case. The certificate of one that is accepted is checked then.
-pub fn run_verdict(rt: &HostRuntime, case: &Case<'_>) -> Result<Findings, CaseFault> {
-    case.check(Keys::of_texts(VERDICT_KEYS))?;
+pub fn run_verdict(rt: &HostRuntime, case: &NamedCase<'_>) -> Result<Findings, CaseFault> {
+    case.check(CaseKeys::of_texts(VERDICT_KEYS))?;
     let verdict = verified(rt, case)?;
     let mut findings = Findings::new(rt.alloc());
     compare(&mut findings, case, &verdict)?;
@@ -137,8 +145,8 @@ pub fn run_verdict(rt: &HostRuntime, case: &Case<'_>) -> Result<Findings, CaseFa
 }
 
 /// Checks the certificate of a case. One that is accepted must be the one that is printed of it.
-pub fn run_certificate(rt: &HostRuntime, case: &Case<'_>) -> Result<Findings, CaseFault> {
-    case.check(Keys::of_texts(CERTIFICATE_KEYS))?;
+pub fn run_certificate(rt: &HostRuntime, case: &NamedCase<'_>) -> Result<Findings, CaseFault> {
+    case.check(CaseKeys::of_texts(CERTIFICATE_KEYS))?;
     let certificate = case.text("certificate")?;
     let answer = checked(rt, case, certificate)?;
     let mut findings = Findings::new(rt.alloc());

@@ -1,5 +1,5 @@
-// What a text says if it is that of a certificate of the linear rules. Of another text what stands
-// before the claims may be anything, and who calls has to see whether it is this text.
+//! What a text says if it is that of a certificate of the linear rules. Of another text what stands
+//! before the claims may be anything, and who calls has to see whether it is this text.
 ghost use Rattle.std.specs.Prelude.{◌≡◌, IfOk};
 ghost use Rattle.teco_claimed.specs.Reads.{IsFrontOf, IsUnlessMemory, IsWellFormed};
 ghost use Rattle.teco_claimed.specs.Text.{linear_text};

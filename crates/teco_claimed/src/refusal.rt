@@ -8,7 +8,7 @@ use std::alloc::AllocError;
 use std::fmt;
 use teco_certificate::CertificateFault;
 use teco_expansion::{ExpandFault, Nodes, Reason, Refusal};
-use teco_infer::Refusal as Unfound;
+use teco_infer::SearchRefusal as Unfound;
 use teco_paths::fault::PathFault;
 use thiserror::Error;
 

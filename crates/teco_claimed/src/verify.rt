@@ -10,7 +10,9 @@ use std::alloc::Global;
 use teco_base::Reg;
 use teco_claims::{Claim, Claims, Measure, Single};
 use teco_expansion::{Nodes, expand};
-use teco_infer::{ATTEMPTS, Reason, Refusal as Unfound, infer_by, next_attempt, why_unfound};
+use teco_infer::{
+    ATTEMPTS, SearchRefusal as Unfound, Shortfall, infer_by, next_attempt, why_unfound,
+};
 use teco_library::Library;
 use teco_model::kind::{Page, Search};
 use teco_model::{Kind, Needs};
@@ -222,7 +224,7 @@ pub fn verify_linear<'l>(
 pub struct Unshown {
     /// Where the element stands at which that is told.
     pub at: NodePlace,
-    pub reason: Reason,
+    pub reason: Shortfall,
     /// Where the elements of each of its ways stand.
     pub ways: Vec<Vec<NodePlace>>,
 }

@@ -21,7 +21,7 @@ fn delimiter_for(bytes: &[u8]) -> Option<u8>
 
 /// A text that bytes say, for a register.
 #[derive(Drop)]
-pub struct Given<'a> {
+pub struct GivenText<'a> {
     pub register: Reg,
     /// What messages call it by.
     pub name: &'a str,
@@ -30,7 +30,7 @@ pub struct Given<'a> {
 }
 
 /// A source with a text more for a register, behind all that it says.
-pub fn with_text(alloc: Global, source: Source, given: Given<'_>) -> Result<Source, AnswerFault>
+pub fn with_text(alloc: Global, source: Source, given: GivenText<'_>) -> Result<Source, AnswerFault>
     ensures { IfOk result (λ text.
         IsGivenBehind source given.entry.register given.entry.form given.entry.bytes.items text) }
 {

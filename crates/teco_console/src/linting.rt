@@ -19,7 +19,7 @@ const SHOWN: usize = 24;
 
 // A search that may not do what was meant: where it stands, and its text.
 #[derive(Clone, Copy)]
-struct Finding<'a> {
+struct SearchDoubt<'a> {
     register: Option<Reg>,
     place: usize,
     text: &'a [u8],
@@ -41,7 +41,7 @@ impl fmt::Display for Short<'_> {
 
 /// What was said of the searches of a library, and how many lines may still be said.
 #[derive(Drop)]
-pub struct Findings<'a> {
+pub struct SearchDoubts<'a> {
     alloc: Global,
     source: &'a Source,
     // are searches exact as a macro begins?
@@ -51,10 +51,10 @@ pub struct Findings<'a> {
     left: usize,
 }
 
-impl<'a> Findings<'a> {
+impl<'a> SearchDoubts<'a> {
     /// Nothing is said yet of a library, whose macros begin with exact searches or with others.
-    pub fn new(alloc: Global, source: &'a Source, is_exact: bool) -> Findings<'a> {
-        Findings {
+    pub fn new(alloc: Global, source: &'a Source, is_exact: bool) -> SearchDoubts<'a> {
+        SearchDoubts {
             alloc,
             source,
             is_exact,
@@ -67,7 +67,7 @@ impl<'a> Findings<'a> {
     fn say<E: Write + Drop, D: fmt::Display + Drop>(
         &mut self,
         voice: &mut Voice<E>,
-        finding: &Finding<'_>,
+        finding: &SearchDoubt<'_>,
         what: D,
     ) {
         if self.left == 0 {
@@ -82,7 +82,7 @@ impl<'a> Findings<'a> {
     }
 
     // Says that letters of a search match either case.
-    fn tell_case<E: Write + Drop>(&mut self, voice: &mut Voice<E>, finding: &Finding<'_>) {
+    fn tell_case<E: Write + Drop>(&mut self, voice: &mut Voice<E>, finding: &SearchDoubt<'_>) {
         let text = Short(finding.text);
         self.say(
             voice,
@@ -95,7 +95,7 @@ impl<'a> Findings<'a> {
     fn tell_caret<E: Write + Drop>(
         &mut self,
         voice: &mut Voice<E>,
-        finding: &Finding<'_>,
+        finding: &SearchDoubt<'_>,
         letter: u8,
     ) {
         let byte = control(letter).unwrap_or(0);
@@ -108,7 +108,7 @@ impl<'a> Findings<'a> {
     }
 
     // Says what a search may do that was not meant.
-    fn tell_finding<E: Write + Drop>(&mut self, voice: &mut Voice<E>, finding: &Finding<'_>) {
+    fn tell_finding<E: Write + Drop>(&mut self, voice: &mut Voice<E>, finding: &SearchDoubt<'_>) {
         if finding.slips.ignores_case {
             self.tell_case(voice, finding);
         }
@@ -136,7 +136,7 @@ impl<'a> Findings<'a> {
             if slips == Slips::default() || self.left == 0 || !self.is_new(register, place) {
                 continue;
             }
-            let finding = Finding {
+            let finding = SearchDoubt {
                 register: NAMES.get(register).and_then(|name| Reg::of(*name)),
                 place,
                 text: found.text,
@@ -165,6 +165,6 @@ pub fn lint<O: Write + Drop, E: Write + Drop>(
     entry: Reg,
     is_exact: bool,
 ) {
-    let mut findings = Findings::new(console.alloc, &sourced.source, is_exact);
+    let mut findings = SearchDoubts::new(console.alloc, &sourced.source, is_exact);
     findings.tell(&mut console.voice, &sourced.library, entry);
 }

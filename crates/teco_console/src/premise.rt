@@ -139,9 +139,9 @@ impl fmt::Display for Grouped {
 
 /// A number that may not be known.
 #[derive(Clone, Copy)]
-pub struct Known(pub Option<u64>);
+pub struct KnownNumber(pub Option<u64>);
 
-impl fmt::Display for Known {
+impl fmt::Display for KnownNumber {
     fn fmt<W: fmt::Write>(&self, f: &mut fmt::Formatter<W>) -> fmt::Result {
         match self.0 {
             None => write!(f, "unknown"),

@@ -7,7 +7,7 @@ ghost use Rattle.teco_source.specs.Source.{said};
 use crate::fault::AnswerFault;
 use crate::files::{Shelf, read_file};
 use crate::forms::{Escape, form_of, form_of_word, is_readable};
-use crate::given::{Given, with_text};
+use crate::given::{GivenText, with_text};
 use crate::request::Request;
 use crate::setting::Setting;
 use std::alloc::{AllocError, Global};
@@ -48,7 +48,7 @@ fn macro_source(
 ) -> Result<Source, AnswerFault>
     ensures { IfOk result (λ text. IsGivenBehind source 0 form bytes.items text) }
 {
-    let given = Given {
+    let given = GivenText {
         register: Reg::default(),
         name,
         bytes,
@@ -141,20 +141,20 @@ fn with_words(
 
 /// What a library is read from, with what its file has.
 #[derive(Drop)]
-pub struct Written<'a> {
+pub struct ReadLibrary<'a> {
     /// What was asked for.
     pub request: Request<'a>,
     /// What the file has, if there is one.
     pub bytes: Option<Vec<u8>>,
 }
 
-impl<'a> Written<'a> {
+impl<'a> ReadLibrary<'a> {
     /// Reads the file of a library, if it has one.
     pub fn read<R: Shelf>(
         rt: &R,
         alloc: Global,
         request: Request<'a>,
-    ) -> Result<Written<'a>, AnswerFault>
+    ) -> Result<ReadLibrary<'a>, AnswerFault>
         ensures request { IfOk result (λ written. written.request ≡ request.entry) }
         ensures bytes { IfOk result (λ written.
             IsFileRead (R.holds rt.now) request.entry.library.file written.bytes) }
@@ -163,7 +163,7 @@ impl<'a> Written<'a> {
             Some(name) => Some(read_file(rt, alloc, name)?),
             None => None,
         };
-        Ok(Written { request, bytes })
+        Ok(ReadLibrary { request, bytes })
     }
 
     // What the file says, if there is one.
@@ -207,8 +207,8 @@ fn is_same(one: &Setting, other: &Setting) -> bool {
 }
 
 // The text of a register, as a part of a source.
-fn given_of<'a>(alloc: Global, setting: &Setting) -> Result<Given<'a>, AllocError> {
-    Ok(Given {
+fn given_of<'a>(alloc: Global, setting: &Setting) -> Result<GivenText<'a>, AllocError> {
+    Ok(GivenText {
         register: setting.register(),
         name: "--set",
         bytes: setting.text().to_vec(alloc)?,
@@ -224,5 +224,5 @@ pub fn read_source<R: Shelf>(
 ) -> Result<Source, AnswerFault>
     ensures { IfOk result (IsReadFor (R.holds rt.now) request.entry) }
 {
-    Written::read(rt, alloc, request)?.source(alloc)
+    ReadLibrary::read(rt, alloc, request)?.source(alloc)
 }

@@ -4,13 +4,13 @@ use Rattle.std.proofs.Common.{get_or, Option, take-append-drop}
 use Rattle.std.proofs.lemmas.List.{take_all, take_more, drop_more}
 use Rattle.teco_applied.specs.declared.applying.Job.{Job}
 use Rattle.teco_edits.specs.Files.{BreaksOff, EditsEach, EditsNext, one_more}
-use Rattle.teco_edits.specs.declared.choosing.Chosen.{Chosen}
-use Rattle.teco_edits.specs.declared.editing.InPlace.{InPlace}
-use Rattle.teco_edits.specs.declared.editing.Tally.{Tally}
+use Rattle.teco_edits.specs.declared.choosing.ChosenFile.{ChosenFile}
+use Rattle.teco_edits.specs.declared.editing.InPlaceEdits.{InPlaceEdits}
+use Rattle.teco_edits.specs.declared.editing.EditTally.{EditTally}
 
 -- one file more
-pub each_more : (given : InPlace) (job : Job) (old mid new : Option (List ℕ)) (files : List Chosen) (i : ℕ)
-    (file : Chosen) (tally after : Tally) → i < length files → file ≡ get_or files i file
+pub each_more : (given : InPlaceEdits) (job : Job) (old mid new : Option (List ℕ)) (files : List ChosenFile) (i : ℕ)
+    (file : ChosenFile) (tally after : EditTally) → i < length files → file ≡ get_or files i file
     → EditsEach given job old (take i files) mid tally → EditsNext given job file mid new tally after
     → EditsEach given job old (take (i + 1) files) new after
 each_more given job old mid new files i file tally after within is edited next =
@@ -20,14 +20,15 @@ each_more given job old mid new files i file tally after within is edited next =
     (one_more (take i files) mid tally file new after edited next)
 
 -- all of them
-pub each_all : (given : InPlace) (job : Job) (old new : Option (List ℕ)) (files : List Chosen) (i : ℕ) (tally : Tally)
-    → length files ≤ i → EditsEach given job old (take i files) new tally → EditsEach given job old files new tally
+pub each_all : (given : InPlaceEdits) (job : Job) (old new : Option (List ℕ)) (files : List ChosenFile) (i : ℕ)
+    (tally : EditTally) → length files ≤ i → EditsEach given job old (take i files) new tally
+    → EditsEach given job old files new tally
 each_all given job old new files i tally beyond edited =
     subst (λ front. EditsEach given job old front new tally) (take_all i files beyond) edited
 
 -- a fault behind some
-pub each_breaks : (given : InPlace) (job : Job) (old mid : Option (List ℕ)) (files : List Chosen) (i : ℕ)
-    (file : Chosen) (tally : Tally) → i < length files → file ≡ get_or files i file
+pub each_breaks : (given : InPlaceEdits) (job : Job) (old mid : Option (List ℕ)) (files : List ChosenFile) (i : ℕ)
+    (file : ChosenFile) (tally : EditTally) → i < length files → file ≡ get_or files i file
     → EditsEach given job old (take i files) mid tally → BreaksOff given job files old
 each_breaks given job old mid files i file tally within is edited = record {
   front = take i files;

@@ -6,14 +6,14 @@ use Rattle.teco_applied.specs.Tasks.{IsAccepted, Prints}
 use Rattle.teco_applied.specs.declared.applying.Job.{Job}
 use Rattle.teco_applied.specs.declared.applying.Task.{Task}
 use Rattle.teco_edits.specs.Files.{EditsIfAny, EditsNone, EditsSubject}
-use Rattle.teco_edits.specs.declared.editing.InPlace.{InPlace}
+use Rattle.teco_edits.specs.declared.editing.InPlaceEdits.{InPlaceEdits}
 use Rattle.teco_library.specs.Library.{LibraryFile}
 use Rattle.teco_tools.specs.declared.fault.ToolFault.{ToolFault}
 use Rattle.teco_console.specs.declared.outcome.Outcome.{Outcome}
 use Rattle.teco_console.specs.declared.outcome.Outcome.TheVariants.{Refused}
 
 -- the edits of a job are those of its task
-pub subject_edits : (given : InPlace) (task : Task) (library : LibraryFile) (job : Job) (old new : Option (List ℕ))
+pub subject_edits : (given : InPlaceEdits) (task : Task) (library : LibraryFile) (job : Job) (old new : Option (List ℕ))
     (result : Result Outcome ToolFault) → job.task.now ≡ task → IsAccepted library task.entry job.accepted.now
     → EditsIfAny given job old new result → EditsSubject given task library old new result
 subject_edits given task library job old new result same accepted (inl none) = inl none

@@ -10,13 +10,13 @@ use Rattle.teco_applied.specs.declared.applying.Task.{Task}
 use Rattle.teco_apply.specs.declared.editing.TheConstants.{NAME}
 use Rattle.teco_base.specs.declared.bytes.TheConstants.{ESC, LF}
 use Rattle.teco_edits.specs.Typed.{are_named, named_lines, without_code}
-use Rattle.teco_edits.specs.declared.choosing.Chosen.{Chosen}
+use Rattle.teco_edits.specs.declared.choosing.ChosenFile.{ChosenFile}
 use Rattle.teco_edits.specs.declared.diff.Look.{Look}
 use Rattle.teco_edits.specs.declared.editing.Change.{Change}
 use Rattle.teco_edits.specs.declared.editing.Change.TheVariants.{Made, Listed, Checked}
-use Rattle.teco_edits.specs.declared.editing.Ended.{Ended}
-use Rattle.teco_edits.specs.declared.editing.InPlace.{InPlace}
-use Rattle.teco_edits.specs.declared.editing.Tally.{Tally}
+use Rattle.teco_edits.specs.declared.editing.EditEnd.{EditEnd}
+use Rattle.teco_edits.specs.declared.editing.InPlaceEdits.{InPlaceEdits}
+use Rattle.teco_edits.specs.declared.editing.EditTally.{EditTally}
 use Rattle.teco_library.specs.Library.{LibraryFile}
 use Rattle.teco_pages.specs.HostFiles.{Telling}
 use Rattle.teco_tools.specs.declared.fault.ToolFault.{ToolFault}
@@ -43,11 +43,11 @@ is_success Done = true
 is_success Coded = false
 is_success Refused = false
 
-abbrev pub is_done : Ended → Bool
+abbrev pub is_done : EditEnd → Bool
 is_done ended = is_success ended.outcome
 
 -- the file is changed, or would be
-abbrev pub is_change : Ended → Bool
+abbrev pub is_change : EditEnd → Bool
 is_change ended = is_done ended && ended.differs
 
 -- ---- counts
@@ -56,11 +56,11 @@ abbrev pub counted : ℕ → Bool → ℕ
 counted count true = min (count + 1) (2 ^ 64 - 1)
 counted count false = count
 
-abbrev pub no_tally : Tally
+abbrev pub no_tally : EditTally
 no_tally = record { files = 0; changed = 0; failed = 0; outcome = Done }
 
 -- One file more was edited: those that would change and those whose edit failed are counted.
-abbrev pub tally_with : Ended → Tally → Tally
+abbrev pub tally_with : EditEnd → EditTally → EditTally
 tally_with ended tally = record {
   files = counted tally.files true;
   changed = counted tally.changed (is_change ended);
@@ -69,7 +69,7 @@ tally_with ended tally = record {
 }
 
 -- Files that would change are a code where it is only checked whether there are any.
-abbrev pub outcome_of : Change → Tally → Outcome
+abbrev pub outcome_of : Change → EditTally → Outcome
 outcome_of Made tally = tally.outcome
 outcome_of Listed tally = tally.outcome
 outcome_of Checked tally = if nat_lt 0 tally.changed then worse tally.outcome Coded else tally.outcome
@@ -82,13 +82,13 @@ pub record IsFileName (name : List ℕ) : Type 0 where
   pub plain : ¬ Contains name ESC
 
 -- a file that may be left as it is: it was found in a folder or a list, and files with a NUL are not taken
-pub record MayBeLeft (given : InPlace) (file : Chosen) : Type 0 where
+pub record MayBeLeft (given : InPlaceEdits) (file : ChosenFile) : Type 0 where
   pub found : file.is_found ≡ true
   pub plain : given.takes_binary ≡ false
 
 -- ---- what is printed of a file
 -- what was typed over it, with its name before each line where names stand there
-abbrev pub shown_typed : InPlace → List ℕ → List ℕ → List ℕ
+abbrev pub shown_typed : InPlaceEdits → List ℕ → List ℕ → List ℕ
 shown_typed given name typed =
     if are_named given.naming (length given.files.now) then named_lines false name typed else typed
 
@@ -102,7 +102,7 @@ listed_by Made by_nul name = []
 listed_by Listed by_nul name = name ++ line_end by_nul ∷ []
 listed_by Checked by_nul name = name ++ line_end by_nul ∷ []
 
-abbrev pub listed : InPlace → List ℕ → List ℕ
+abbrev pub listed : InPlaceEdits → List ℕ → List ℕ
 listed given name = listed_by given.change given.ends_by_nul name
 
 -- That line; or what differs, where that is asked for: its text is not promised.
@@ -110,15 +110,15 @@ abbrev pub ShowsBy : Option Look → List ℕ → Option (List ℕ) → Option (
 ShowsBy None line old new = Appends old new line
 ShowsBy (Some look) line old new = Prints old new
 
-abbrev pub ShowsChange : InPlace → List ℕ → Option (List ℕ) → Option (List ℕ) → Type 0
+abbrev pub ShowsChange : InPlaceEdits → List ℕ → Option (List ℕ) → Option (List ℕ) → Type 0
 ShowsChange given name old new = ShowsBy given.diff (listed given name) old new
 
 -- of a file that would change alone
-abbrev pub ShowsIf : Bool → InPlace → List ℕ → Option (List ℕ) → Option (List ℕ) → Type 0
+abbrev pub ShowsIf : Bool → InPlaceEdits → List ℕ → Option (List ℕ) → Option (List ℕ) → Type 0
 ShowsIf true given name old new = ShowsChange given name old new
 ShowsIf false given name old new = new ≡ old
 
-abbrev pub ShowsEnded : InPlace → List ℕ → Ended → Option (List ℕ) → Option (List ℕ) → Type 0
+abbrev pub ShowsEnded : InPlaceEdits → List ℕ → EditEnd → Option (List ℕ) → Option (List ℕ) → Type 0
 ShowsEnded given name ended old new = ShowsIf (is_change ended) given name old new
 
 -- ---- the edit of a file
@@ -129,8 +129,8 @@ is_made Checked = false
 
 -- A host that had made no call edits the file, as its crate promises it; what was typed over it is written, without
 -- the line of a code.
-pub record EditsNamed (given : InPlace) (job : Job) (name : List ℕ) (replaces : Bool) (old new : Option (List ℕ))
-    (ended : Ended) : Type 0 where
+pub record EditsNamed (given : InPlaceEdits) (job : Job) (name : List ℕ) (replaces : Bool) (old new : Option (List ℕ))
+    (ended : EditEnd) : Type 0 where
   pub noted : Telling
   pub failures : ℕ
   pub typed : List ℕ
@@ -139,74 +139,76 @@ pub record EditsNamed (given : InPlace) (job : Job) (name : List ℕ) (replaces 
   pub written : Appends old new (shown_typed given name (without_code typed (is_coded ended.outcome)))
 
 -- and behind that what differs, or its name
-pub record EditsFile (given : InPlace) (job : Job) (name : List ℕ) (old new : Option (List ℕ)) (ended : Ended)
+pub record EditsFile (given : InPlaceEdits) (job : Job) (name : List ℕ) (old new : Option (List ℕ)) (ended : EditEnd)
     : Type 0 where
   pub mid : Option (List ℕ)
   pub edit : EditsNamed given job name (is_made given.change) old mid ended
   pub shown : ShowsEnded given name ended mid new
 
 -- a file that can't be edited by its name
-pub record CannotBeNamed (name : List ℕ) (old new : Option (List ℕ)) (ended : Ended) : Type 0 where
+pub record CannotBeNamed (name : List ℕ) (old new : Option (List ℕ)) (ended : EditEnd) : Type 0 where
   pub no_name : ¬ IsFileName name
   pub failed : ended ≡ record { outcome = Coded; differs = false }
   pub stays : new ≡ old
 
 -- Either is so of a file that is edited.
-abbrev pub EditsOne : InPlace → Job → List ℕ → Option (List ℕ) → Option (List ℕ) → Ended → Type 0
+abbrev pub EditsOne : InPlaceEdits → Job → List ℕ → Option (List ℕ) → Option (List ℕ) → EditEnd → Type 0
 EditsOne given job name old new ended =
     CannotBeNamed name old new ended ⊎ (IsFileName name × EditsFile given job name old new ended)
 
 -- ---- one after another
 -- a file is left as it is
-pub record LeavesFile (given : InPlace) (file : Chosen) (old new : Option (List ℕ)) (before after : Tally)
+pub record LeavesFile (given : InPlaceEdits) (file : ChosenFile) (old new : Option (List ℕ)) (before after : EditTally)
     : Type 0 where
   pub may_be : MayBeLeft given file
   pub stays : new ≡ old
   pub uncounted : after ≡ before
 
 -- it is edited, and counted
-pub record CountsFile (given : InPlace) (job : Job) (file : Chosen) (old new : Option (List ℕ))
-    (before after : Tally) : Type 0 where
-  pub ended : Ended
+pub record CountsFile (given : InPlaceEdits) (job : Job) (file : ChosenFile) (old new : Option (List ℕ))
+    (before after : EditTally) : Type 0 where
+  pub ended : EditEnd
   pub edit : EditsOne given job file.name.items old new ended
   pub counted : after ≡ tally_with ended before
 
-abbrev pub EditsNext : InPlace → Job → Chosen → Option (List ℕ) → Option (List ℕ) → Tally → Tally → Type 0
+abbrev pub EditsNext : InPlaceEdits → Job → ChosenFile → Option (List ℕ) → Option (List ℕ) → EditTally → EditTally
+    → Type 0
 EditsNext given job file old new before after =
     LeavesFile given file old new before after ⊎ CountsFile given job file old new before after
 
 -- Each file in turn was left or edited, and what was printed of each stands behind what was printed before.
-pub data EditsEach (given : InPlace) (job : Job) (old : Option (List ℕ)) : List Chosen → Option (List ℕ) → Tally
-    → Type 0 where
+pub data EditsEach (given : InPlaceEdits) (job : Job) (old : Option (List ℕ)) : List ChosenFile → Option (List ℕ)
+    → EditTally → Type 0 where
   none : EditsEach given job old [] old no_tally
   one_more :
-      (files : List Chosen) (mid : Option (List ℕ)) (tally : Tally) (file : Chosen) (new : Option (List ℕ))
-      (after : Tally) →
+      (files : List ChosenFile) (mid : Option (List ℕ)) (tally : EditTally) (file : ChosenFile) (new : Option (List ℕ))
+      (after : EditTally) →
       EditsEach given job old files mid tally → EditsNext given job file mid new tally after →
       EditsEach given job old (files ++ file ∷ []) new after
 
 -- Some were, and a fault came behind them.
-pub record BreaksOff (given : InPlace) (job : Job) (files : List Chosen) (old : Option (List ℕ)) : Type 0 where
-  pub front : List Chosen
-  pub file : Chosen
-  pub behind : List Chosen
+pub record BreaksOff (given : InPlaceEdits) (job : Job) (files : List ChosenFile) (old : Option (List ℕ)) : Type 0 where
+  pub front : List ChosenFile
+  pub file : ChosenFile
+  pub behind : List ChosenFile
   pub whole : files ≡ front ++ file ∷ behind
   pub mid : Option (List ℕ)
-  pub tally : Tally
+  pub tally : EditTally
   pub edited : EditsEach given job old front mid tally
 
 -- all files
-abbrev pub EditsAll : InPlace → Job → List Chosen → Option (List ℕ) → Option (List ℕ) → Result Tally ToolFault → Type 0
+abbrev pub EditsAll : InPlaceEdits → Job → List ChosenFile → Option (List ℕ) → Option (List ℕ)
+    → Result EditTally ToolFault → Type 0
 EditsAll given job files old new (Ok tally) = EditsEach given job old files new tally
 EditsAll given job files old new (Err fault) = BreaksOff given job files old
 
 -- and what is answered of them
-pub record AnswersAll (given : InPlace) (job : Job) (old new : Option (List ℕ)) (outcome : Outcome) : Type 0 where
-  pub tally : Tally
+pub record AnswersAll (given : InPlaceEdits) (job : Job) (old new : Option (List ℕ)) (outcome : Outcome) : Type 0 where
+  pub tally : EditTally
   pub edited : EditsEach given job old given.files.now new tally
   pub answered : outcome ≡ outcome_of given.change tally
 
-abbrev pub EditsFiles : InPlace → Job → Option (List ℕ) → Option (List ℕ) → Result Outcome ToolFault → Type 0
+abbrev pub EditsFiles : InPlaceEdits → Job → Option (List ℕ) → Option (List ℕ) → Result Outcome ToolFault → Type 0
 EditsFiles given job old new (Ok outcome) = AnswersAll given job old new outcome
 EditsFiles given job old new (Err fault) = BreaksOff given job given.files.now old
 
@@ -218,24 +220,24 @@ EditsNone old new (Ok Coded) = ⊥
 EditsNone old new (Ok Refused) = Prints old new
 EditsNone old new (Err fault) = ⊤
 
-abbrev pub EditsIfAny : InPlace → Job → Option (List ℕ) → Option (List ℕ) → Result Outcome ToolFault → Type 0
+abbrev pub EditsIfAny : InPlaceEdits → Job → Option (List ℕ) → Option (List ℕ) → Result Outcome ToolFault → Type 0
 EditsIfAny given job old new result = EditsNone old new result ⊎ EditsFiles given job old new result
 
 -- a job of a task, by a macro that is accepted
-pub record EditsAccepted (given : InPlace) (task : Task) (library : LibraryFile) (old new : Option (List ℕ))
+pub record EditsAccepted (given : InPlaceEdits) (task : Task) (library : LibraryFile) (old new : Option (List ℕ))
     (result : Result Outcome ToolFault) : Type 0 where
   pub job : Job
   pub of_task : job.task.now ≡ task
   pub accepted : IsAccepted library task.entry job.accepted.now
   pub edits : EditsFiles given job old new result
 
-abbrev pub EditsSubject : InPlace → Task → LibraryFile → Option (List ℕ) → Option (List ℕ)
+abbrev pub EditsSubject : InPlaceEdits → Task → LibraryFile → Option (List ℕ) → Option (List ℕ)
     → Result Outcome ToolFault → Type 0
 EditsSubject given task library old new result =
     EditsNone old new result ⊎ EditsAccepted given task library old new result
 
 -- by a macro of the library that is read, if one is
-abbrev pub EditsTask : InPlace → Task → Option (List ℕ) → Option (List ℕ) → Result Outcome ToolFault → Type 0
+abbrev pub EditsTask : InPlaceEdits → Task → Option (List ℕ) → Option (List ℕ) → Result Outcome ToolFault → Type 0
 EditsTask given task old new result =
     EditsNone old new result
     ⊎ ((library : LibraryFile) × EditsAccepted given task library old new result)

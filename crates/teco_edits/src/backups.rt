@@ -1,5 +1,5 @@
 //! Which names the files that are edited are kept under.
-use crate::choosing::Chosen;
+use crate::choosing::ChosenFile;
 use std::alloc::{AllocError, Global};
 use std::collections::BTreeSet;
 use std::fs::Files;
@@ -29,7 +29,7 @@ fn own_path<R: Files>(rt: &R, alloc: Global, name: &[u8]) -> Result<Option<Strin
 fn own_paths<R: Files>(
     rt: &R,
     alloc: Global,
-    files: &[Chosen],
+    files: &[ChosenFile],
 ) -> Result<BTreeSet<String>, AllocError> {
     let mut paths = BTreeSet::new(alloc);
     for file in files {
@@ -45,7 +45,7 @@ fn own_paths<R: Files>(
 pub fn taken_backup<R: Files>(
     rt: &R,
     alloc: Global,
-    files: &[Chosen],
+    files: &[ChosenFile],
     suffix: &str,
 ) -> Result<Option<String>, AllocError> {
     let paths = own_paths(rt, alloc, files)?;

@@ -13,7 +13,7 @@ const ROOM: usize = 1 << 15;
 
 /// Which files are edited, as words say it.
 #[derive(Clone, Copy)]
-pub struct Choice<'a> {
+pub struct FileChoice<'a> {
     /// Files, and folders where these are looked through.
     pub names: &'a [&'a [u8]],
     /// A file with the names of others; `-` for standard input.
@@ -30,7 +30,7 @@ pub struct Choice<'a> {
 
 /// A file that is edited.
 #[derive(Drop)]
-pub struct Chosen {
+pub struct ChosenFile {
     pub name: Vec<u8>,
     /// Was it found in a folder or in a list, and not named by a word?
     pub is_found: bool,
@@ -51,7 +51,7 @@ fn is_of(patterns: &[&str], name: &[u8]) -> bool {
         .any(|pattern| matches(pattern.as_bytes(), name))
 }
 
-impl Choice<'_> {
+impl FileChoice<'_> {
     // Is a file of a folder taken?
     fn takes(&self, name: &[u8]) -> bool {
         let is_included = self.included.is_empty() || is_of(self.included, name);
@@ -65,13 +65,13 @@ struct Choosing<'r, 'v, 'c, 'n, R: Files, E: io::Write + Drop> {
     rt: &'r R,
     alloc: Global,
     voice: &'v mut Voice<E>,
-    choice: &'c Choice<'n>,
-    chosen: Vec<Chosen>,
+    choice: &'c FileChoice<'n>,
+    chosen: Vec<ChosenFile>,
 }
 
 // What a path leads to, as far as it matters.
 #[derive(Clone, Copy, PartialEq, Eq)]
-enum Kind {
+enum PathKind {
     Folder,
     File,
     Other,
@@ -107,21 +107,21 @@ impl<R: Files, E: io::Write + Drop> Choosing<'_, '_, '_, '_, R, E> {
     // One more file.
     fn push(&mut self, name: &[u8], is_found: bool) -> Result<(), AllocError> {
         let name = name.to_vec(self.alloc)?;
-        self.chosen.push(Chosen { name, is_found })?;
+        self.chosen.push(ChosenFile { name, is_found })?;
         Ok(())
     }
 
     // What a path leads to. Links that stand in folders are not followed.
-    fn kind_of(&self, path: &str, follows: bool) -> Kind {
+    fn kind_of(&self, path: &str, follows: bool) -> PathKind {
         let found = if follows {
             fs::metadata(self.rt, path)
         } else {
             fs::symlink_metadata(self.rt, path)
         };
         match found {
-            Ok(found) if found.is_dir() => Kind::Folder,
-            Ok(found) if found.is_file() => Kind::File,
-            _ => Kind::Other,
+            Ok(found) if found.is_dir() => PathKind::Folder,
+            Ok(found) if found.is_file() => PathKind::File,
+            _ => PathKind::Other,
         }
     }
 
@@ -170,8 +170,8 @@ impl<R: Files, E: io::Write + Drop> Choosing<'_, '_, '_, '_, R, E> {
         let slash = if folder.ends_with('/') { "" } else { "/" };
         let path = format!(in self.alloc; "{folder}{slash}{text}")?;
         match self.kind_of(&path, false) {
-            Kind::Folder => folders.push(path)?,
-            Kind::File if self.choice.takes(name) => self.push(path.as_bytes(), true)?,
+            PathKind::Folder => folders.push(path)?,
+            PathKind::File if self.choice.takes(name) => self.push(path.as_bytes(), true)?,
             _ => {}
         }
         Ok(())
@@ -193,9 +193,8 @@ impl<R: Files, E: io::Write + Drop> Choosing<'_, '_, '_, '_, R, E> {
     // Takes what a word names: a file, or a folder if these are looked through.
     fn take(&mut self, name: &[u8]) -> Result<(), AllocError> {
         match str::from_utf8(name) {
-            Ok(path) if self.choice.is_recursive && self.kind_of(path, true) == Kind::Folder => {
-                self.take_folder(path)
-            }
+            Ok(path) if self.choice.is_recursive && self.kind_of(path, true) == PathKind::Folder =>
+                { self.take_folder(path) }
             _ => self.push(name, false),
         }
     }
@@ -218,8 +217,8 @@ impl<R: Files, E: io::Write + Drop> Choosing<'_, '_, '_, '_, R, E> {
 pub fn choose<R: Files + Input, E: io::Write + Drop>(
     rt: &R,
     voice: &mut Voice<E>,
-    choice: &Choice<'_>,
-) -> Result<Vec<Chosen>, ToolFault> {
+    choice: &FileChoice<'_>,
+) -> Result<Vec<ChosenFile>, ToolFault> {
     let alloc = voice.alloc();
     let mut choosing = Choosing {
         rt,

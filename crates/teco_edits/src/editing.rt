@@ -11,11 +11,11 @@ ghost use Rattle.teco_pages.specs.HostFiles.{Notes};
 ghost use Rattle.teco_console.specs.declared.outcome.Outcome.TheVariants.{Refused};
 
 use crate::backups::taken_backup;
-use crate::choosing::Chosen;
+use crate::choosing::ChosenFile;
 use crate::diff::{Look, write_diff};
 use crate::folders::Folders;
-use crate::preview::{Texts, has_nul, new_text, read_whole};
-use crate::progress::{Place, Progress};
+use crate::preview::{TextChange, has_nul, new_text, read_whole};
+use crate::progress::{EditProgress, FilesDone};
 use crate::typed::{Naming, named_lines, without_code};
 use std::alloc::{AllocError, Global};
 use std::io::{Input, Write};
@@ -54,8 +54,8 @@ pub enum Change {
 
 /// Files that are edited in place, each by itself.
 #[derive(Clone, Copy)]
-pub struct InPlace<'a> {
-    pub files: &'a [Chosen],
+pub struct InPlaceEdits<'a> {
+    pub files: &'a [ChosenFile],
     pub change: Change,
     /// Are files of folders and lists edited that have a NUL near their beginning?
     pub takes_binary: bool,
@@ -73,7 +73,7 @@ pub struct InPlace<'a> {
 
 /// How many files were edited.
 #[derive(Clone, Copy)]
-struct Tally {
+struct EditTally {
     files: usize,
     changed: usize,
     failed: usize,
@@ -81,7 +81,7 @@ struct Tally {
 }
 
 /// None yet.
-const NONE: Tally = Tally {
+const NONE: EditTally = EditTally {
     files: 0,
     changed: 0,
     failed: 0,
@@ -110,12 +110,12 @@ fn worse(one: Outcome, other: Outcome) -> Outcome
     }
 }
 
-impl Tally {
+impl EditTally {
     // These files, and one more.
-    fn with(self, ended: Ended) -> Tally
+    fn with(self, ended: EditEnd) -> EditTally
         ensures { result ≡ tally_with ended self }
     {
-        Tally {
+        EditTally {
             files: counted(self.files, true),
             changed: counted(self.changed, ended.is_change()),
             failed: counted(self.failed, !ended.is_done()),
@@ -155,13 +155,13 @@ fn tell_name<E: Write + Drop>(voice: &mut Voice<E>, name: &[u8]) {
 
 // What came of the edit of a file.
 #[derive(Clone, Copy)]
-struct Ended {
+struct EditEnd {
     outcome: Outcome,
     // does its host say that its new text is another?
     differs: bool,
 }
 
-impl Ended {
+impl EditEnd {
     // Did all runs on the file come to their end?
     fn is_done(self) -> bool
         ensures { result ≡ is_done self }
@@ -178,13 +178,13 @@ impl Ended {
 }
 
 // A file that can't be edited.
-const FAILED: Ended = Ended {
+const FAILED: EditEnd = EditEnd {
     outcome: Outcome::Coded,
     differs: false,
 };
 
 // How a host treats files that are edited so.
-fn handling_of(given: &InPlace<'_>) -> Handling {
+fn handling_of(given: &InPlaceEdits<'_>) -> Handling {
     Handling {
         closing: match given.change {
             Change::Made => Closing::ReplacesOther,
@@ -220,7 +220,7 @@ fn of_memory(fault: ToolFault) -> ToolFault {
 struct Editing<'r, 'j, 'g, 'f, R: System + Copy> {
     rt: &'r R,
     job: Job<'j>,
-    given: &'g InPlace<'f>,
+    given: &'g InPlaceEdits<'f>,
     facts: ProcessFacts,
 }
 
@@ -264,7 +264,7 @@ impl<R: System + Copy> Editing<'_, '_, '_, '_, R> {
         folders: &mut Folders,
         name: &[u8],
         ending: K,
-    ) -> Result<Ended, ToolFault>
+    ) -> Result<EditEnd, ToolFault>
         requires { length name.now < NAME }
         ensures { IfOk result (EditsNamed self.entry.given.now self.entry.job name.now K.replaces
             (O.contents console.old.out) (O.contents console.new.out)) }
@@ -281,7 +281,7 @@ impl<R: System + Copy> Editing<'_, '_, '_, '_, R> {
         let typed = without_code(&typed, is_coded(outcome));
         self.write_typed(console.alloc, &mut console.out, name, typed)?;
         folders.note_changed(host.changed_folder())?;
-        Ok(Ended {
+        Ok(EditEnd {
             outcome,
             differs: matches!(host.closed(), Some(Closed::Changed)),
         })
@@ -293,7 +293,7 @@ impl<R: System + Copy> Editing<'_, '_, '_, '_, R> {
         console: &mut Console<O, E>,
         folders: &mut Folders,
         name: &[u8],
-    ) -> Result<Ended, ToolFault>
+    ) -> Result<EditEnd, ToolFault>
         requires { length name.now < NAME }
         ensures { IfOk result (EditsNamed self.entry.given.now self.entry.job name.now
             (is_made self.entry.given.now.change)
@@ -311,7 +311,7 @@ impl<R: System + Copy> Editing<'_, '_, '_, '_, R> {
         console: &mut Console<O, E>,
         folders: &mut Folders,
         name: &[u8],
-    ) -> Result<Ended, ToolFault>
+    ) -> Result<EditEnd, ToolFault>
         requires { length name.now < NAME }
         ensures { IfOk result (EditsFile self.entry.given.now self.entry.job name.now
             (O.contents console.old.out) (O.contents console.new.out)) }
@@ -331,7 +331,7 @@ impl<R: System + Copy> Editing<'_, '_, '_, '_, R> {
         console: &mut Console<O, E>,
         folders: &mut Folders,
         name: &[u8],
-    ) -> Result<Ended, ToolFault>
+    ) -> Result<EditEnd, ToolFault>
         ensures { IfOk result (EditsOne self.entry.given.now self.entry.job name.now
             (O.contents console.old.out) (O.contents console.new.out)) }
     {
@@ -346,21 +346,21 @@ impl<R: System + Copy> Editing<'_, '_, '_, '_, R> {
     }
 
     // The text of a file and what the macro makes of it, if it does. Nothing is said or typed.
-    fn texts(self, alloc: Global, name: &[u8]) -> Result<Option<Texts>, ToolFault>
+    fn texts(self, alloc: Global, name: &[u8]) -> Result<Option<TextChange>, ToolFault>
         requires { length name.now < NAME }
     {
         let Some(old) = read_whole(alloc, &mut self.host(alloc)?, name)? else {
             return Ok(None);
         };
         let new = new_text(alloc, self.host(alloc)?, self.job, name)?;
-        Ok(new.map(|new| Texts { old, new }))
+        Ok(new.map(|new| TextChange { old, new }))
     }
 
     // Is a file left as it is, since it is none that people read? That is said.
     fn is_left<E: Write + Drop>(
         self,
         voice: &mut Voice<E>,
-        file: &Chosen,
+        file: &ChosenFile,
     ) -> Result<bool, ToolFault>
         ensures { IfOk result (λ left. left ≡ true → MayBeLeft self.entry.given.now file.now) }
     {
@@ -398,13 +398,13 @@ impl<R: System + Copy> Editing<'_, '_, '_, '_, R> {
         alloc: Global,
         out: &mut O,
         name: &[u8],
-        texts: Option<&Texts>,
+        texts: Option<&TextChange>,
     ) -> Result<(), ToolFault>
         ensures { OnOk result (ShowsChange self.entry.given.now name.now
             (O.contents out.old) (O.contents out.new)) }
     {
         match (self.given.diff, texts) {
-            (Some(look), Some(Texts { old, new })) => {
+            (Some(look), Some(TextChange { old, new })) => {
                 let mut text = Vec::new(alloc);
                 write_diff(alloc, &mut text, look, name, (old, new))?;
                 out.write_all(&text)?;
@@ -419,8 +419,8 @@ impl<R: System + Copy> Editing<'_, '_, '_, '_, R> {
         self,
         console: &mut Console<O, E>,
         name: &[u8],
-        ended: Ended,
-        texts: Option<&Texts>,
+        ended: EditEnd,
+        texts: Option<&TextChange>,
     ) -> Result<(), ToolFault>
         ensures { OnOk result (ShowsEnded self.entry.given.now name.now ended
             (O.contents console.old.out) (O.contents console.new.out)) }
@@ -439,8 +439,8 @@ impl<R: System + Copy> Editing<'_, '_, '_, '_, R> {
     }
 
     // Says how many files were edited.
-    fn tell_tally<E: Write + Drop>(self, voice: &mut Voice<E>, tally: Tally) {
-        let Tally {
+    fn tell_tally<E: Write + Drop>(self, voice: &mut Voice<E>, tally: EditTally) {
+        let EditTally {
             files,
             changed,
             failed,
@@ -458,9 +458,9 @@ impl<R: System + Copy> Editing<'_, '_, '_, '_, R> {
         self,
         console: &mut Console<O, E>,
         folders: &mut Folders,
-        file: &Chosen,
-        tally: Tally,
-    ) -> Result<Tally, ToolFault>
+        file: &ChosenFile,
+        tally: EditTally,
+    ) -> Result<EditTally, ToolFault>
         ensures { IfOk result (EditsNext self.entry.given.now self.entry.job file.now
             (O.contents console.old.out) (O.contents console.new.out) tally) }
     {
@@ -476,16 +476,16 @@ impl<R: System + Copy> Editing<'_, '_, '_, '_, R> {
         self,
         console: &mut Console<O, E>,
         folders: &mut Folders,
-        files: &[Chosen],
-    ) -> Result<Tally, ToolFault>
+        files: &[ChosenFile],
+    ) -> Result<EditTally, ToolFault>
         ensures { EditsAll self.entry.given.now self.entry.job files.now
             (O.contents console.old.out) (O.contents console.new.out) result }
     {
         let mut tally = NONE;
-        let mut progress = Progress::begin(self.rt, self.given.shows_progress);
+        let mut progress = EditProgress::begin(self.rt, self.given.shows_progress);
         let of = files.len();
         for (done, file) in files.iter().enumerate() {
-            let place = Place {
+            let place = FilesDone {
                 done,
                 of,
                 name: &file.name,
@@ -548,7 +548,7 @@ fn edit_by_job<R, O, E>(
     rt: &R,
     console: &mut Console<O, E>,
     job: Job<'_>,
-    given: &InPlace<'_>,
+    given: &InPlaceEdits<'_>,
 ) -> Result<Outcome, ToolFault>
 where
     R: System + Copy,
@@ -574,7 +574,7 @@ fn edit_by_accepted<R, O, E>(
     rt: &R,
     console: &mut Console<O, E>,
     job: Job<'_>,
-    given: &InPlace<'_>,
+    given: &InPlaceEdits<'_>,
     sourced: &Sourced,
 ) -> Result<Outcome, ToolFault>
 where
@@ -602,7 +602,7 @@ fn edit_by_subject<R, O, E>(
     rt: &R,
     console: &mut Console<O, E>,
     task: &Task<'_, '_>,
-    given: &InPlace<'_>,
+    given: &InPlaceEdits<'_>,
     subject: &Subject<'_>,
 ) -> Result<Outcome, ToolFault>
 where
@@ -626,7 +626,11 @@ where
 }
 
 // Refuses to keep a file under the name of another that is edited.
-fn check_keeping<R: System>(rt: &R, alloc: Global, given: &InPlace<'_>) -> Result<(), ToolFault> {
+fn check_keeping<R: System>(
+    rt: &R,
+    alloc: Global,
+    given: &InPlaceEdits<'_>,
+) -> Result<(), ToolFault> {
     let Some(Keeping { suffix, .. }) = given.keeping else {
         return Ok(());
     };
@@ -652,7 +656,7 @@ pub fn edit_files<R, O, E>(
     rt: &R,
     console: &mut Console<O, E>,
     task: &Task<'_, '_>,
-    given: &InPlace<'_>,
+    given: &InPlaceEdits<'_>,
 ) -> Result<Outcome, ToolFault>
 where
     R: System + Input + Copy,

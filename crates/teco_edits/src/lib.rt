@@ -12,8 +12,8 @@ mod preview;
 mod progress;
 mod typed;
 
-pub use choosing::{Choice, Chosen, choose};
+pub use choosing::{ChosenFile, FileChoice, choose};
 pub use diff::{Look, changed_lines, write_diff};
-pub use editing::{Change, InPlace, Keeping, edit_files};
+pub use editing::{Change, InPlaceEdits, Keeping, edit_files};
 pub use pattern::matches;
 pub use typed::Naming;

@@ -1,7 +1,7 @@
 //! Patterns of names, as shells have them.
 
 // What comes of the first part of a pattern on a name.
-enum Step<'p, 'n> {
+enum PatternStep<'p, 'n> {
     /// It matches, and these parts of both come next.
     On(&'p [u8], &'n [u8]),
     /// It is a star, and this part of the pattern comes behind it.
@@ -10,12 +10,14 @@ enum Step<'p, 'n> {
 }
 
 // Matches the first part of a pattern.
-fn first_step<'p, 'n>(pattern: &'p [u8], name: &'n [u8]) -> Step<'p, 'n> {
+fn first_step<'p, 'n>(pattern: &'p [u8], name: &'n [u8]) -> PatternStep<'p, 'n> {
     match (pattern.split_first(), name.split_first()) {
-        (Some((b'*', behind)), _) => Step::Star(behind),
-        (Some((b'?', behind)), Some((_, rest))) => Step::On(behind, rest),
-        (Some((byte, behind)), Some((other, rest))) if *byte == *other => Step::On(behind, rest),
-        _ => Step::No,
+        (Some((b'*', behind)), _) => PatternStep::Star(behind),
+        (Some((b'?', behind)), Some((_, rest))) => PatternStep::On(behind, rest),
+        (Some((byte, behind)), Some((other, rest))) if *byte == *other => PatternStep::On(
+            behind, rest,
+        ),
+        _ => PatternStep::No,
     }
 }
 
@@ -34,12 +36,12 @@ pub fn matches(pattern: &[u8], name: &[u8]) -> bool {
             return true;
         }
         match first_step(pattern, name) {
-            Step::On(behind, rest) => (pattern, name) = (behind, rest),
-            Step::Star(behind) => {
+            PatternStep::On(behind, rest) => (pattern, name) = (behind, rest),
+            PatternStep::Star(behind) => {
                 retry = Some((behind, name));
                 pattern = behind;
             }
-            Step::No => match retry {
+            PatternStep::No => match retry {
                 Some((behind, [_, rest @ ..])) => {
                     retry = Some((behind, rest));
                     (pattern, name) = (behind, rest);

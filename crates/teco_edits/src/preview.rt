@@ -13,7 +13,7 @@ use teco_tools::{OUTPUT, Streams, ToolFault};
 
 /// The text of a file, and what a macro makes of it.
 #[derive(Drop)]
-pub struct Texts {
+pub struct TextChange {
     pub old: Vec<u8>,
     pub new: Vec<u8>,
 }

@@ -11,7 +11,7 @@ const NEXT: u64 = 200;
 
 /// The file at hand, and how many are done of how many.
 #[derive(Clone, Copy)]
-pub struct Place<'a> {
+pub struct FilesDone<'a> {
     pub done: usize,
     pub of: usize,
     pub name: &'a [u8],
@@ -19,18 +19,18 @@ pub struct Place<'a> {
 
 /// When it is shown next how far an edit has come; never where it isn't shown.
 #[derive(Clone, Copy)]
-pub struct Progress {
+pub struct EditProgress {
     next: Option<Duration>,
 }
 
-impl Progress {
+impl EditProgress {
     /// An edit begins.
-    pub fn begin<R: Clock>(rt: &R, is_shown: bool) -> Progress {
+    pub fn begin<R: Clock>(rt: &R, is_shown: bool) -> EditProgress {
         let next = match rt.monotonic() {
             Ok(now) if is_shown => now.checked_add(Duration::from_millis(FIRST)),
             _ => None,
         };
-        Progress { next }
+        EditProgress { next }
     }
 
     /// Shows how far it has come, if it is time to.
@@ -38,7 +38,7 @@ impl Progress {
         &mut self,
         rt: &R,
         voice: &mut Voice<E>,
-        place: Place<'_>,
+        place: FilesDone<'_>,
     ) {
         let (Some(next), Ok(now)) = (self.next, rt.monotonic()) else {
             return;
@@ -47,7 +47,7 @@ impl Progress {
             return;
         }
         self.next = now.checked_add(Duration::from_millis(NEXT));
-        let Place { done, of, name } = place;
+        let FilesDone { done, of, name } = place;
         let name = Shown(name);
         voice.note(format_args!("{done} of {of} files: {name}"));
     }

@@ -8,7 +8,7 @@ use teco_model::{Element, Kind};
 
 /// A comment that is an example, or is meant as one.
 #[derive(Drop)]
-pub struct Finding {
+pub struct FoundComment {
     /// The register of the macro that it is about.
     pub register: Reg,
     /// The place in the text of the library's source where it begins.
@@ -19,9 +19,9 @@ pub struct Finding {
 
 // The comments that were found, and how many of them stand before a macro that has not come yet.
 #[derive(Drop)]
-struct Findings {
+struct FoundComments {
     alloc: Global,
-    found: Vec<Finding>,
+    found: Vec<FoundComment>,
     waiting: usize,
 }
 
@@ -49,11 +49,11 @@ pub fn element_at(text: &[u8], place: usize) -> Option<Element<'_>> {
     }
 }
 
-impl Findings {
+impl FoundComments {
     // One more example, of a macro.
     fn push(&mut self, found: &Element<'_>, register: Reg, begin: usize) -> Result<(), AllocError> {
         let example = Example::read(self.alloc, found.text)?;
-        self.found.push(Finding {
+        self.found.push(FoundComment {
             register,
             place: begin.saturating_add(found.place),
             example,
@@ -102,8 +102,8 @@ impl Findings {
 
 /// The examples of a library, by its text: those before the text of a register and in it are about
 /// that register's macro.
-pub fn examples_of(alloc: Global, library: &[u8]) -> Result<Vec<Finding>, AllocError> {
-    let mut findings = Findings {
+pub fn examples_of(alloc: Global, library: &[u8]) -> Result<Vec<FoundComment>, AllocError> {
+    let mut findings = FoundComments {
         alloc,
         found: Vec::new(alloc),
         waiting: 0,

@@ -1,7 +1,7 @@
 //! Texts made of what a macro looks for, on which it may do what was not meant.
 use crate::example::Example;
 use crate::finding::element_at;
-use crate::running::{Came, Subject, run_on};
+use crate::running::{Came, TextRun, run_on};
 use memchr::memmem;
 use std::alloc::{AllocError, Global};
 use std::io::{Input, Write};
@@ -12,7 +12,7 @@ use teco_edits::changed_lines;
 use teco_library::Library;
 use teco_model::{Element, Kind};
 use teco_source::Shown;
-use teco_tools::{Case, ToolFault};
+use teco_tools::{LetterCase, ToolFault};
 use teco_verdicts::{read_library, refuse_macro, verified_by};
 
 /// How many pieces a text has at most.
@@ -23,7 +23,7 @@ const PIECES: usize = 5;
 
 // What the macros of a library look for.
 #[derive(Drop)]
-struct Wanted {
+struct SoughtTexts {
     texts: Vec<Vec<u8>>,
     // is there a search for more than a plain text?
     has_others: bool,
@@ -82,7 +82,7 @@ fn pieces_of(alloc: Global, texts: &[Vec<u8>]) -> Result<Vec<Vec<u8>>, AllocErro
     Ok(pieces)
 }
 
-impl Wanted {
+impl SoughtTexts {
     // A search text more.
     fn take_search(&mut self, alloc: Global, text: &[u8]) -> Result<(), AllocError> {
         if is_plain(text) {
@@ -114,8 +114,8 @@ impl Wanted {
     }
 
     // What the macros of a library look for.
-    fn of(alloc: Global, library: &Library) -> Result<Wanted, AllocError> {
-        let mut wanted = Wanted {
+    fn of(alloc: Global, library: &Library) -> Result<SoughtTexts, AllocError> {
+        let mut wanted = SoughtTexts {
             texts: Vec::new(alloc),
             has_others: false,
             pieces: Vec::new(alloc),
@@ -177,7 +177,7 @@ fn text_of(
 // What a macro makes of a text; nothing where it stops with a code.
 fn made_of(
     library: &Library,
-    subject: &Subject,
+    subject: &TextRun,
     text: &[u8],
 ) -> Result<Option<Vec<u8>>, ToolFault> {
     let before = text.to_vec(subject.alloc)?;
@@ -221,7 +221,7 @@ impl Doubts {
     fn look_at_lines(
         &mut self,
         alloc: Global,
-        wanted: &Wanted,
+        wanted: &SoughtTexts,
         text: &[u8],
         made: &[u8],
     ) -> Result<(), AllocError> {
@@ -247,7 +247,7 @@ impl Doubts {
     fn look_again(
         &mut self,
         library: &Library,
-        subject: &Subject,
+        subject: &TextRun,
         text: &[u8],
         first: Vec<u8>,
     ) -> Result<(), ToolFault> {
@@ -272,8 +272,8 @@ impl Doubts {
     fn try_text(
         &mut self,
         library: &Library,
-        subject: &Subject,
-        wanted: &Wanted,
+        subject: &TextRun,
+        wanted: &SoughtTexts,
         text: &[u8],
     ) -> Result<(), ToolFault> {
         let Some(first) = made_of(library, subject, text)? else {
@@ -287,8 +287,8 @@ impl Doubts {
     fn try_length(
         &mut self,
         library: &Library,
-        subject: &Subject,
-        wanted: &Wanted,
+        subject: &TextRun,
+        wanted: &SoughtTexts,
         length: u32,
     ) -> Result<(), ToolFault> {
         let count = wanted.pieces.len().checked_pow(length).unwrap_or(0);
@@ -300,8 +300,8 @@ impl Doubts {
     }
 
     // Runs the macro on all texts of few pieces.
-    fn of(library: &Library, subject: &Subject) -> Result<Doubts, ToolFault> {
-        let wanted = Wanted::of(subject.alloc, library)?;
+    fn of(library: &Library, subject: &TextRun) -> Result<Doubts, ToolFault> {
+        let wanted = SoughtTexts::of(subject.alloc, library)?;
         let mut doubts = Doubts {
             changes: None,
             repeats: None,
@@ -364,9 +364,9 @@ fn fuzz_accepted<O: Write + Drop, E: Write + Drop>(
     console: &mut Console<O, E>,
     sourced: &Sourced,
     entry: Reg,
-    case: Option<Case>,
+    case: Option<LetterCase>,
 ) -> Result<Outcome, ToolFault> {
-    let subject = Subject::of(console.alloc, sourced, entry, case);
+    let subject = TextRun::of(console.alloc, sourced, entry, case);
     let doubts = Doubts::of(&sourced.library, &subject)?;
     doubts.tell(console, char::from(entry.name()))?;
     Ok(Outcome::Done)
@@ -377,7 +377,7 @@ fn fuzz_library<O: Write + Drop, E: Write + Drop>(
     console: &mut Console<O, E>,
     sourced: &Sourced,
     entry: Reg,
-    case: Option<Case>,
+    case: Option<LetterCase>,
 ) -> Result<Outcome, ToolFault> {
     let alloc = console.alloc;
     let verdict = verified_by(alloc, &sourced.library, entry, sourced.method);
@@ -395,7 +395,7 @@ pub fn fuzz_macro<R: Files + Input, O: Write + Drop, E: Write + Drop>(
     console: &mut Console<O, E>,
     request: Request<'_>,
     entry: Reg,
-    case: Option<Case>,
+    case: Option<LetterCase>,
 ) -> Result<Outcome, ToolFault> {
     match read_library(rt, console, request)? {
         Some(sourced) => fuzz_library(console, &sourced, entry, case),

@@ -9,6 +9,6 @@ mod spelling;
 mod testing;
 
 pub use example::Example;
-pub use finding::{Finding, examples_of};
+pub use finding::{FoundComment, examples_of};
 pub use fuzzing::fuzz_macro;
 pub use testing::{Tests, test_examples};

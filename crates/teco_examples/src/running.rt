@@ -10,7 +10,7 @@ use teco_model::Needs;
 use teco_pages::MemHost;
 use teco_run::Machine;
 use teco_text::GapText;
-use teco_tools::{Case, Start, ToolFault, code_of, machine_with, prepare, within_limit};
+use teco_tools::{LetterCase, Start, ToolFault, code_of, machine_with, prepare, within_limit};
 use teco_verdicts::verified_by;
 
 /// How many steps the run of a macro on an example may take.
@@ -27,21 +27,21 @@ pub enum Came {
 
 /// How a macro is run on texts.
 #[derive(Clone, Copy)]
-pub struct Subject {
+pub struct TextRun {
     /// What memory for machines and texts comes from.
     pub alloc: Global,
     pub entry: Reg,
     /// How searches treat case as it begins.
-    pub case: Option<Case>,
+    pub case: Option<LetterCase>,
     /// The pages that it is run on: the first, if it turns pages itself, and else all as one.
     pub pages: Pages,
 }
 
-impl Subject {
+impl TextRun {
     /// A macro of a library. Where it is refused it is not known whether it turns pages.
-    pub fn of(alloc: Global, sourced: &Sourced, entry: Reg, case: Option<Case>) -> Subject {
+    pub fn of(alloc: Global, sourced: &Sourced, entry: Reg, case: Option<LetterCase>) -> TextRun {
         let pages = pages_of(alloc, sourced, entry);
-        Subject {
+        TextRun {
             alloc,
             entry,
             case,
@@ -76,7 +76,7 @@ fn host_with(alloc: Global, text: &[u8]) -> Result<MemHost, AllocError> {
 
 // Gives a machine what it has before the run, and opens the files; the code at which that stopped.
 fn open(
-    subject: &Subject,
+    subject: &TextRun,
     example: &Example,
     machine: &mut Machine<GapText>,
     host: &mut MemHost,
@@ -123,7 +123,7 @@ fn run_and_close(
 // Calls a macro on the files of a host; the code at which that stopped.
 fn call_on(
     library: &Library,
-    subject: &Subject,
+    subject: &TextRun,
     example: &Example,
     machine: &mut Machine<GapText>,
     host: &mut MemHost,
@@ -140,7 +140,7 @@ fn call_on(
 // Calls a macro on a machine of its own; the code at which that stopped.
 fn run_on_host(
     library: &Library,
-    subject: &Subject,
+    subject: &TextRun,
     example: &Example,
     host: &mut MemHost,
 ) -> Result<Option<Code>, ToolFault> {
@@ -154,7 +154,7 @@ fn written(alloc: Global, host: &MemHost) -> Result<Vec<u8>, AllocError> {
 }
 
 /// Runs a macro of a library on the text of an example.
-pub fn run_on(library: &Library, subject: &Subject, example: &Example) -> Result<Came, ToolFault> {
+pub fn run_on(library: &Library, subject: &TextRun, example: &Example) -> Result<Came, ToolFault> {
     let mut host = host_with(subject.alloc, &example.before)?;
     match run_on_host(library, subject, example, &mut host)? {
         None => Ok(Came::Text(written(subject.alloc, &host)?)),

@@ -1,7 +1,7 @@
 //! `test`: the examples of a library are tried.
 use crate::example::Example;
-use crate::finding::{Finding, examples_of};
-use crate::running::{Came, Subject, run_on};
+use crate::finding::{FoundComment, examples_of};
+use crate::running::{Came, TextRun, run_on};
 use std::fmt;
 use std::io::{Input, Write};
 use std::rt::Files;
@@ -10,7 +10,7 @@ use teco_console::{Console, Outcome, Request, Sourced, letters};
 use teco_edits::{Look, write_diff};
 use teco_explain::note_of_code;
 use teco_source::{Position, Shown, Source};
-use teco_tools::{Case, ToolFault};
+use teco_tools::{LetterCase, ToolFault};
 use teco_verdicts::read_library;
 
 /// Which examples of a library are tried, and how.
@@ -19,7 +19,7 @@ pub struct Tests {
     /// Those of this macro; of all where it is none.
     pub entry: Option<Reg>,
     /// How searches treat case as a macro begins.
-    pub case: Option<Case>,
+    pub case: Option<LetterCase>,
     /// How it is printed what differs.
     pub look: Look,
 }
@@ -36,12 +36,12 @@ impl Tests {
 
 // Where an example stands, as messages have it.
 #[derive(Clone, Copy)]
-struct Site<'a> {
+struct ExampleSite<'a> {
     source: &'a Source,
     place: usize,
 }
 
-impl fmt::Display for Site<'_> {
+impl fmt::Display for ExampleSite<'_> {
     fn fmt<W: fmt::Write>(&self, f: &mut fmt::Formatter<W>) -> fmt::Result {
         let name = Shown(self.source.name_at(self.place).as_bytes());
         let Position { line, column } = self.source.position(self.place);
@@ -51,16 +51,16 @@ impl fmt::Display for Site<'_> {
 
 // How many examples were tried, and how many of them failed.
 #[derive(Clone, Copy)]
-struct Tally {
+struct ExampleTally {
     tried: usize,
     failed: usize,
 }
 
-impl Tally {
+impl ExampleTally {
     // With one more that was tried.
-    fn with(self, holds: bool) -> Tally {
+    fn with(self, holds: bool) -> ExampleTally {
         let failed = if holds { 0 } else { 1 };
-        Tally {
+        ExampleTally {
             tried: self.tried.saturating_add(1),
             failed: self.failed.saturating_add(failed),
         }
@@ -71,10 +71,10 @@ impl Tally {
 fn tell_failed<O: Write + Drop, E: Write + Drop, D: fmt::Display + Drop>(
     console: &mut Console<O, E>,
     source: &Source,
-    finding: &Finding,
+    finding: &FoundComment,
     what: D,
 ) -> Result<(), ToolFault> {
-    let site = Site {
+    let site = ExampleSite {
         source,
         place: finding.place,
     };
@@ -87,7 +87,7 @@ fn tell_failed<O: Write + Drop, E: Write + Drop, D: fmt::Display + Drop>(
 fn tell_text<O: Write + Drop, E: Write + Drop>(
     console: &mut Console<O, E>,
     source: &Source,
-    finding: &Finding,
+    finding: &FoundComment,
     look: Look,
     texts: (&[u8], &[u8]),
 ) -> Result<bool, ToolFault> {
@@ -106,7 +106,7 @@ fn tell_text<O: Write + Drop, E: Write + Drop>(
 fn tell_code<O: Write + Drop, E: Write + Drop>(
     console: &mut Console<O, E>,
     source: &Source,
-    finding: &Finding,
+    finding: &FoundComment,
     code: Code,
 ) -> Result<bool, ToolFault> {
     let name = letters(code);
@@ -120,11 +120,11 @@ fn try_example<O: Write + Drop, E: Write + Drop>(
     console: &mut Console<O, E>,
     sourced: &Sourced,
     tests: &Tests,
-    finding: &Finding,
+    finding: &FoundComment,
     example: &Example,
 ) -> Result<bool, ToolFault> {
     let source = &sourced.source;
-    let subject = Subject::of(console.alloc, sourced, finding.register, tests.case);
+    let subject = TextRun::of(console.alloc, sourced, finding.register, tests.case);
     match run_on(&sourced.library, &subject, example)? {
         Came::Text(made) => {
             tell_text(
@@ -144,7 +144,7 @@ fn try_finding<O: Write + Drop, E: Write + Drop>(
     console: &mut Console<O, E>,
     sourced: &Sourced,
     tests: &Tests,
-    finding: &Finding,
+    finding: &FoundComment,
 ) -> Result<bool, ToolFault> {
     if let Some(example) = &finding.example {
         return try_example(console, sourced, tests, finding, example);
@@ -159,9 +159,9 @@ fn try_all<O: Write + Drop, E: Write + Drop>(
     console: &mut Console<O, E>,
     sourced: &Sourced,
     tests: &Tests,
-) -> Result<Tally, ToolFault> {
+) -> Result<ExampleTally, ToolFault> {
     let found = examples_of(console.alloc, sourced.source.text())?;
-    let mut tally = Tally {
+    let mut tally = ExampleTally {
         tried: 0,
         failed: 0,
     };
@@ -176,9 +176,9 @@ fn try_all<O: Write + Drop, E: Write + Drop>(
 // Says how many examples were tried.
 fn tell_tally<O: Write + Drop, E: Write + Drop>(
     console: &mut Console<O, E>,
-    tally: Tally,
+    tally: ExampleTally,
 ) -> Outcome {
-    let Tally { tried, failed } = tally;
+    let ExampleTally { tried, failed } = tally;
     console.say(format_args!("examples: {tried}, failed: {failed}"));
     if failed > 0 {
         Outcome::Coded

@@ -60,7 +60,7 @@ impl Role {
 
 /// An element of a text, as far as hints go.
 #[derive(Clone, Copy)]
-pub struct Sign {
+pub struct SeenElement {
     pub role: Role,
     /// Does it have a `:`, or answer a number in any case?
     pub answers: bool,
@@ -74,7 +74,7 @@ pub struct Sign {
 
 /// What an iteration does.
 #[derive(Clone, Copy, Default)]
-pub struct Body {
+pub struct IterationBody {
     pub searches: bool,
     /// `R`, or `0L`.
     pub goes_back: bool,
@@ -99,10 +99,10 @@ pub struct Body {
 /// The element at a place, and what comes before it.
 #[derive(Clone, Copy)]
 pub struct Around {
-    pub here: Option<Sign>,
-    pub before: Option<Sign>,
+    pub here: Option<SeenElement>,
+    pub before: Option<SeenElement>,
     /// The innermost iteration that is open there, or that ends there, up to the place.
-    pub body: Option<Body>,
+    pub body: Option<IterationBody>,
     /// Is a register's number a part of the range that ends there?
     pub has_saved_range: bool,
     /// Was a character looked at for the conditional round it?
@@ -184,7 +184,7 @@ fn names_register(text: &[u8]) -> bool {
 }
 
 // The element at a place of a text, if one can be read there.
-fn sign_at(text: &[u8], place: usize) -> Option<Sign> {
+fn sign_at(text: &[u8], place: usize) -> Option<SeenElement> {
     if place > text.len() {
         return None;
     }
@@ -194,8 +194,8 @@ fn sign_at(text: &[u8], place: usize) -> Option<Sign> {
     }
 }
 
-fn sign_of(found: &Element<'_>) -> Sign {
-    Sign {
+fn sign_of(found: &Element<'_>) -> SeenElement {
+    SeenElement {
         role: role_of(&found.kind, found.text),
         answers: has_answer(&found.kind, found.colons),
         is_empty: found.text.is_empty(),
@@ -206,16 +206,16 @@ fn sign_of(found: &Element<'_>) -> Sign {
 
 // What the arguments before an element are.
 #[derive(Clone, Copy)]
-struct Arguments {
+struct ArgumentsBefore {
     // the last of them
     last: Option<Role>,
     // are they two?
     is_range: bool,
 }
 
-impl Body {
+impl IterationBody {
     // One more element of it, behind these arguments.
-    fn note(&mut self, role: Role, arguments: Arguments) {
+    fn note(&mut self, role: Role, arguments: ArgumentsBefore) {
         match role {
             Role::Search => self.searches = true,
             Role::Back => self.goes_back = true,
@@ -235,20 +235,20 @@ impl Body {
 
 // What is known as the elements before a place are passed.
 #[derive(Drop)]
-struct Walk {
+struct ElementWalk {
     around: Around,
     // the iterations that are open
-    open: ArrayVec<Body, DEPTH>,
+    open: ArrayVec<IterationBody, DEPTH>,
     // a character was looked at, and only numbers came since
     looks: bool,
     has_comma: bool,
     has_saved: bool,
 }
 
-impl Walk {
+impl ElementWalk {
     // Nothing is passed.
-    fn new() -> Walk {
-        Walk {
+    fn new() -> ElementWalk {
+        ElementWalk {
             around: Around {
                 here: None,
                 before: None,
@@ -268,7 +268,7 @@ impl Walk {
     fn pass_bracket(&mut self, role: Role) {
         match role {
             Role::Begin => {
-                let _known = self.open.try_push(Body::default());
+                let _known = self.open.try_push(IterationBody::default());
             }
             Role::End => {
                 let _closed = self.open.pop();
@@ -280,7 +280,7 @@ impl Walk {
     }
 
     // The arguments go on, or are taken.
-    fn pass_argument(&mut self, sign: Sign) {
+    fn pass_argument(&mut self, sign: SeenElement) {
         match sign.role {
             Role::Comma => self.has_comma = true,
             Role::Saved => self.has_saved = true,
@@ -295,19 +295,19 @@ impl Walk {
     }
 
     // What the arguments are before the next element.
-    fn arguments(&self) -> Arguments {
+    fn arguments(&self) -> ArgumentsBefore {
         let last = match self.around.before {
             Some(before) if before.role.is_argument() => Some(before.role),
             _ => None,
         };
-        Arguments {
+        ArgumentsBefore {
             last,
             is_range: self.has_comma || last == Some(Role::Range),
         }
     }
 
     // An element is passed.
-    fn pass(&mut self, sign: Sign) {
+    fn pass(&mut self, sign: SeenElement) {
         let arguments = self.arguments();
         for body in self.open.as_mut_slice().iter_mut() {
             body.note(sign.role, arguments);
@@ -318,7 +318,7 @@ impl Walk {
     }
 
     // The place is reached.
-    fn end(mut self, here: Option<Sign>) -> Around {
+    fn end(mut self, here: Option<SeenElement>) -> Around {
         self.around.here = here;
         self.around.body = self.open.pop();
         self.around.has_saved_range = self.has_comma && self.has_saved;
@@ -329,7 +329,7 @@ impl Walk {
 impl Around {
     /// What stands about a place of a text. It takes time by the length of the text before it.
     pub fn of(text: &[u8], place: usize) -> Around {
-        let mut walk = Walk::new();
+        let mut walk = ElementWalk::new();
         let mut at = 0;
         for _ in 0..text.len() {
             let Some(sign) = sign_at(text, at) else {

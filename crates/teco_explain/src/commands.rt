@@ -34,7 +34,7 @@ pub const SECTIONS: [Section; 11] = [
 
 /// A row of the manual's card.
 #[derive(Clone, Copy)]
-pub struct Command {
+pub struct CardRow {
     /// What it explains, as it is spelled without arguments, `:` and `@`.
     pub names: &'static [&'static str],
     /// How it is written; a number in brackets is the default for n.
@@ -57,7 +57,7 @@ const DIGITS: &str = "0";
 /// What a control and the letter of its `^X` differ by.
 const CONTROL_BIT: u8 = 0x40;
 
-impl fmt::Display for Command {
+impl fmt::Display for CardRow {
     fn fmt<W: fmt::Write>(&self, f: &mut fmt::Formatter<W>) -> fmt::Result {
         writeln!(f, "{}", self.form)?;
         writeln!(f, "  {}", self.does)?;
@@ -128,7 +128,7 @@ pub fn command_named(word: &str) -> Option<&'static str> {
         .or(name_before_letter(bare))
 }
 
-impl Command {
+impl CardRow {
     /// Does it explain the command of a name?
     pub fn explains(&self, name: &str) -> bool {
         self.names.iter().any(|other| *other == name)
@@ -164,7 +164,7 @@ impl Section {
     }
 
     /// The rows of the manual's card whose commands it tells of.
-    pub fn rows(self) -> &'static [Command] {
+    pub fn rows(self) -> &'static [CardRow] {
         match self {
             Section::Numbers => numbers(),
             Section::Pointer => pointer(),
@@ -182,12 +182,12 @@ impl Section {
 }
 
 // Commands of the section Numbers and places.
-fn numbers() -> &'static [Command] {
+fn numbers() -> &'static [CardRow] {
     &NUMBERS
 }
 
-const NUMBERS: [Command; 9] = [
-    Command {
+const NUMBERS: [CardRow; 9] = [
+    CardRow {
         names: &["0"],
         form: "digits",
         does: "a decimal number",
@@ -195,7 +195,7 @@ const NUMBERS: [Command; 9] = [
         gives: "the number",
         section: Section::Numbers,
     },
-    Command {
+    CardRow {
         names: &["+", "-", "*", "/"],
         form: "+ - * /",
         does: "sum, difference, product, quotient",
@@ -203,7 +203,7 @@ const NUMBERS: [Command; 9] = [
         gives: "the result",
         section: Section::Numbers,
     },
-    Command {
+    CardRow {
         names: &["&", "#"],
         form: "& #",
         does: "bits that both have; that either has",
@@ -211,7 +211,7 @@ const NUMBERS: [Command; 9] = [
         gives: "the result",
         section: Section::Numbers,
     },
-    Command {
+    CardRow {
         names: &["(", ")"],
         form: "( )",
         does: "compute a part first",
@@ -219,7 +219,7 @@ const NUMBERS: [Command; 9] = [
         gives: "its value",
         section: Section::Numbers,
     },
-    Command {
+    CardRow {
         names: &[","],
         form: ",",
         does: "separates a first number from a second",
@@ -227,7 +227,7 @@ const NUMBERS: [Command; 9] = [
         gives: "",
         section: Section::Numbers,
     },
-    Command {
+    CardRow {
         names: &["ESC", "$", "^["],
         form: "ESC",
         does: "drops what is pending",
@@ -235,7 +235,7 @@ const NUMBERS: [Command; 9] = [
         gives: "",
         section: Section::Numbers,
     },
-    Command {
+    CardRow {
         names: &["B", "Z", "."],
         form: "B Z .",
         does: "the beginning; the end; the pointer",
@@ -243,7 +243,7 @@ const NUMBERS: [Command; 9] = [
         gives: "a place",
         section: Section::Numbers,
     },
-    Command {
+    CardRow {
         names: &["H"],
         form: "H",
         does: "the whole buffer, as B,Z",
@@ -251,7 +251,7 @@ const NUMBERS: [Command; 9] = [
         gives: "two places",
         section: Section::Numbers,
     },
-    Command {
+    CardRow {
         names: &["A"],
         form: "nA",
         does: "the character at .+n",
@@ -262,12 +262,12 @@ const NUMBERS: [Command; 9] = [
 ];
 
 // Commands of the section Moving the pointer.
-fn pointer() -> &'static [Command] {
+fn pointer() -> &'static [CardRow] {
     &POINTER
 }
 
-const POINTER: [Command; 2] = [
-    Command {
+const POINTER: [CardRow; 2] = [
+    CardRow {
         names: &["C", "R", "J"],
         form: "nC [1], nR [1], nJ [0]",
         does: "move n on; n back; to place n",
@@ -275,7 +275,7 @@ const POINTER: [Command; 2] = [
         gives: "with :, -1 if it moved, else 0",
         section: Section::Pointer,
     },
-    Command {
+    CardRow {
         names: &["L"],
         form: "nL [1]",
         does: "moves by lines",
@@ -286,12 +286,12 @@ const POINTER: [Command; 2] = [
 ];
 
 // Commands of the section Inserting and deleting.
-fn insertions() -> &'static [Command] {
+fn insertions() -> &'static [CardRow] {
     &INSERTIONS
 }
 
-const INSERTIONS: [Command; 7] = [
-    Command {
+const INSERTIONS: [CardRow; 7] = [
+    CardRow {
         names: &["I", "TAB", "^I"],
         form: "Itext$, TABtext$",
         does: "inserts the text; a tab and the text",
@@ -299,7 +299,7 @@ const INSERTIONS: [Command; 7] = [
         gives: "",
         section: Section::Insertions,
     },
-    Command {
+    CardRow {
         names: &["I"],
         form: "nI$",
         does: "inserts the byte n",
@@ -307,7 +307,7 @@ const INSERTIONS: [Command; 7] = [
         gives: "",
         section: Section::Insertions,
     },
-    Command {
+    CardRow {
         names: &["\\"],
         form: "n\\",
         does: "inserts n in decimal",
@@ -315,7 +315,7 @@ const INSERTIONS: [Command; 7] = [
         gives: "",
         section: Section::Insertions,
     },
-    Command {
+    CardRow {
         names: &["\\"],
         form: "\\",
         does: "reads the number at the pointer, and moves past it",
@@ -323,7 +323,7 @@ const INSERTIONS: [Command; 7] = [
         gives: "the number",
         section: Section::Insertions,
     },
-    Command {
+    CardRow {
         names: &["D"],
         form: "nD [1]",
         does: "deletes n characters",
@@ -331,7 +331,7 @@ const INSERTIONS: [Command; 7] = [
         gives: "",
         section: Section::Insertions,
     },
-    Command {
+    CardRow {
         names: &["K"],
         form: "nK [1]",
         does: "deletes lines",
@@ -339,7 +339,7 @@ const INSERTIONS: [Command; 7] = [
         gives: "",
         section: Section::Insertions,
     },
-    Command {
+    CardRow {
         names: &["D", "K"],
         form: "m,nD, m,nK",
         does: "delete from place m to place n",
@@ -350,12 +350,12 @@ const INSERTIONS: [Command; 7] = [
 ];
 
 // Commands of the section Typing.
-fn typing() -> &'static [Command] {
+fn typing() -> &'static [CardRow] {
     &TYPING
 }
 
-const TYPING: [Command; 5] = [
-    Command {
+const TYPING: [CardRow; 5] = [
+    CardRow {
         names: &["=", "==", "==="],
         form: "n= n== n===",
         does: "type n in decimal; octal; hexadecimal; with :, without a line end",
@@ -363,7 +363,7 @@ const TYPING: [Command; 5] = [
         gives: "",
         section: Section::Typing,
     },
-    Command {
+    CardRow {
         names: &["T"],
         form: "nT [1], m,nT",
         does: "type lines; from place m to place n",
@@ -371,7 +371,7 @@ const TYPING: [Command; 5] = [
         gives: "",
         section: Section::Typing,
     },
-    Command {
+    CardRow {
         names: &["V"],
         form: "nV [1]",
         does: "types the lines around the pointer",
@@ -379,7 +379,7 @@ const TYPING: [Command; 5] = [
         gives: "",
         section: Section::Typing,
     },
-    Command {
+    CardRow {
         names: &["^A"],
         form: "^Atext^A",
         does: "types the text",
@@ -387,7 +387,7 @@ const TYPING: [Command; 5] = [
         gives: "",
         section: Section::Typing,
     },
-    Command {
+    CardRow {
         names: &["^T"],
         form: "n^T",
         does: "types the byte n",
@@ -398,12 +398,12 @@ const TYPING: [Command; 5] = [
 ];
 
 // Commands of the section Registers.
-fn registers() -> &'static [Command] {
+fn registers() -> &'static [CardRow] {
     &REGISTERS
 }
 
-const REGISTERS: [Command; 8] = [
-    Command {
+const REGISTERS: [CardRow; 8] = [
+    CardRow {
         names: &["Q"],
         form: "Qq, :Qq",
         does: "the number of q; the length of its text",
@@ -411,7 +411,7 @@ const REGISTERS: [Command; 8] = [
         gives: "a number",
         section: Section::Registers,
     },
-    Command {
+    CardRow {
         names: &["Q"],
         form: "nQq",
         does: "character n of q's text",
@@ -419,7 +419,7 @@ const REGISTERS: [Command; 8] = [
         gives: "its code, or -1",
         section: Section::Registers,
     },
-    Command {
+    CardRow {
         names: &["U"],
         form: "nUq",
         does: "sets the number of q",
@@ -427,7 +427,7 @@ const REGISTERS: [Command; 8] = [
         gives: "",
         section: Section::Registers,
     },
-    Command {
+    CardRow {
         names: &["%"],
         form: "n%q [1]",
         does: "adds n to the number of q",
@@ -435,7 +435,7 @@ const REGISTERS: [Command; 8] = [
         gives: "the sum",
         section: Section::Registers,
     },
-    Command {
+    CardRow {
         names: &["^U"],
         form: "^Uqtext$",
         does: "sets the text of q; with :, appends to it",
@@ -443,7 +443,7 @@ const REGISTERS: [Command; 8] = [
         gives: "",
         section: Section::Registers,
     },
-    Command {
+    CardRow {
         names: &["X"],
         form: "nXq [1], m,nXq",
         does: "copy lines, or m to n, to q's text; with :, append",
@@ -451,7 +451,7 @@ const REGISTERS: [Command; 8] = [
         gives: "",
         section: Section::Registers,
     },
-    Command {
+    CardRow {
         names: &["G"],
         form: "Gq",
         does: "inserts the text of q; with :, types it",
@@ -459,7 +459,7 @@ const REGISTERS: [Command; 8] = [
         gives: "",
         section: Section::Registers,
     },
-    Command {
+    CardRow {
         names: &["[", "]"],
         form: "[q ]q",
         does: "push number and text of q; pop them into q",
@@ -470,11 +470,11 @@ const REGISTERS: [Command; 8] = [
 ];
 
 // Commands of the section Macros.
-fn macros() -> &'static [Command] {
+fn macros() -> &'static [CardRow] {
     &MACROS
 }
 
-const MACROS: [Command; 1] = [Command {
+const MACROS: [CardRow; 1] = [CardRow {
     names: &["M"],
     form: "Mq",
     does: "executes the text of q",
@@ -484,12 +484,12 @@ const MACROS: [Command; 1] = [Command {
 }];
 
 // Commands of the section Searches.
-fn searches() -> &'static [Command] {
+fn searches() -> &'static [CardRow] {
     &SEARCHES
 }
 
-const SEARCHES: [Command; 6] = [
-    Command {
+const SEARCHES: [CardRow; 6] = [
+    CardRow {
         names: &["^S"],
         form: "^S",
         does: "minus the length of the text last found or inserted",
@@ -497,7 +497,7 @@ const SEARCHES: [Command; 6] = [
         gives: "a number",
         section: Section::Searches,
     },
-    Command {
+    CardRow {
         names: &["^Y"],
         form: "^Y",
         does: "that text, as .+^S,.",
@@ -505,7 +505,7 @@ const SEARCHES: [Command; 6] = [
         gives: "two places",
         section: Section::Searches,
     },
-    Command {
+    CardRow {
         names: &["S"],
         form: "nStext$ [1]",
         does: "finds a text",
@@ -513,7 +513,7 @@ const SEARCHES: [Command; 6] = [
         gives: "with :, -1 if found, else 0",
         section: Section::Searches,
     },
-    Command {
+    CardRow {
         names: &["S", "::S"],
         form: "::Stext$",
         does: "is the text at the pointer?",
@@ -521,7 +521,7 @@ const SEARCHES: [Command; 6] = [
         gives: "-1 or 0",
         section: Section::Searches,
     },
-    Command {
+    CardRow {
         names: &["FS"],
         form: "nFSa$b$ [1]",
         does: "finds a and puts b in its place",
@@ -529,7 +529,7 @@ const SEARCHES: [Command; 6] = [
         gives: "with :, -1 or 0",
         section: Section::Searches,
     },
-    Command {
+    CardRow {
         names: &["^X"],
         form: "^X, n^X",
         does: "the search mode; sets it",
@@ -540,12 +540,12 @@ const SEARCHES: [Command; 6] = [
 ];
 
 // Commands of the section Iterations.
-fn iterations() -> &'static [Command] {
+fn iterations() -> &'static [CardRow] {
     &ITERATIONS
 }
 
-const ITERATIONS: [Command; 3] = [
-    Command {
+const ITERATIONS: [CardRow; 3] = [
+    CardRow {
         names: &["<", ">"],
         form: "n< .. >",
         does: "repeats n times, or without end",
@@ -553,7 +553,7 @@ const ITERATIONS: [Command; 3] = [
         gives: "",
         section: Section::Iterations,
     },
-    Command {
+    CardRow {
         names: &[";"],
         form: "n;",
         does: "leaves the iteration if n is 0 or more; with :, if n is negative",
@@ -561,7 +561,7 @@ const ITERATIONS: [Command; 3] = [
         gives: "",
         section: Section::Iterations,
     },
-    Command {
+    CardRow {
         names: &["F>"],
         form: "F>",
         does: "goes to the > of the iteration",
@@ -572,12 +572,12 @@ const ITERATIONS: [Command; 3] = [
 ];
 
 // Commands of the section Conditionals.
-fn conditionals() -> &'static [Command] {
+fn conditionals() -> &'static [CardRow] {
     &CONDITIONALS
 }
 
-const CONDITIONALS: [Command; 3] = [
-    Command {
+const CONDITIONALS: [CardRow; 3] = [
+    CardRow {
         names: &["\"", "'"],
         form: "n\"x .. '",
         does: "executed if test x holds for n",
@@ -585,7 +585,7 @@ const CONDITIONALS: [Command; 3] = [
         gives: "",
         section: Section::Conditionals,
     },
-    Command {
+    CardRow {
         names: &["\"", "|", "'"],
         form: "n\"x ..|.. '",
         does: "otherwise the second part is executed",
@@ -593,7 +593,7 @@ const CONDITIONALS: [Command; 3] = [
         gives: "",
         section: Section::Conditionals,
     },
-    Command {
+    CardRow {
         names: &["F'", "F|"],
         form: "F' F|",
         does: "go to the end of the conditional; to its second part",
@@ -604,11 +604,11 @@ const CONDITIONALS: [Command; 3] = [
 ];
 
 // Commands of the section Tags and comments.
-fn tags() -> &'static [Command] {
+fn tags() -> &'static [CardRow] {
     &TAGS
 }
 
-const TAGS: [Command; 1] = [Command {
+const TAGS: [CardRow; 1] = [CardRow {
     names: &["O", "!"],
     form: "Otag$ !tag!",
     does: "goes to the next such tag; a tag, or a comment",
@@ -618,12 +618,12 @@ const TAGS: [Command; 1] = [Command {
 }];
 
 // Commands of the section Pages and files.
-fn pages() -> &'static [Command] {
+fn pages() -> &'static [CardRow] {
     &PAGES
 }
 
-const PAGES: [Command; 7] = [
-    Command {
+const PAGES: [CardRow; 7] = [
+    CardRow {
         names: &["N", "FN"],
         form: "nNtext$ [1], nFNa$b$ [1]",
         does: "like S and FS, but continue through the pages",
@@ -631,7 +631,7 @@ const PAGES: [Command; 7] = [
         gives: "with :, -1 or 0",
         section: Section::Pages,
     },
-    Command {
+    CardRow {
         names: &["Y", "A"],
         form: "Y A",
         does: "read the next page: in place of the buffer; at its end",
@@ -639,7 +639,7 @@ const PAGES: [Command; 7] = [
         gives: "",
         section: Section::Pages,
     },
-    Command {
+    CardRow {
         names: &["P", "PW"],
         form: "nP [1], nPW [1]",
         does: "write the buffer and read the next page; write it only",
@@ -647,7 +647,7 @@ const PAGES: [Command; 7] = [
         gives: "",
         section: Section::Pages,
     },
-    Command {
+    CardRow {
         names: &["P", "PW"],
         form: "m,nP m,nPW",
         does: "write from place m to place n",
@@ -655,7 +655,7 @@ const PAGES: [Command; 7] = [
         gives: "",
         section: Section::Pages,
     },
-    Command {
+    CardRow {
         names: &["ER", "EW"],
         form: "ERname$ EWname$",
         does: "open an input; begin an output",
@@ -663,7 +663,7 @@ const PAGES: [Command; 7] = [
         gives: "",
         section: Section::Pages,
     },
-    Command {
+    CardRow {
         names: &["EC", "EF", "EK"],
         form: "EC EF EK",
         does: "copy the rest and close; close; abandon the output",
@@ -671,7 +671,7 @@ const PAGES: [Command; 7] = [
         gives: "",
         section: Section::Pages,
     },
-    Command {
+    CardRow {
         names: &["EX"],
         form: "EX",
         does: "does EC if an output is open, and ends the session",

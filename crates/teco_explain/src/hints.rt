@@ -1,5 +1,5 @@
 //! Hints for macros that are refused in the form that comes to mind first.
-use crate::around::{Around, Body, Role, Sign};
+use crate::around::{Around, IterationBody, Role, SeenElement};
 use teco_verifier::Refusal;
 
 /// What usually mends a refusal of this kind at a place of a text by a table of what is known before each
@@ -19,7 +19,7 @@ pub fn hint(why: Refusal, text: &[u8], place: usize) -> Option<&'static str> {
 
 // An iteration without a count in which nothing is known to shrink. What goes back is named before
 // what may not move on.
-fn of_fall(body: Body) -> Option<&'static str> {
+fn of_fall(body: IterationBody) -> Option<&'static str> {
     if body.counts_by_register {
         return Some(
             "An iteration in this one has a register's number as its count, which may be up to \
@@ -72,7 +72,7 @@ const LINES: &str =
             surely enough and test first, as in JZ<.-Z;..L>.";
 
 // An iteration in which what is held grows faster and faster.
-fn of_bound(body: Body) -> Option<&'static str> {
+fn of_bound(body: IterationBody) -> Option<&'static str> {
     if body.copies && body.gets {
         return Some(
             "X and G of one register in one iteration can double the text in each turn. Insert at \
@@ -137,7 +137,7 @@ fn of_unverified(around: &Around) -> Option<&'static str> {
 }
 
 // A search that is not verified.
-fn of_search(search: Sign, is_inside: bool) -> Option<&'static str> {
+fn of_search(search: SeenElement, is_inside: bool) -> Option<&'static str> {
     if search.has_register {
         Some(
             "^EQ in a search text isn't verified. Compare with a register's text a character at a \

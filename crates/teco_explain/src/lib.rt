@@ -17,11 +17,11 @@ mod refusals;
 mod slips;
 
 pub use codes::{CODES, code_named, note_of_code};
-pub use commands::{Command, SECTIONS, Section, command_named};
+pub use commands::{CardRow, SECTIONS, Section, command_named};
 pub use explained::Explained;
 pub use hints::hint;
 pub use near::near_words;
-pub use note::Note;
+pub use note::Explanation;
 pub use outline::Outline;
 pub use places::{place_in, position_in, text_begin_in};
 pub use plain::is_plain;

@@ -3,7 +3,7 @@ use std::fmt;
 
 /// What a code or a refusal means.
 #[derive(Clone, Copy)]
-pub struct Note {
+pub struct Explanation {
     /// What happened, in a few words.
     pub summary: &'static str,
     /// What that means.
@@ -14,7 +14,7 @@ pub struct Note {
     pub remedy: &'static str,
 }
 
-impl fmt::Display for Note {
+impl fmt::Display for Explanation {
     fn fmt<W: fmt::Write>(&self, f: &mut fmt::Formatter<W>) -> fmt::Result {
         writeln!(f, "{}", self.summary)?;
         writeln!(f)?;

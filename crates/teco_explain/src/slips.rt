@@ -27,7 +27,7 @@ pub struct Slips {
 
 // How the next byte of a search text is read.
 #[derive(Clone, Copy)]
-enum Reading {
+enum NextByte {
     Plain,
     // behind a caret
     Caret,
@@ -43,7 +43,7 @@ impl Slips {
     // The slips of a search text, where letters match either case or not.
     fn of(text: &[u8], is_exact: bool) -> Slips {
         let mut slips = Slips::default();
-        let mut reading = Reading::Plain;
+        let mut reading = NextByte::Plain;
         for byte in text {
             reading = slips.read(reading, *byte);
         }
@@ -52,36 +52,36 @@ impl Slips {
     }
 
     // Reads a byte.
-    fn read(&mut self, reading: Reading, byte: u8) -> Reading {
+    fn read(&mut self, reading: NextByte, byte: u8) -> NextByte {
         match reading {
-            Reading::Plain if byte == b'^' => Reading::Caret,
-            Reading::Plain => self.read_sign(byte),
-            Reading::Caret => self.read_pair(byte),
-            Reading::Quoted => {
+            NextByte::Plain if byte == b'^' => NextByte::Caret,
+            NextByte::Plain => self.read_sign(byte),
+            NextByte::Caret => self.read_pair(byte),
+            NextByte::Quoted => {
                 self.note_literal(byte);
-                Reading::Plain
+                NextByte::Plain
             }
-            Reading::Extended if to_upper(byte) == b'Q' => Reading::Named,
-            Reading::Extended | Reading::Named => Reading::Plain,
+            NextByte::Extended if to_upper(byte) == b'Q' => NextByte::Named,
+            NextByte::Extended | NextByte::Named => NextByte::Plain,
         }
     }
 
     // Reads a character as it stands, or a control byte.
-    fn read_sign(&mut self, sign: u8) -> Reading {
+    fn read_sign(&mut self, sign: u8) -> NextByte {
         match sign {
-            CONTROL_Q => Reading::Quoted,
-            CONTROL_E => Reading::Extended,
+            CONTROL_Q => NextByte::Quoted,
+            CONTROL_E => NextByte::Extended,
             _ => {
                 self.note_literal(sign);
-                Reading::Plain
+                NextByte::Plain
             }
         }
     }
 
     // Reads the byte behind a caret.
-    fn read_pair(&mut self, byte: u8) -> Reading {
+    fn read_pair(&mut self, byte: u8) -> NextByte {
         let Some(sign) = control(byte) else {
-            return Reading::Plain;
+            return NextByte::Plain;
         };
         let is_control = matches!(
             sign,

@@ -1,22 +1,22 @@
-// From a macro to claims.
-use crate::potentials::Known;
+//! From a macro to claims.
+use crate::known_claims::KnownClaims;
 use crate::promises::all_promises;
-use crate::reason::{Reason, reason_for};
+use crate::reason::{Shortfall, reason_for};
 use crate::written::claims_of;
 use std::alloc::Global;
 use teco_base::LIMIT;
 use teco_bounds::cuts::{Cuts, first_cuts, kind_at};
-use teco_bounds::fault::{Refusal, Stop};
+use teco_bounds::fault::{SearchRefusal, SearchStop};
 use teco_bounds::keys::Flag;
 use teco_bounds::measures::{NUMBER, family_of, place_of, spoken_of, used_of};
 use teco_bounds::pushes::check_pushes;
-use teco_bounds::search::Search;
+use teco_bounds::search::PathSearch;
 use teco_claims::Claims;
 use teco_expansion::Nodes;
 use teco_model::kind::{Argument, Command, Query, Storage};
 use teco_model::{Kind, Operator};
 use teco_paths::claimed::Called;
-use teco_paths::course::Course;
+use teco_paths::course::MacroGraph;
 use teco_paths::fault::PathFault;
 
 // What the search may take in a way: steps of paths, and rows that programs go through.
@@ -26,7 +26,7 @@ const WORK: usize = 6_000_000;
 
 // A way to search.
 #[derive(Clone, Copy)]
-struct Way {
+struct Strategy {
     // How many cases a node may have before it becomes a cut point.
     most_cases: usize,
     cuts: Cuts,
@@ -34,52 +34,60 @@ struct Way {
     is_tame: bool,
     // Whether no more is taken of constraints than multipliers show.
     is_exact: bool,
+    // Whether it is of use only where more nodes become cut points than in the first way.
+    wants_cuts: bool,
     // Whether steep bounds are taken, for which other ways often find better ones.
     is_last: bool,
 }
 
 // The ways, one after the other.
-const WAYS: [Way; ATTEMPTS] = [
-    Way {
+const WAYS: [Strategy; ATTEMPTS] = [
+    Strategy {
         most_cases: 26,
         cuts: Cuts::Starts,
         is_tame: false,
         is_exact: false,
+        wants_cuts: false,
         is_last: false,
     },
-    Way {
+    Strategy {
         most_cases: 26,
         cuts: Cuts::Ends,
         is_tame: false,
         is_exact: false,
+        wants_cuts: false,
         is_last: false,
     },
-    Way {
+    Strategy {
         most_cases: 26,
         cuts: Cuts::Starts,
         is_tame: true,
         is_exact: true,
+        wants_cuts: false,
         is_last: false,
     },
-    Way {
+    Strategy {
         most_cases: 26,
         cuts: Cuts::Answers,
         is_tame: false,
         is_exact: true,
+        wants_cuts: false,
         is_last: false,
     },
-    Way {
+    Strategy {
         most_cases: 10,
         cuts: Cuts::Starts,
         is_tame: false,
         is_exact: false,
+        wants_cuts: true,
         is_last: false,
     },
-    Way {
+    Strategy {
         most_cases: 26,
         cuts: Cuts::Starts,
         is_tame: false,
         is_exact: false,
+        wants_cuts: false,
         is_last: true,
     },
 ];
@@ -135,7 +143,7 @@ fn is_minus(nodes: &Nodes<'_>, number: usize) -> bool {
 }
 
 // The numbers that bounds are widened to, in order.
-fn numbers_of(nodes: &Nodes<'_>, alloc: Global) -> Result<Vec<i64>, Stop> {
+fn numbers_of(nodes: &Nodes<'_>, alloc: Global) -> Result<Vec<i64>, SearchStop> {
     let mut numbers = Vec::new(alloc);
     numbers.extend_from_slice(&[0, 1, -1, LIMIT as i64])?;
     for at in 0..nodes.len() {
@@ -153,7 +161,7 @@ fn numbers_of(nodes: &Nodes<'_>, alloc: Global) -> Result<Vec<i64>, Stop> {
 }
 
 // Notes that a register is set to a number.
-fn note(flags: &mut Vec<Flag>, place: u32, number: i64, alloc: Global) -> Result<(), Stop> {
+fn note(flags: &mut Vec<Flag>, place: u32, number: i64, alloc: Global) -> Result<(), SearchStop> {
     for flag in flags.iter_mut() {
         if flag.place == place {
             if !flag.numbers.contains(&number) {
@@ -212,7 +220,11 @@ fn is_divided(nodes: &Nodes<'_>, number: usize, place: u32) -> bool {
 }
 
 // Adds the registers that are set to parts of themselves.
-fn add_quotients(flags: &mut Vec<Flag>, nodes: &Nodes<'_>, alloc: Global) -> Result<(), Stop> {
+fn add_quotients(
+    flags: &mut Vec<Flag>,
+    nodes: &Nodes<'_>,
+    alloc: Global,
+) -> Result<(), SearchStop> {
     for number in 1..nodes.len().saturating_add(1) {
         let Some(place) = set_at(nodes, number) else {
             continue;
@@ -229,7 +241,7 @@ fn add_quotients(flags: &mut Vec<Flag>, nodes: &Nodes<'_>, alloc: Global) -> Res
 }
 
 // The registers that are set to several numbers, or to one below 0, or to parts of themselves.
-fn flags_of(nodes: &Nodes<'_>, alloc: Global) -> Result<Vec<Flag>, Stop> {
+fn flags_of(nodes: &Nodes<'_>, alloc: Global) -> Result<Vec<Flag>, SearchStop> {
     let mut flags: Vec<Flag> = Vec::new(alloc);
     for at in 1..nodes.len() {
         if let (Some(place), Some(number)) = (set_at(nodes, at + 1), digits_at(nodes, at)) {
@@ -260,7 +272,7 @@ fn flags_of(nodes: &Nodes<'_>, alloc: Global) -> Result<Vec<Flag>, Stop> {
 #[derive(Drop)]
 struct Report {
     is_wanted: bool,
-    reason: Option<Reason>,
+    reason: Option<Shortfall>,
 }
 
 impl Report {
@@ -272,14 +284,30 @@ impl Report {
     }
 }
 
+// How a try is made.
+#[derive(Clone, Copy)]
+struct Try {
+    // Whether facts are narrowed.
+    narrows: bool,
+    // Whether claims may be found by it.
+    is_of_use: bool,
+}
+
 // A try with the cut points so far; where it stops for good, it reports why.
-fn try_once(search: &mut Search<'_>, narrows: bool, report: &mut Report) -> Result<Claims, Stop> {
+fn try_once(
+    search: &mut PathSearch<'_>,
+    by: Try,
+    report: &mut Report,
+) -> Result<Claims, SearchStop> {
     let (mut keys, is_widened) = search.settled()?;
-    if narrows && is_widened {
-        (keys, _) = search.narrowed(keys)?;
+    if by.narrows && is_widened {
+        keys = search.narrowed(keys)?;
     }
     let web = search.web(&keys)?;
-    let mut known = Known::new(search.work, search.alloc);
+    if !by.is_of_use {
+        return Err(SearchStop::Refused(SearchRefusal::Size));
+    }
+    let mut known = KnownClaims::new(search.work, search.alloc);
     let found = all_promises(&web, &keys, &mut search.tame, &mut known, search.alloc);
     search.work = known.work;
     match found {
@@ -293,32 +321,41 @@ fn try_once(search: &mut Search<'_>, narrows: bool, report: &mut Report) -> Resu
     }
 }
 
-// Tries, with a cut point more where one is asked for.
-fn tried(search: &mut Search<'_>, report: &mut Report) -> Result<Claims, Refusal> {
-    let mut narrows = true;
+// Tries, with a cut point more where one is asked for. A way that wants cut points is of no use until
+// then: the first way has looked so.
+fn tried(
+    search: &mut PathSearch<'_>,
+    way: Strategy,
+    report: &mut Report,
+) -> Result<Claims, SearchRefusal> {
+    let mut by = Try {
+        narrows: true,
+        is_of_use: !way.wants_cuts,
+    };
     for _ in 0..TRIES {
-        match try_once(search, narrows, report) {
+        match try_once(search, by, report) {
             Ok(claims) => return Ok(claims),
-            Err(Stop::Refused(refusal)) => return Err(refusal),
-            Err(Stop::CutAt(number)) => {
+            Err(SearchStop::Refused(refusal)) => return Err(refusal),
+            Err(SearchStop::CutAt(number)) => {
+                by.is_of_use = true;
                 if let Some(mark) = search.is_cut.get_mut(number) {
                     *mark = true;
                 }
             }
-            Err(Stop::Wild(_)) => {}
-            Err(Stop::Unstable) => {
-                if !narrows {
-                    return Err(Refusal::TooMuch);
+            Err(SearchStop::Wild) => {}
+            Err(SearchStop::Unstable) => {
+                if !by.narrows {
+                    return Err(SearchRefusal::TooMuch);
                 }
-                narrows = false;
+                by.narrows = false;
             }
         }
     }
-    Err(Refusal::TooMuch)
+    Err(SearchRefusal::TooMuch)
 }
 
 // The places of the numbers that are taken to be tame: those that are spoken of, or none.
-fn tame_of(spoken: &[bool], is_tame: bool, alloc: Global) -> Result<Vec<u32>, Stop> {
+fn tame_of(spoken: &[bool], is_tame: bool, alloc: Global) -> Result<Vec<u32>, SearchStop> {
     let mut tame = Vec::new(alloc);
     for place in 0..u32::try_from(spoken.len()).unwrap_or(0) {
         let is_spoken = spoken.get(place as usize) == Some(&true);
@@ -338,18 +375,18 @@ fn unclaimed(_used: &[bool]) -> Option<&[u64]> {
 // but the first and the last way may take half as much.
 fn searched(
     called: &Called<'_>,
-    way: Way,
+    way: Strategy,
     is_whole: bool,
     report: &mut Report,
     alloc: Global,
-) -> Result<Claims, Stop> {
+) -> Result<Claims, SearchStop> {
     check_pushes(called.nodes, alloc)?;
     let spoken = spoken_of(called.nodes, alloc)?;
     let used = used_of(&spoken, alloc)?;
     let flags = flags_of(called.nodes, alloc)?;
     let has_quotients = flags.iter().any(|flag| flag.numbers.is_empty());
-    let mut search = Search {
-        course: Course {
+    let mut search = PathSearch {
+        course: MacroGraph {
             nodes: called.nodes,
             lengths: called.lengths,
             needs: called.needs,
@@ -371,7 +408,7 @@ fn searched(
         work: if is_whole { WORK } else { WORK / 2 },
         alloc,
     };
-    Ok(tried(&mut search, report)?)
+    Ok(tried(&mut search, way, report)?)
 }
 
 /// How many ways there are to look for claims.
@@ -380,26 +417,30 @@ pub const ATTEMPTS: usize = 6;
 /// Looks for claims of a macro in one of several ways, the quickest first: how many commands it takes,
 /// how much it holds, and what holds at its cut points. The same macro has the same claims each time.
 /// They are not checked here.
-pub fn infer_by(called: &Called<'_>, attempt: usize, alloc: Global) -> Result<Claims, Refusal> {
+pub fn infer_by(
+    called: &Called<'_>,
+    attempt: usize,
+    alloc: Global,
+) -> Result<Claims, SearchRefusal> {
     let Some(way) = WAYS.get(attempt) else {
-        return Err(Refusal::TooMuch);
+        return Err(SearchRefusal::TooMuch);
     };
     let is_whole = attempt == 0 || way.is_last;
     match searched(called, *way, is_whole, &mut Report::new(false), alloc) {
         Ok(claims) => {
             let is_steep = claims.commands.at(STEEP_AT).is_none();
             if is_steep && !way.is_last {
-                return Err(Refusal::NotAccepted(PathFault::TooLong));
+                return Err(SearchRefusal::NotAccepted(PathFault::TooLong));
             }
             Ok(claims)
         }
-        Err(Stop::Refused(refusal)) => Err(refusal),
-        Err(_) => Err(Refusal::TooMuch),
+        Err(SearchStop::Refused(refusal)) => Err(refusal),
+        Err(_) => Err(SearchRefusal::TooMuch),
     }
 }
 
 /// Why no claims of a macro are found in the quickest way, as far as that can be told.
-pub fn why_unfound(called: &Called<'_>, alloc: Global) -> Option<Reason> {
+pub fn why_unfound(called: &Called<'_>, alloc: Global) -> Option<Shortfall> {
     let mut report = Report::new(true);
     match searched(called, WAYS[0], true, &mut report, alloc) {
         Ok(_) => None,
@@ -409,15 +450,18 @@ pub fn why_unfound(called: &Called<'_>, alloc: Global) -> Option<Reason> {
 
 /// The way that is worth its time behind one that had this refusal, where the first way had another; none
 /// if there is none. Where the first finds steep bounds, that is the second, and then the last.
-pub fn next_attempt(first: Refusal, refusal: Refusal, attempt: usize) -> Option<usize> {
+pub fn next_attempt(first: SearchRefusal, refusal: SearchRefusal, attempt: usize) -> Option<usize> {
     let next = attempt.saturating_add(1);
     let last = ATTEMPTS - 1;
-    if first == Refusal::NotAccepted(PathFault::TooLong) {
+    if first == SearchRefusal::NotAccepted(PathFault::TooLong) {
         let next = if attempt == 0 { next } else { last };
         return if attempt < last { Some(next) } else { None };
     }
     match refusal {
-        Refusal::NotTold(_) | Refusal::NotOpen(_) | Refusal::TooMuch | Refusal::Memory => None,
+        SearchRefusal::NotTold(_)
+        | SearchRefusal::NotOpen(_)
+        | SearchRefusal::TooMuch
+        | SearchRefusal::Memory => None,
         _ if next < last => Some(next),
         _ => None,
     }

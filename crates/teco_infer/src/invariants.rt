@@ -1,25 +1,29 @@
-// Invariants that show conditions which bounds do not.
-use crate::potentials::{Known, Sought, lowest};
+//! Invariants that show conditions which bounds do not.
+use crate::known_claims::KnownClaims;
+use crate::potentials::{PotentialProgram, lowest};
 use std::alloc::Global;
-use teco_bounds::fault::{Refusal, Stop};
+use teco_bounds::fault::{SearchRefusal, SearchStop};
 use teco_bounds::legs::Web;
-use teco_bounds::programs::{Entry, add_form};
-use teco_bounds::record::Open;
+use teco_bounds::programs::{Coefficient, add_form};
+use teco_bounds::record::OpenCondition;
 use teco_linear::Form;
-use teco_simplex::Values;
+use teco_simplex::Assignment;
 
 // The most pivots of a program.
 const PIVOTS: usize = 2000;
 
 // Whether two conditions are the same.
-fn is_same(one: &Open, other: &Open, alloc: Global) -> Result<bool, Stop> {
+fn is_same(one: &OpenCondition, other: &OpenCondition, alloc: Global) -> Result<bool, SearchStop> {
     let is_alike = one.number == other.number && one.source == other.source;
     Ok(is_alike && one.wanted.sub(&other.wanted, alloc)?.terms().is_empty())
 }
 
 // That what is claimed is so where paths lead to. By what is claimed where they begin that is shown for
 // those in a span of nodes alone, if there is one.
-fn add_legs(sought: &mut Sought<'_>, span: Option<(usize, usize)>) -> Result<(), Stop> {
+fn add_legs(
+    sought: &mut PotentialProgram<'_>,
+    span: Option<(usize, usize)>,
+) -> Result<(), SearchStop> {
     let web = sought.web;
     let alloc = sought.draft.alloc;
     for leg in &web.legs {
@@ -39,7 +43,11 @@ fn add_legs(sought: &mut Sought<'_>, span: Option<(usize, usize)>) -> Result<(),
 }
 
 // Takes away what is claimed at a key; at the entry that is nothing.
-fn add_source(sought: &Sought<'_>, entries: &mut Vec<Entry>, source: usize) -> Result<(), Stop> {
+fn add_source(
+    sought: &PotentialProgram<'_>,
+    entries: &mut Vec<Coefficient>,
+    source: usize,
+) -> Result<(), SearchStop> {
     match sought.web.starts.get(source) {
         Some(start) if source != 0 => {
             let alloc = sought.draft.alloc;
@@ -52,7 +60,7 @@ fn add_source(sought: &Sought<'_>, entries: &mut Vec<Entry>, source: usize) -> R
 }
 
 // What values claim at each key.
-fn claims_of(sought: &Sought<'_>, values: &Values) -> Result<Vec<Form>, Stop> {
+fn claims_of(sought: &PotentialProgram<'_>, values: &Assignment) -> Result<Vec<Form>, SearchStop> {
     let alloc = sought.draft.alloc;
     let mut claims = Vec::new(alloc);
     for key in 0..sought.web.starts.len() {
@@ -64,12 +72,12 @@ fn claims_of(sought: &Sought<'_>, values: &Values) -> Result<Vec<Form>, Stop> {
 // What is claimed at each key to show a condition, if that is found, and the work that is spent on it.
 fn tried(
     web: &Web,
-    known: &Known,
-    open: &Open,
+    known: &KnownClaims,
+    open: &OpenCondition,
     span: Option<(usize, usize)>,
     alloc: Global,
-) -> Result<(Option<Vec<Form>>, usize), Stop> {
-    let mut sought = Sought::of_measures(web, known, alloc)?;
+) -> Result<(Option<Vec<Form>>, usize), SearchStop> {
+    let mut sought = PotentialProgram::of_measures(web, known, alloc)?;
     add_legs(&mut sought, span)?;
     let mut entries = Vec::new(alloc);
     add_source(&sought, &mut entries, open.source)?;
@@ -89,11 +97,11 @@ fn tried(
 // What is claimed at each key to show a condition, if that is found.
 fn invariant(
     web: &Web,
-    known: &mut Known,
-    open: &Open,
+    known: &mut KnownClaims,
+    open: &OpenCondition,
     span: Option<(usize, usize)>,
     alloc: Global,
-) -> Result<Option<Vec<Form>>, Stop> {
+) -> Result<Option<Vec<Form>>, SearchStop> {
     let (found, work) = tried(web, known, open, span, alloc)?;
     known.spend(work)?;
     Ok(found)
@@ -102,10 +110,10 @@ fn invariant(
 // What is claimed to show a condition: at all keys, or in one of the iterations round it.
 fn any_invariant(
     web: &Web,
-    known: &mut Known,
-    open: &Open,
+    known: &mut KnownClaims,
+    open: &OpenCondition,
     alloc: Global,
-) -> Result<Option<Vec<Form>>, Stop> {
+) -> Result<Option<Vec<Form>>, SearchStop> {
     let found = invariant(web, known, open, None, alloc)?;
     let Some(start) = web.starts.get(open.source) else {
         return Ok(found);
@@ -123,7 +131,7 @@ fn any_invariant(
 }
 
 // Adds to what is known what shows all open conditions.
-pub fn add_invariants(web: &Web, known: &mut Known, alloc: Global) -> Result<(), Stop> {
+pub fn add_invariants(web: &Web, known: &mut KnownClaims, alloc: Global) -> Result<(), SearchStop> {
     for at in 0..web.record.opens.len() {
         let Some(open) = web.record.opens.get(at) else {
             break;
@@ -136,7 +144,7 @@ pub fn add_invariants(web: &Web, known: &mut Known, alloc: Global) -> Result<(),
             continue;
         }
         let Some(claims) = any_invariant(web, known, open, alloc)? else {
-            return Err(Stop::Refused(Refusal::Condition(open.number)));
+            return Err(SearchStop::Refused(SearchRefusal::Condition(open.number)));
         };
         known.add(claims, &[], alloc)?;
     }

@@ -1,16 +1,17 @@
-// Steps level by level: what falls in each turn of an outer iteration, and between two turns of it what
-// falls in those of the iterations inside.
+//! Steps level by level: what falls in each turn of an outer iteration, and between two turns of it what
+//! falls in those of the iterations inside.
+use crate::known_claims::KnownClaims;
 use crate::polynomials::whole;
-use crate::potentials::{Known, Sought, lowest, product};
-use crate::wanted::{Scope, Wanted};
+use crate::potentials::{PotentialProgram, lowest, product};
+use crate::wanted::{Scope, WantedBound};
 use std::alloc::Global;
-use teco_bounds::fault::Stop;
+use teco_bounds::fault::SearchStop;
 use teco_bounds::keys::STEPS;
 use teco_bounds::legs::{Leg, Web};
-use teco_bounds::programs::Entry;
-use teco_bounds::reduced::Limits;
+use teco_bounds::programs::Coefficient;
+use teco_bounds::reduced::UsedLimits;
 use teco_linear::Form;
-use teco_simplex::{Relation, Sign, Values};
+use teco_simplex::{Assignment, Relation, Sign};
 
 // The most levels.
 const MOST_LEVELS: usize = 24;
@@ -22,7 +23,7 @@ pub const PIVOTS: usize = 2000;
 // much it is at most, what a fall is worth, what coming to the level is worth, and what is to come at
 // each key behind what is inside.
 #[derive(Drop)]
-pub struct Level {
+pub struct KeyLevel {
     pub keys: Vec<bool>,
     pub parent: Option<usize>,
     pub forms: Vec<Form>,
@@ -32,21 +33,21 @@ pub struct Level {
     pub tails: Vec<Vec<u128>>,
 }
 
-impl Level {
+impl KeyLevel {
     pub fn has(&self, key: usize) -> bool {
         self.keys.get(key) == Some(&true)
     }
 }
 
 // What is wanted of programs here.
-pub fn wanted_of(highest: u32) -> Wanted<'static> {
-    Wanted {
+pub fn wanted_of(highest: u32) -> WantedBound<'static> {
+    WantedBound {
         place: STEPS,
         sign: 1,
         degree: 1,
         highest,
         is_loose: true,
-        limits: Limits::None,
+        limits: UsedLimits::None,
         scope: Scope::All,
         pivots: PIVOTS,
         rows: 2000,
@@ -57,7 +58,7 @@ pub fn wanted_of(highest: u32) -> Wanted<'static> {
 // Levels, and of each path the one in which it is a turn, if it is one.
 #[derive(Drop)]
 pub struct Levels {
-    pub levels: Vec<Level>,
+    pub levels: Vec<KeyLevel>,
     pub turn_of: Vec<Option<usize>>,
 }
 
@@ -72,7 +73,7 @@ impl Levels {
     }
 
     // The level inside another, or inside none, that a key is in.
-    pub fn inside(&self, parent: Option<usize>, key: usize) -> Option<&Level> {
+    pub fn inside(&self, parent: Option<usize>, key: usize) -> Option<&KeyLevel> {
         self.levels
             .iter()
             .find(|level| level.parent == parent && level.has(key))
@@ -87,7 +88,7 @@ impl Levels {
 }
 
 // Which keys paths lead to from which, by those that are no turns yet: a row for each key.
-fn reached(web: &Web, levels: &Levels, alloc: Global) -> Result<Vec<Vec<bool>>, Stop> {
+fn reached(web: &Web, levels: &Levels, alloc: Global) -> Result<Vec<Vec<bool>>, SearchStop> {
     let count = web.starts.len();
     let mut rows: Vec<Vec<bool>> = Vec::new(alloc);
     for _ in 0..count {
@@ -127,7 +128,7 @@ fn join(row: &mut [bool], other: &[bool]) {
 }
 
 // Keys that paths lead round, all that lead to one another.
-fn next_keys(rows: &[Vec<bool>], alloc: Global) -> Result<Option<Vec<bool>>, Stop> {
+fn next_keys(rows: &[Vec<bool>], alloc: Global) -> Result<Option<Vec<bool>>, SearchStop> {
     let is_there = |row: usize, column: usize| {
         rows.get(row)
             .is_some_and(|row| row.get(column) == Some(&true))
@@ -155,11 +156,11 @@ fn head_of(web: &Web, keys: &[bool]) -> usize {
 
 // A number, and a variable, as entries.
 pub fn add_number(
-    entries: &mut Vec<Entry>,
+    entries: &mut Vec<Coefficient>,
     variable: Option<usize>,
     coefficient: i128,
-) -> Result<(), Stop> {
-    entries.push(Entry {
+) -> Result<(), SearchStop> {
+    entries.push(Coefficient {
         symbol: None,
         power: 0,
         variable,
@@ -171,12 +172,17 @@ pub fn add_number(
 // What is sought of a level: the program, and of each turn the variable that is 0 where something falls.
 #[derive(Drop)]
 struct Turns<'a> {
-    sought: Sought<'a>,
+    sought: PotentialProgram<'a>,
     slacks: Vec<(usize, usize)>,
 }
 
 // That what is sought does not grow on a path of a level; a turn may make it fall.
-fn add_inside(turns: &mut Turns<'_>, place: usize, leg: &Leg, is_turn: bool) -> Result<(), Stop> {
+fn add_inside(
+    turns: &mut Turns<'_>,
+    place: usize,
+    leg: &Leg,
+    is_turn: bool,
+) -> Result<(), SearchStop> {
     let Some(target) = leg.target else {
         return Ok(());
     };
@@ -203,7 +209,11 @@ fn add_inside(turns: &mut Turns<'_>, place: usize, leg: &Leg, is_turn: bool) -> 
 }
 
 // That what is sought is within the polynomial where a path comes to a level.
-fn add_arrival(sought: &mut Sought<'_>, leg: &Leg, target: usize) -> Result<(), Stop> {
+fn add_arrival(
+    sought: &mut PotentialProgram<'_>,
+    leg: &Leg,
+    target: usize,
+) -> Result<(), SearchStop> {
     let alloc = sought.draft.alloc;
     let mut entries = Vec::new(alloc);
     sought.unknowns.add(&mut entries, 0, &leg.forms, 1, alloc)?;
@@ -216,14 +226,14 @@ fn add_arrival(sought: &mut Sought<'_>, leg: &Leg, target: usize) -> Result<(), 
 // The program of a level.
 fn turns_of<'a>(
     web: &'a Web,
-    known: &'a Known,
+    known: &'a KnownClaims,
     levels: &Levels,
     keys: &[bool],
     highest: u32,
-) -> Result<Turns<'a>, Stop> {
+) -> Result<Turns<'a>, SearchStop> {
     let alloc = web.record.alloc;
     let mut turns = Turns {
-        sought: Sought::of_facts(web, known, &wanted_of(highest), alloc)?,
+        sought: PotentialProgram::of_facts(web, known, &wanted_of(highest), alloc)?,
         slacks: Vec::new(alloc),
     };
     let head = head_of(web, keys);
@@ -253,7 +263,7 @@ fn turns_of<'a>(
 }
 
 // Marks the turns of a new level in which something falls, and says whether there are some.
-fn mark_turns(turns: &Turns<'_>, values: &Values, levels: &mut Levels) -> bool {
+fn mark_turns(turns: &Turns<'_>, values: &Assignment, levels: &mut Levels) -> bool {
     let mut is_less = false;
     for (place, slack) in &turns.slacks {
         if values.numerators.get(*slack) == Some(&0) {
@@ -267,7 +277,7 @@ fn mark_turns(turns: &Turns<'_>, values: &Values, levels: &mut Levels) -> bool {
 }
 
 // That what falls in a level is within its bound, at each of its keys.
-fn claims_of(level: &Level, alloc: Global) -> Result<Vec<Form>, Stop> {
+fn claims_of(level: &KeyLevel, alloc: Global) -> Result<Vec<Form>, SearchStop> {
     let one = Form::constant(1, alloc)?;
     let whole = product(&level.bound, &one, alloc)?;
     let mut claims = Vec::new(alloc);
@@ -284,10 +294,10 @@ fn claims_of(level: &Level, alloc: Global) -> Result<Vec<Form>, Stop> {
 // The level by the values of its program.
 fn level_by(
     turns: &Turns<'_>,
-    values: &Values,
+    values: &Assignment,
     levels: &Levels,
     keys: Vec<bool>,
-) -> Result<Level, Stop> {
+) -> Result<KeyLevel, SearchStop> {
     let sought = &turns.sought;
     let alloc = sought.draft.alloc;
     let mut forms = Vec::new(alloc);
@@ -296,7 +306,7 @@ fn level_by(
     }
     let first = keys.iter().position(|is_in| *is_in).unwrap_or(0);
     let parent = levels.common(first, first);
-    Ok(Level {
+    Ok(KeyLevel {
         keys,
         parent,
         forms,
@@ -310,11 +320,11 @@ fn level_by(
 // A level of these keys, if something falls in some of its turns, and the work that is spent on it.
 fn tried(
     web: &Web,
-    known: &Known,
+    known: &KnownClaims,
     levels: &mut Levels,
     keys: Vec<bool>,
     highest: u32,
-) -> Result<(Option<Level>, usize), Stop> {
+) -> Result<(Option<KeyLevel>, usize), SearchStop> {
     let turns = turns_of(web, known, levels, &keys, highest)?;
     let work = turns.sought.draft.work(PIVOTS);
     if work > known.work {
@@ -334,11 +344,11 @@ fn tried(
 // Adds a level of these keys; says whether something falls in some of its turns.
 fn add_level(
     web: &Web,
-    known: &mut Known,
+    known: &mut KnownClaims,
     levels: &mut Levels,
     keys: Vec<bool>,
     highest: u32,
-) -> Result<bool, Stop> {
+) -> Result<bool, SearchStop> {
     let alloc = web.record.alloc;
     let (found, work) = tried(web, known, levels, keys, highest)?;
     known.spend(work)?;
@@ -355,10 +365,10 @@ fn add_level(
 // All levels, if there are some.
 pub fn all_levels(
     web: &Web,
-    known: &mut Known,
+    known: &mut KnownClaims,
     highest: u32,
     alloc: Global,
-) -> Result<Option<Levels>, Stop> {
+) -> Result<Option<Levels>, SearchStop> {
     let mut levels = Levels {
         levels: Vec::new(alloc),
         turn_of: Vec::from_elem(alloc, None, web.legs.len())?,

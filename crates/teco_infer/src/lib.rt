@@ -4,6 +4,7 @@
 
 mod infer;
 mod invariants;
+mod known_claims;
 mod levels;
 mod polynomials;
 mod potentials;
@@ -16,5 +17,5 @@ mod worth;
 mod written;
 
 pub use infer::{ATTEMPTS, infer_by, next_attempt, why_unfound};
-pub use reason::Reason;
-pub use teco_bounds::fault::Refusal;
+pub use reason::Shortfall;
+pub use teco_bounds::fault::SearchRefusal;

@@ -1,6 +1,6 @@
-// Polynomials in N: coefficients of whole numbers, the lowest power first.
+//! Polynomials in N: coefficients of whole numbers, the lowest power first.
 use std::alloc::Global;
-use teco_bounds::fault::{Refusal, Stop};
+use teco_bounds::fault::{SearchRefusal, SearchStop};
 
 // The highest power.
 const MOST_POWER: usize = 16;
@@ -11,19 +11,19 @@ fn coefficient(polynomial: &[u128], power: usize) -> u128 {
 }
 
 // The sum of two polynomials.
-pub fn plus(one: &[u128], other: &[u128], alloc: Global) -> Result<Vec<u128>, Stop> {
+pub fn plus(one: &[u128], other: &[u128], alloc: Global) -> Result<Vec<u128>, SearchStop> {
     let mut sum = Vec::new(alloc);
     for power in 0..one.len().max(other.len()) {
         let more = coefficient(one, power)
             .checked_add(coefficient(other, power))
-            .ok_or(Stop::Refused(Refusal::TooMuch))?;
+            .ok_or(SearchStop::Refused(SearchRefusal::TooMuch))?;
         sum.push(more)?;
     }
     Ok(sum)
 }
 
 // The least polynomial that is no less than two by each coefficient.
-pub fn most(one: &[u128], other: &[u128], alloc: Global) -> Result<Vec<u128>, Stop> {
+pub fn most(one: &[u128], other: &[u128], alloc: Global) -> Result<Vec<u128>, SearchStop> {
     let mut all = Vec::new(alloc);
     for power in 0..one.len().max(other.len()) {
         all.push(coefficient(one, power).max(coefficient(other, power)))?;
@@ -32,8 +32,8 @@ pub fn most(one: &[u128], other: &[u128], alloc: Global) -> Result<Vec<u128>, St
 }
 
 // The product of two polynomials.
-pub fn times(one: &[u128], other: &[u128], alloc: Global) -> Result<Vec<u128>, Stop> {
-    let refused = Stop::Refused(Refusal::TooMuch);
+pub fn times(one: &[u128], other: &[u128], alloc: Global) -> Result<Vec<u128>, SearchStop> {
+    let refused = SearchStop::Refused(SearchRefusal::TooMuch);
     let mut product: Vec<u128> = Vec::new(alloc);
     for (power, left) in one.iter().enumerate() {
         for (more, right) in other.iter().enumerate() {
@@ -57,7 +57,7 @@ pub fn times(one: &[u128], other: &[u128], alloc: Global) -> Result<Vec<u128>, S
 }
 
 // A polynomial of numerators.
-pub fn whole(numerators: &[i128], alloc: Global) -> Result<Vec<u128>, Stop> {
+pub fn whole(numerators: &[i128], alloc: Global) -> Result<Vec<u128>, SearchStop> {
     let mut all = Vec::new(alloc);
     for numerator in numerators {
         all.push(u128::try_from(*numerator).unwrap_or(0))?;

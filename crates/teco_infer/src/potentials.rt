@@ -1,17 +1,19 @@
-// Potentials: what is promised of a measure, or of the steps, by sums of measures at each key.
-use crate::wanted::{Scope, Wanted};
+//! Potentials: what is promised of a measure, or of the steps, by sums of measures at each key.
+use crate::known_claims::{KnownClaims, is_plain};
+use crate::wanted::{Scope, WantedBound};
 use std::alloc::Global;
-use teco_bounds::fault::{Refusal, Stop};
+use teco_bounds::bounds::Bounds;
+use teco_bounds::fault::SearchStop;
 use teco_bounds::keys::{STEPS, least_forms, power_of};
-use teco_bounds::legs::{Leg, Start, Web};
+use teco_bounds::legs::{Leg, LegStart, Web};
 use teco_bounds::numbers::common;
-use teco_bounds::programs::{Draft, Entry, add_form};
-use teco_bounds::reduced::{Demand, Limits, bounded, reduced};
+use teco_bounds::programs::{Coefficient, DraftProgram, add_form};
+use teco_bounds::reduced::{Demand, UsedLimits, bounded, reduced};
 use teco_bounds::rounds::at_forms;
 use teco_bounds::steps::constant;
 use teco_linear::{Form, Scale, Term};
 use teco_rows::applied::{copied, copied_constraints, form_at};
-use teco_simplex::{Relation, Sign, Values};
+use teco_simplex::{Assignment, Relation, Sign};
 
 // An unknown coefficient: of a form over the places of measures, times a power of N.
 #[derive(Drop)]
@@ -24,7 +26,7 @@ struct Unknown {
 // A promise: the coefficients of the polynomial and their divisor, and what is claimed at each key: a
 // form over the places of measures.
 #[derive(Drop)]
-pub struct Promise {
+pub struct FoundPromise {
     pub place: u32,
     pub sign: i128,
     pub numerators: Vec<i128>,
@@ -32,84 +34,8 @@ pub struct Promise {
     pub claims: Vec<Form>,
 }
 
-// Claims with coefficients above this are not used to find others.
-const PLAIN: u128 = 100;
-
 // The most pivots of a program that is to make claims plain.
 const PLAIN_PIVOTS: usize = 60;
-
-// What is claimed at keys besides facts, and what of it is used to find more: forms over the places
-// of measures, by the key.
-#[derive(Drop)]
-pub struct Known {
-    pub claims: Vec<(usize, Form)>,
-    pub told: Vec<(usize, Form)>,
-    // The places of the turns, numbers and lengths of which a bound was found.
-    pub bounded: Vec<u32>,
-    // How many rows programs may still go through.
-    pub work: usize,
-}
-
-// Whether all coefficients of a form are small.
-fn is_plain(form: &Form) -> bool {
-    form.terms().iter().all(|term| term.symbol.is_none()
-        || term.coefficient.unsigned_abs() <= PLAIN)
-}
-
-impl Known {
-    pub fn new(work: usize, alloc: Global) -> Known {
-        Known {
-            claims: Vec::new(alloc),
-            told: Vec::new(alloc),
-            bounded: Vec::new(alloc),
-            work,
-        }
-    }
-
-    // Takes from the work that is left.
-    pub fn spend(&mut self, work: usize) -> Result<(), Stop> {
-        self.work = self
-            .work
-            .checked_sub(work)
-            .ok_or(Stop::Refused(Refusal::TooMuch))?;
-        Ok(())
-    }
-
-    // Whether this is claimed at a key already.
-    fn has(&self, key: usize, claim: &Form) -> bool {
-        self.claims.iter().any(|(place, known)| *place == key && known.terms() == claim.terms())
-    }
-
-    // What is used at a key, where measures are given by forms.
-    pub fn at(&self, key: usize, forms: &[Option<Form>], alloc: Global) -> Result<Vec<Form>, Stop> {
-        let mut all = Vec::new(alloc);
-        for (place, claim) in &self.told {
-            if *place == key {
-                all.push(at_forms(claim, forms, alloc)?)?;
-            }
-        }
-        Ok(all)
-    }
-
-    // Takes what is claimed at each key besides. In the stead of a claim that is not plain a bound is
-    // used.
-    pub fn add(&mut self, claims: Vec<Form>, bounds: &[Form], alloc: Global) -> Result<(), Stop> {
-        for (key, claim) in claims.into_iter().enumerate() {
-            if key == 0 || claim.is_harmless() || self.has(key, &claim) {
-                continue;
-            }
-            if is_plain(&claim) {
-                self.told.push((key, copied(&claim, alloc)?))?;
-            } else if let Some(bound) = bounds.get(key) {
-                if !bound.is_harmless() {
-                    self.told.push((key, copied(bound, alloc)?))?;
-                }
-            }
-            self.claims.push((key, claim))?;
-        }
-        Ok(())
-    }
-}
 
 // The unknown coefficients of each key.
 #[derive(Drop)]
@@ -120,11 +46,11 @@ pub struct Unknowns {
 // Adds an unknown for each power of N below a degree.
 fn add_unknowns(
     unknowns: &mut Vec<Unknown>,
-    draft: &mut Draft,
+    draft: &mut DraftProgram,
     form: &Form,
     sign: Sign,
     powers: u32,
-) -> Result<(), Stop> {
+) -> Result<(), SearchStop> {
     for power in 0..powers {
         unknowns.push(Unknown {
             form: copied(form, draft.alloc)?,
@@ -145,12 +71,12 @@ fn is_within(form: &Form, scope: Scope) -> bool {
 
 // What is known at a key of the measures of a scope.
 fn generators(
-    start: &Start,
+    start: &LegStart,
     key: usize,
-    known: &Known,
-    wanted: &Wanted<'_>,
+    known: &KnownClaims,
+    wanted: &WantedBound<'_>,
     alloc: Global,
-) -> Result<Vec<Form>, Stop> {
+) -> Result<Vec<Form>, SearchStop> {
     let scope = wanted.scope;
     let mut symbols: Vec<u32> = Vec::new(alloc);
     for place in &start.own {
@@ -174,7 +100,11 @@ fn generators(
 
 impl Unknowns {
     // Of each measure of each key, of either sign, and at the entry of the polynomial.
-    pub fn of_measures(web: &Web, draft: &mut Draft, degree: u32) -> Result<Unknowns, Stop> {
+    pub fn of_measures(
+        web: &Web,
+        draft: &mut DraftProgram,
+        degree: u32,
+    ) -> Result<Unknowns, SearchStop> {
         let alloc = draft.alloc;
         let one = Form::constant(1, alloc)?;
         let mut of = Vec::new(alloc);
@@ -199,10 +129,10 @@ impl Unknowns {
     // Of what is known at each key to be at least 0, and at the entry of the polynomial.
     pub fn of_facts(
         web: &Web,
-        known: &Known,
-        draft: &mut Draft,
-        wanted: &Wanted<'_>,
-    ) -> Result<Unknowns, Stop> {
+        known: &KnownClaims,
+        draft: &mut DraftProgram,
+        wanted: &WantedBound<'_>,
+    ) -> Result<Unknowns, SearchStop> {
         let alloc = draft.alloc;
         let degree = wanted.degree;
         let one = Form::constant(1, alloc)?;
@@ -231,12 +161,12 @@ impl Unknowns {
     // Adds the sum of a key's measures, which are given by forms, times its unknowns.
     pub fn add(
         &self,
-        entries: &mut Vec<Entry>,
+        entries: &mut Vec<Coefficient>,
         key: usize,
         forms: &[Option<Form>],
         times: i128,
         alloc: Global,
-    ) -> Result<(), Stop> {
+    ) -> Result<(), SearchStop> {
         let Some(unknowns) = self.of.get(key) else {
             return Ok(());
         };
@@ -249,7 +179,7 @@ impl Unknowns {
 
     // The polynomial is to be least, its highest coefficient first, and then the sum of all others, so
     // that there are few; of a higher degree only the highest coefficient comes first.
-    pub fn minimise(&self, draft: &mut Draft, degree: u32) -> Result<(), Stop> {
+    pub fn minimise(&self, draft: &mut DraftProgram, degree: u32) -> Result<(), SearchStop> {
         let Some(unknowns) = self.of.first() else {
             return Ok(());
         };
@@ -270,7 +200,7 @@ impl Unknowns {
     }
 
     // The polynomial's number is no less than this.
-    fn begin_with(&self, draft: &mut Draft, least: i128) -> Result<(), Stop> {
+    fn begin_with(&self, draft: &mut DraftProgram, least: i128) -> Result<(), SearchStop> {
         for unknown in self
             .of
             .first()
@@ -285,7 +215,7 @@ impl Unknowns {
 
     // Takes the polynomial to be no more than the values rounded up; the sum of all others is to be
     // least.
-    fn round(&self, draft: &mut Draft, values: &Values) -> Result<(), Stop> {
+    fn round(&self, draft: &mut DraftProgram, values: &Assignment) -> Result<(), SearchStop> {
         for unknown in self
             .of
             .first()
@@ -310,7 +240,7 @@ impl Unknowns {
     }
 
     // The sum at a key, as a form over the places of measures.
-    pub fn form(&self, key: usize, values: &Values, alloc: Global) -> Result<Form, Stop> {
+    pub fn form(&self, key: usize, values: &Assignment, alloc: Global) -> Result<Form, SearchStop> {
         let mut sum = Form::zero(alloc);
         let Some(unknowns) = self.of.get(key) else {
             return Ok(sum);
@@ -330,7 +260,7 @@ impl Unknowns {
     }
 
     // The numerators of the polynomial.
-    pub fn polynomial(&self, values: &Values, alloc: Global) -> Result<Vec<i128>, Stop> {
+    pub fn polynomial(&self, values: &Assignment, alloc: Global) -> Result<Vec<i128>, SearchStop> {
         let mut numerators = Vec::new(alloc);
         if let Some(unknowns) = self.of.first() {
             for unknown in unknowns {
@@ -359,7 +289,7 @@ pub fn rounded_up(numerator: i128, divisor: i128) -> i128 {
 }
 
 // A polynomial times a form.
-pub fn product(polynomial: &[u128], form: &Form, alloc: Global) -> Result<Form, Stop> {
+pub fn product(polynomial: &[u128], form: &Form, alloc: Global) -> Result<Form, SearchStop> {
     let mut sum = Form::zero(alloc);
     for (power, coefficient) in polynomial.iter().enumerate() {
         let scale = Scale {
@@ -372,7 +302,7 @@ pub fn product(polynomial: &[u128], form: &Form, alloc: Global) -> Result<Form, 
 }
 
 // A form divided by what divides all its coefficients.
-pub fn lowest(form: &Form, alloc: Global) -> Result<Form, Stop> {
+pub fn lowest(form: &Form, alloc: Global) -> Result<Form, SearchStop> {
     let mut shared = 0u128;
     for term in form.terms() {
         shared = common(shared, term.coefficient.unsigned_abs());
@@ -391,43 +321,68 @@ pub fn lowest(form: &Form, alloc: Global) -> Result<Form, Stop> {
     Ok(sum)
 }
 
-// Whether a form is no greater than another, by the differences that a path tells of.
-fn is_below(form: &Form, above: &Option<Form>, leg: &Leg, alloc: Global) -> Result<bool, Stop> {
-    let Some(above) = above else {
-        return Ok(false);
-    };
-    let more = above.sub(form, alloc)?;
-    if more.is_harmless() {
-        return Ok(true);
+// The differences that a path tells of, which are bounded where that is first asked for.
+#[derive(Drop)]
+struct Told<'a> {
+    leg: &'a Leg,
+    bounds: Option<Bounds>,
+}
+
+impl Told<'_> {
+    // Whether a form is no greater than another.
+    fn is_below(
+        &mut self,
+        form: &Form,
+        above: &Option<Form>,
+        alloc: Global,
+    ) -> Result<bool, SearchStop> {
+        let Some(above) = above else {
+            return Ok(false);
+        };
+        let more = above.sub(form, alloc)?;
+        if more.is_harmless() {
+            return Ok(true);
+        }
+        if self.bounds.is_none() {
+            let (bounds, _rough) = bounded(&self.leg.constraints, UsedLimits::None, alloc)?;
+            self.bounds = Some(bounds);
+        }
+        Ok(
+            self.bounds
+                .as_ref()
+                .is_some_and(|bounds| bounds.shows(&more)),
+        )
     }
-    let (bounds, _rough) = bounded(&leg.constraints, Limits::None, alloc)?;
-    Ok(bounds.shows(&more))
 }
 
 // A program with its unknowns, for what is wanted.
 #[derive(Drop)]
-pub struct Sought<'a> {
+pub struct PotentialProgram<'a> {
     pub web: &'a Web,
-    pub known: &'a Known,
-    pub draft: Draft,
+    pub known: &'a KnownClaims,
+    pub draft: DraftProgram,
     pub unknowns: Unknowns,
     pub degree: u32,
-    limits: Limits,
+    limits: UsedLimits,
     demands: Vec<Demand>,
 }
 
-impl<'a> Sought<'a> {
+impl<'a> PotentialProgram<'a> {
     // With coefficients of measures.
-    pub fn of_measures(web: &'a Web, known: &'a Known, alloc: Global) -> Result<Sought<'a>, Stop> {
-        let mut draft = Draft::new(alloc);
+    pub fn of_measures(
+        web: &'a Web,
+        known: &'a KnownClaims,
+        alloc: Global,
+    ) -> Result<PotentialProgram<'a>, SearchStop> {
+        let mut draft = DraftProgram::new(alloc);
         let unknowns = Unknowns::of_measures(web, &mut draft, 1)?;
-        Ok(Sought {
+        Ok(PotentialProgram {
             web,
             known,
             draft,
             unknowns,
             degree: 1,
-            limits: Limits::None,
+            limits: UsedLimits::None,
             demands: Vec::new(alloc),
         })
     }
@@ -435,14 +390,14 @@ impl<'a> Sought<'a> {
     // With coefficients of facts.
     pub fn of_facts(
         web: &'a Web,
-        known: &'a Known,
-        wanted: &Wanted<'_>,
+        known: &'a KnownClaims,
+        wanted: &WantedBound<'_>,
         alloc: Global,
-    ) -> Result<Sought<'a>, Stop> {
-        let mut draft = Draft::new(alloc);
+    ) -> Result<PotentialProgram<'a>, SearchStop> {
+        let mut draft = DraftProgram::new(alloc);
         let unknowns = Unknowns::of_facts(web, known, &mut draft, wanted)?;
         let degree = wanted.degree;
-        Ok(Sought {
+        Ok(PotentialProgram {
             web,
             known,
             draft,
@@ -458,8 +413,8 @@ impl<'a> Sought<'a> {
         &mut self,
         source: usize,
         constraints: &[Form],
-        entries: Vec<Entry>,
-    ) -> Result<(), Stop> {
+        entries: Vec<Coefficient>,
+    ) -> Result<(), SearchStop> {
         let alloc = self.draft.alloc;
         let mut all = copied_constraints(constraints, alloc)?;
         if let Some(start) = self.web.starts.get(source) {
@@ -473,7 +428,7 @@ impl<'a> Sought<'a> {
     }
 
     // Adds a demand, unless one that is there is enough; it stands in for those that follow from it.
-    fn demand(&mut self, demand: Demand) -> Result<(), Stop> {
+    fn demand(&mut self, demand: Demand) -> Result<(), SearchStop> {
         if self.demands.iter().any(|other| demand.follows(other)) {
             return Ok(());
         }
@@ -483,7 +438,7 @@ impl<'a> Sought<'a> {
     }
 
     // Makes the program of all demands.
-    pub fn settle(&mut self) -> Result<(), Stop> {
+    pub fn settle(&mut self) -> Result<(), SearchStop> {
         let demands = std::mem::replace(&mut self.demands, Vec::new(self.draft.alloc));
         for demand in demands {
             let Demand {
@@ -498,11 +453,11 @@ impl<'a> Sought<'a> {
     // The sum where measures are given by forms, and the measure itself, if one is promised.
     fn add_sum(
         &self,
-        entries: &mut Vec<Entry>,
+        entries: &mut Vec<Coefficient>,
         key: usize,
         forms: &[Option<Form>],
-        part: (&Wanted<'_>, i128),
-    ) -> Result<(), Stop> {
+        part: (&WantedBound<'_>, i128),
+    ) -> Result<(), SearchStop> {
         let alloc = self.draft.alloc;
         let (wanted, times) = part;
         self.unknowns.add(entries, key, forms, times, alloc)?;
@@ -516,7 +471,11 @@ impl<'a> Sought<'a> {
     }
 
     // The sum at the start of a path.
-    fn begin(&self, source: usize, wanted: &Wanted<'_>) -> Result<Vec<Entry>, Stop> {
+    fn begin(
+        &self,
+        source: usize,
+        wanted: &WantedBound<'_>,
+    ) -> Result<Vec<Coefficient>, SearchStop> {
         let mut entries = Vec::new(self.draft.alloc);
         if let Some(start) = self.web.starts.get(source) {
             self.add_sum(&mut entries, source, &start.forms, (wanted, 1))?;
@@ -525,7 +484,7 @@ impl<'a> Sought<'a> {
     }
 
     // That the sum does not grow on a path, even with what it adds to a count, if that is promised.
-    fn add_leg(&mut self, leg: &Leg, wanted: &Wanted<'_>) -> Result<(), Stop> {
+    fn add_leg(&mut self, leg: &Leg, wanted: &WantedBound<'_>) -> Result<(), SearchStop> {
         let alloc = self.draft.alloc;
         if leg.target.is_none() && !wanted.is_count() {
             return Ok(());
@@ -546,12 +505,13 @@ impl<'a> Sought<'a> {
     fn add_peaks(
         &mut self,
         leg: &Leg,
-        wanted: &Wanted<'_>,
+        wanted: &WantedBound<'_>,
         is_done: &mut [bool],
-    ) -> Result<(), Stop> {
+    ) -> Result<(), SearchStop> {
         let alloc = self.draft.alloc;
         let mut at = leg.peak;
         let web = self.web;
+        let mut told = Told { leg, bounds: None };
         let mut above = match leg.target {
             Some(_) => form_at(&leg.forms, wanted.place as usize, alloc)?,
             None => None,
@@ -564,7 +524,7 @@ impl<'a> Sought<'a> {
                 break;
             };
             at = peak.before;
-            if peak.place != wanted.place || is_below(&peak.form, &above, leg, alloc)? {
+            if peak.place != wanted.place || told.is_below(&peak.form, &above, alloc)? {
                 continue;
             }
             above = Some(copied(&peak.form, alloc)?);
@@ -582,7 +542,7 @@ impl<'a> Sought<'a> {
 
     // That the polynomial's number alone is no less than the steps to the first keys: what a square
     // says of these is hard to show.
-    fn add_first_steps(&mut self, wanted: &Wanted<'_>) -> Result<(), Stop> {
+    fn add_first_steps(&mut self, wanted: &WantedBound<'_>) -> Result<(), SearchStop> {
         if wanted.place != STEPS || wanted.degree == 1 || wanted.only.is_some() {
             return Ok(());
         }
@@ -598,7 +558,7 @@ impl<'a> Sought<'a> {
     }
 
     // That the polynomial is no less than the measure at the entry.
-    fn add_entry(&mut self, wanted: &Wanted<'_>) -> Result<(), Stop> {
+    fn add_entry(&mut self, wanted: &WantedBound<'_>) -> Result<(), SearchStop> {
         let alloc = self.draft.alloc;
         let web = self.web;
         let Some(start) = web.starts.first() else {
@@ -619,9 +579,9 @@ impl<'a> Sought<'a> {
         &self,
         key: usize,
         most: &Form,
-        values: &Values,
-        wanted: &Wanted<'_>,
-    ) -> Result<Form, Stop> {
+        values: &Assignment,
+        wanted: &WantedBound<'_>,
+    ) -> Result<Form, SearchStop> {
         let alloc = self.draft.alloc;
         let sum = self.unknowns.form(key, values, alloc)?;
         let start = self.web.starts.get(key);
@@ -646,10 +606,10 @@ impl<'a> Sought<'a> {
     // What is promised where the polynomial is rounded up, if that is found and plain, or else what was.
     fn plainer(
         &mut self,
-        values: &Values,
-        promise: Promise,
-        wanted: &Wanted<'_>,
-    ) -> Result<Option<Promise>, Stop> {
+        values: &Assignment,
+        promise: FoundPromise,
+        wanted: &WantedBound<'_>,
+    ) -> Result<Option<FoundPromise>, SearchStop> {
         self.unknowns.round(&mut self.draft, values)?;
         if let Some(values) = self.draft.solved(wanted.pivots.min(PLAIN_PIVOTS))? {
             let other = self.promise(&values, wanted)?;
@@ -661,7 +621,11 @@ impl<'a> Sought<'a> {
     }
 
     // What the values of a program promise.
-    fn promise(&self, values: &Values, wanted: &Wanted<'_>) -> Result<Promise, Stop> {
+    fn promise(
+        &self,
+        values: &Assignment,
+        wanted: &WantedBound<'_>,
+    ) -> Result<FoundPromise, SearchStop> {
         let alloc = self.draft.alloc;
         let numerators = self.unknowns.polynomial(values, alloc)?;
         let mut claims = Vec::new(alloc);
@@ -676,7 +640,7 @@ impl<'a> Sought<'a> {
         for key in 0..self.web.starts.len() {
             claims.push(self.claim(key, &most, values, wanted)?)?;
         }
-        Ok(Promise {
+        Ok(FoundPromise {
             place: wanted.place,
             sign: wanted.sign,
             numerators,
@@ -689,11 +653,11 @@ impl<'a> Sought<'a> {
 // The program of what is wanted.
 fn sought_of<'a>(
     web: &'a Web,
-    known: &'a Known,
-    wanted: &Wanted<'_>,
+    known: &'a KnownClaims,
+    wanted: &WantedBound<'_>,
     alloc: Global,
-) -> Result<Sought<'a>, Stop> {
-    let mut sought = Sought::of_facts(web, known, wanted, alloc)?;
+) -> Result<PotentialProgram<'a>, SearchStop> {
+    let mut sought = PotentialProgram::of_facts(web, known, wanted, alloc)?;
     let mut is_done = Vec::from_elem(alloc, false, web.record.peaks.len())?;
     for (at, leg) in web.legs.iter().enumerate() {
         if !wanted.counts(at) {
@@ -715,7 +679,10 @@ fn sought_of<'a>(
 }
 
 // What a program promises, if its values are found.
-fn solved(sought: &mut Sought<'_>, wanted: &Wanted<'_>) -> Result<Option<Promise>, Stop> {
+fn solved(
+    sought: &mut PotentialProgram<'_>,
+    wanted: &WantedBound<'_>,
+) -> Result<Option<FoundPromise>, SearchStop> {
     let Some(values) = sought.draft.solved(wanted.pivots)? else {
         return Ok(None);
     };
@@ -729,10 +696,10 @@ fn solved(sought: &mut Sought<'_>, wanted: &Wanted<'_>) -> Result<Option<Promise
 // A promise of what is wanted, if one is found, and the work that is spent on it.
 fn tried(
     web: &Web,
-    known: &Known,
-    wanted: &Wanted<'_>,
+    known: &KnownClaims,
+    wanted: &WantedBound<'_>,
     alloc: Global,
-) -> Result<(Option<Promise>, usize), Stop> {
+) -> Result<(Option<FoundPromise>, usize), SearchStop> {
     let mut sought = sought_of(web, known, wanted, alloc)?;
     if sought.draft.rows() > wanted.rows {
         return Ok((None, 0));
@@ -748,10 +715,10 @@ fn tried(
 // A promise of what is wanted, if one is found.
 pub fn promised(
     web: &Web,
-    known: &mut Known,
-    wanted: &Wanted<'_>,
+    known: &mut KnownClaims,
+    wanted: &WantedBound<'_>,
     alloc: Global,
-) -> Result<Option<Promise>, Stop> {
+) -> Result<Option<FoundPromise>, SearchStop> {
     let (promise, work) = tried(web, known, wanted, alloc)?;
     known.spend(work)?;
     Ok(promise)

@@ -1,18 +1,19 @@
-// What is promised of a macro: how much it holds, how many commands it takes, and how many bytes it
-// types.
+//! What is promised of a macro: how much it holds, how many commands it takes, and how many bytes it
+//! types.
 use crate::invariants::add_invariants;
-use crate::potentials::{Known, Promise, promised, rounded_up};
+use crate::known_claims::KnownClaims;
+use crate::potentials::{FoundPromise, promised, rounded_up};
 use crate::turns::add_turns;
-use crate::wanted::{Scope, Wanted};
+use crate::wanted::{Scope, WantedBound};
 use crate::ways::endless;
 use crate::worth::promised_by_levels;
 use std::alloc::Global;
 use teco_base::LIMIT;
-use teco_bounds::fault::{Refusal, Stop};
+use teco_bounds::fault::{SearchRefusal, SearchStop};
 use teco_bounds::keys::{HELD, STEPS, TYPED, is_count, power_of};
 use teco_bounds::legs::Web;
 use teco_bounds::measures::{TURNS, family_of};
-use teco_bounds::reduced::Limits;
+use teco_bounds::reduced::UsedLimits;
 use teco_bounds::search::Keys;
 use teco_linear::Form;
 use teco_rows::applied::form_at;
@@ -42,7 +43,7 @@ pub struct Promises {
 }
 
 // The coefficients of a promise's polynomial, rounded up.
-fn rounded(promise: &Promise, alloc: Global) -> Result<Vec<u64>, Stop> {
+fn rounded(promise: &FoundPromise, alloc: Global) -> Result<Vec<u64>, SearchStop> {
     let mut all = Vec::new(alloc);
     for numerator in &promise.numerators {
         let up = rounded_up(*numerator, promise.divisor);
@@ -52,7 +53,12 @@ fn rounded(promise: &Promise, alloc: Global) -> Result<Vec<u64>, Stop> {
 }
 
 // Takes what a promise claims: at each key at least that the measure is within the polynomial.
-fn take(web: &Web, known: &mut Known, promise: Promise, alloc: Global) -> Result<Vec<u64>, Stop> {
+fn take(
+    web: &Web,
+    known: &mut KnownClaims,
+    promise: FoundPromise,
+    alloc: Global,
+) -> Result<Vec<u64>, SearchStop> {
     let coefficients = rounded(&promise, alloc)?;
     let mut most = Form::zero(alloc);
     for at in 0..coefficients.len() {
@@ -79,7 +85,7 @@ fn take(web: &Web, known: &mut Known, promise: Promise, alloc: Global) -> Result
 }
 
 // Raises coefficients to others.
-fn raise(all: &mut Vec<u64>, others: &[u64]) -> Result<(), Stop> {
+fn raise(all: &mut Vec<u64>, others: &[u64]) -> Result<(), SearchStop> {
     for at in 0..others.len() {
         let other = others.get(at).copied().unwrap_or(0);
         match all.get_mut(at) {
@@ -91,7 +97,7 @@ fn raise(all: &mut Vec<u64>, others: &[u64]) -> Result<(), Stop> {
 }
 
 // The places of the measures that are raised to a limit: what is held, and texts.
-fn growing(web: &Web, alloc: Global) -> Result<Vec<u32>, Stop> {
+fn growing(web: &Web, alloc: Global) -> Result<Vec<u32>, SearchStop> {
     let mut places: Vec<u32> = Vec::new(alloc);
     places.push(HELD)?;
     for peak in &web.record.peaks {
@@ -103,7 +109,7 @@ fn growing(web: &Web, alloc: Global) -> Result<Vec<u32>, Stop> {
 }
 
 // The places of turns, numbers and lengths at the keys.
-fn factors(keys: &Keys, alloc: Global) -> Result<Vec<u32>, Stop> {
+fn factors(keys: &Keys, alloc: Global) -> Result<Vec<u32>, SearchStop> {
     let mut places: Vec<u32> = Vec::new(alloc);
     for key in &keys.keys {
         for place in &key.told {
@@ -117,7 +123,7 @@ fn factors(keys: &Keys, alloc: Global) -> Result<Vec<u32>, Stop> {
 }
 
 // Whether a promise is less than another: by the highest coefficients first.
-fn is_less(one: &Promise, other: &Promise) -> bool {
+fn is_less(one: &FoundPromise, other: &FoundPromise) -> bool {
     for at in (0..one.numerators.len()).rev() {
         let first = one
             .numerators
@@ -141,7 +147,7 @@ fn is_less(one: &Promise, other: &Promise) -> bool {
 }
 
 // Whether none is less: what is held may be N, and what is counted none.
-fn is_least(promise: &Promise) -> bool {
+fn is_least(promise: &FoundPromise) -> bool {
     let least = if is_count(promise.place) {
         0
     } else {
@@ -154,14 +160,14 @@ fn is_least(promise: &Promise) -> bool {
 }
 
 // What is wanted of a measure: at first, or where that may only better what was found.
-fn wanted_of(place: u32, degree: u32, scope: Scope, is_first: bool) -> Wanted<'static> {
-    Wanted {
+fn wanted_of(place: u32, degree: u32, scope: Scope, is_first: bool) -> WantedBound<'static> {
+    WantedBound {
         place,
         sign: 1,
         degree,
         highest: degree,
         is_loose: false,
-        limits: Limits::None,
+        limits: UsedLimits::None,
         scope,
         pivots: if is_first { PIVOTS } else { FEW_PIVOTS },
         rows: if is_first { ROWS } else { FEW_ROWS },
@@ -170,7 +176,7 @@ fn wanted_of(place: u32, degree: u32, scope: Scope, is_first: bool) -> Wanted<'s
 }
 
 // The lesser of two promises, if there are two.
-fn lesser(one: Option<Promise>, other: Option<Promise>) -> Option<Promise> {
+fn lesser(one: Option<FoundPromise>, other: Option<FoundPromise>) -> Option<FoundPromise> {
     match (one, other) {
         (Some(one), Some(other)) => Some(if is_less(&other, &one) { other } else { one }),
         (None, other) => other,
@@ -181,12 +187,12 @@ fn lesser(one: Option<Promise>, other: Option<Promise>) -> Option<Promise> {
 // The least promise of a degree that is found.
 fn least_promise(
     web: &Web,
-    known: &mut Known,
+    known: &mut KnownClaims,
     place: u32,
     degree: u32,
     alloc: Global,
-) -> Result<Option<Promise>, Stop> {
-    let mut found: Option<Promise> = None;
+) -> Result<Option<FoundPromise>, SearchStop> {
+    let mut found: Option<FoundPromise> = None;
     if degree > 1 && web.legs.len().saturating_mul(degree as usize) > MOST_LEGS {
         return Ok(None);
     }
@@ -205,14 +211,14 @@ fn least_promise(
 }
 
 // That a measure, taken so often, is within a polynomial at keys.
-fn loosely(place: u32, sign: i128) -> Wanted<'static> {
-    Wanted {
+fn loosely(place: u32, sign: i128) -> WantedBound<'static> {
+    WantedBound {
         place,
         sign,
         degree: 1,
         highest: 1,
         is_loose: true,
-        limits: Limits::None,
+        limits: UsedLimits::None,
         scope: Scope::All,
         pivots: PIVOTS,
         rows: ROWS,
@@ -238,9 +244,9 @@ fn shows_tame(
     web: &Web,
     keys: &Keys,
     place: u32,
-    known: &mut Known,
+    known: &mut KnownClaims,
     size: &mut Vec<u64>,
-) -> Result<bool, Stop> {
+) -> Result<bool, SearchStop> {
     let alloc = web.record.alloc;
     for sign in [1, -1] {
         match promised(web, known, &loosely(place, sign), alloc)? {
@@ -258,23 +264,24 @@ fn add_tame(
     web: &Web,
     keys: &Keys,
     tame: &mut Vec<u32>,
-    known: &mut Known,
+    known: &mut KnownClaims,
     alloc: Global,
-) -> Result<Vec<u64>, Stop> {
+) -> Result<Vec<u64>, SearchStop> {
     let mut size = Vec::new(alloc);
     let mut shown: Vec<u32> = Vec::new(alloc);
-    let mut wild = None;
+    let mut is_any_wild = false;
     for place in tame.iter() {
         if shows_tame(web, keys, *place, known, &mut size)? {
             shown.push(*place)?;
         } else {
-            wild = wild.or(Some(*place));
+            is_any_wild = true;
         }
     }
     *tame = shown;
-    match wild {
-        Some(place) => Err(Stop::Wild(place)),
-        None => Ok(size),
+    if is_any_wild {
+        Err(SearchStop::Wild)
+    } else {
+        Ok(size)
     }
 }
 
@@ -283,15 +290,15 @@ fn add_tame(
 fn add_factors(
     web: &Web,
     keys: &Keys,
-    like: &Wanted<'_>,
-    known: &mut Known,
+    like: &WantedBound<'_>,
+    known: &mut KnownClaims,
     alloc: Global,
-) -> Result<(), Stop> {
+) -> Result<(), SearchStop> {
     for place in factors(keys, alloc)? {
         if known.bounded.contains(&place) {
             continue;
         }
-        let wanted = Wanted { place, ..*like };
+        let wanted = WantedBound { place, ..*like };
         if let Some(promise) = promised(web, known, &wanted, alloc)? {
             let _most = take(web, known, promise, alloc)?;
             known.bounded.push(place)?;
@@ -301,7 +308,12 @@ fn add_factors(
 }
 
 // What is held, and the texts that grow.
-fn sizes(web: &Web, keys: &Keys, known: &mut Known, alloc: Global) -> Result<Vec<u64>, Stop> {
+fn sizes(
+    web: &Web,
+    keys: &Keys,
+    known: &mut KnownClaims,
+    alloc: Global,
+) -> Result<Vec<u64>, SearchStop> {
     let mut size = Vec::new(alloc);
     raise(&mut size, &[0, 1])?;
     let mut left = growing(web, alloc)?;
@@ -321,16 +333,16 @@ fn sizes(web: &Web, keys: &Keys, known: &mut Known, alloc: Global) -> Result<Vec
             return Ok(size);
         }
     }
-    Err(Stop::Refused(Refusal::Size))
+    Err(SearchStop::Refused(SearchRefusal::Size))
 }
 
 // The steps by coefficients of a higher degree.
 fn steps_by_degrees(
     web: &Web,
     keys: &Keys,
-    known: &mut Known,
+    known: &mut KnownClaims,
     alloc: Global,
-) -> Result<Option<Promise>, Stop> {
+) -> Result<Option<FoundPromise>, SearchStop> {
     add_factors(web, keys, &loosely(STEPS, 1), known, alloc)?;
     for degree in 2..=DEGREES {
         let promise = least_promise(web, known, STEPS, degree, alloc)?;
@@ -342,8 +354,12 @@ fn steps_by_degrees(
 }
 
 // The steps level by level, where turns are within the square of N.
-fn steps_by_levels(web: &Web, known: &mut Known, alloc: Global) -> Result<Option<Promise>, Stop> {
-    let like = Wanted {
+fn steps_by_levels(
+    web: &Web,
+    known: &mut KnownClaims,
+    alloc: Global,
+) -> Result<Option<FoundPromise>, SearchStop> {
+    let like = WantedBound {
         highest: 2,
         ..loosely(STEPS, 1)
     };
@@ -352,7 +368,12 @@ fn steps_by_levels(web: &Web, known: &mut Known, alloc: Global) -> Result<Option
 }
 
 // The steps: where iterations are nested deeper than degrees are high, level by level.
-fn steps(web: &Web, keys: &Keys, known: &mut Known, alloc: Global) -> Result<Vec<u64>, Stop> {
+fn steps(
+    web: &Web,
+    keys: &Keys,
+    known: &mut KnownClaims,
+    alloc: Global,
+) -> Result<Vec<u64>, SearchStop> {
     let is_deep = web.depth() > DEGREES as usize;
     let mut found = least_promise(web, known, STEPS, 1, alloc)?;
     if found.is_none() && is_deep && web.legs.len() <= MOST_LEGS {
@@ -366,7 +387,7 @@ fn steps(web: &Web, keys: &Keys, known: &mut Known, alloc: Global) -> Result<Vec
     }
     match found {
         Some(promise) => take(web, known, promise, alloc),
-        None => Err(Stop::Refused(Refusal::Steps(endless(web, known, alloc)?))),
+        None => Err(SearchStop::Refused(SearchRefusal::Steps(endless(web, known, alloc)?))),
     }
 }
 
@@ -374,17 +395,17 @@ fn steps(web: &Web, keys: &Keys, known: &mut Known, alloc: Global) -> Result<Vec
 fn steps_by_limits(
     web: &Web,
     keys: &Keys,
-    known: &mut Known,
+    known: &mut KnownClaims,
     alloc: Global,
-) -> Result<Option<Promise>, Stop> {
-    let like = Wanted {
-        limits: Limits::Numbers,
+) -> Result<Option<FoundPromise>, SearchStop> {
+    let like = WantedBound {
+        limits: UsedLimits::Numbers,
         ..loosely(STEPS, 1)
     };
     add_factors(web, keys, &like, known, alloc)?;
     for degree in 1..=2 {
-        let wanted = Wanted {
-            limits: Limits::Numbers,
+        let wanted = WantedBound {
+            limits: UsedLimits::Numbers,
             ..wanted_of(STEPS, degree, Scope::All, true)
         };
         let promise = promised(web, known, &wanted, alloc)?;
@@ -404,7 +425,7 @@ fn is_quiet(web: &Web) -> bool {
 }
 
 // That no byte is typed.
-fn quiet(web: &Web, alloc: Global) -> Result<Promise, Stop> {
+fn quiet(web: &Web, alloc: Global) -> Result<FoundPromise, SearchStop> {
     let mut numerators = Vec::new(alloc);
     numerators.push(0)?;
     let mut claims = Vec::new(alloc);
@@ -412,7 +433,7 @@ fn quiet(web: &Web, alloc: Global) -> Result<Promise, Stop> {
         let typed = Form::symbol(TYPED, alloc)?;
         claims.push(Form::zero(alloc).sub(&typed, alloc)?)?;
     }
-    Ok(Promise {
+    Ok(FoundPromise {
         place: TYPED,
         sign: 1,
         numerators,
@@ -425,9 +446,9 @@ fn quiet(web: &Web, alloc: Global) -> Result<Promise, Stop> {
 fn typed(
     web: &Web,
     keys: &Keys,
-    known: &mut Known,
+    known: &mut KnownClaims,
     alloc: Global,
-) -> Result<Option<Vec<u64>>, Stop> {
+) -> Result<Option<Vec<u64>>, SearchStop> {
     if is_quiet(web) {
         return Ok(Some(take(web, known, quiet(web, alloc)?, alloc)?));
     }
@@ -442,15 +463,15 @@ fn typed(
     Ok(None)
 }
 
-// The same, but none is told where the work that is left does not reach.
+// The bytes typed, if a bound on them is found by the work that is left.
 fn types(
     web: &Web,
     keys: &Keys,
-    known: &mut Known,
+    known: &mut KnownClaims,
     alloc: Global,
-) -> Result<Option<Vec<u64>>, Stop> {
+) -> Result<Option<Vec<u64>>, SearchStop> {
     match typed(web, keys, known, alloc) {
-        Err(Stop::Refused(Refusal::TooMuch)) => Ok(None),
+        Err(SearchStop::Refused(SearchRefusal::TooMuch)) => Ok(None),
         found => found,
     }
 }
@@ -460,9 +481,9 @@ pub fn all_promises(
     web: &Web,
     keys: &Keys,
     tame: &mut Vec<u32>,
-    known: &mut Known,
+    known: &mut KnownClaims,
     alloc: Global,
-) -> Result<Promises, Stop> {
+) -> Result<Promises, SearchStop> {
     let within = add_tame(web, keys, tame, known, alloc)?;
     add_invariants(web, known, alloc)?;
     let mut size = sizes(web, keys, known, alloc)?;

@@ -1,13 +1,13 @@
-// What would show a condition that could not be shown, in the measures that claims speak of.
-use crate::potentials::Known;
+//! What would show a condition that could not be shown, in the measures that claims speak of.
+use crate::known_claims::KnownClaims;
 use crate::ways::unbounded;
 use crate::written::{claim_of, claimed_facts};
 use std::alloc::Global;
-use teco_bounds::fault::{Refusal, Stop};
+use teco_bounds::fault::{SearchRefusal, SearchStop};
 use teco_bounds::keys::{is_count, shifted};
-use teco_bounds::legs::{Start, Web};
-use teco_bounds::record::Open;
-use teco_bounds::search::{Keys, Search};
+use teco_bounds::legs::{LegStart, Web};
+use teco_bounds::record::OpenCondition;
+use teco_bounds::search::{Keys, PathSearch};
 use teco_claims::Claim;
 use teco_linear::{Form, Scale};
 
@@ -19,7 +19,7 @@ const WORK: usize = 2_000_000;
 
 /// Where a search has stopped: at which point, what is known there, and what more would do.
 #[derive(Drop)]
-pub struct Reason {
+pub struct Shortfall {
     /// The condition that could not be shown, as a claim where its element stands, if it can be told.
     pub needed: Option<Claim>,
     /// The number of the element from which paths lead to the condition, or of the one that begins the
@@ -56,7 +56,11 @@ fn measured(entry: (usize, &Option<Form>)) -> Option<(u32, &Form)> {
 
 // The measures' places of which a form is the difference, and how much more it is; where it is one
 // alone, the place of that.
-fn difference_in(form: &Form, forms: &[Option<Form>], alloc: Global) -> Result<Option<Form>, Stop> {
+fn difference_in(
+    form: &Form,
+    forms: &[Option<Form>],
+    alloc: Global,
+) -> Result<Option<Form>, SearchStop> {
     for (place, more) in forms.iter().enumerate().filter_map(measured) {
         let rest = form.sub(more, alloc)?;
         let one = shifted(Some(place), 0, alloc)?;
@@ -74,7 +78,7 @@ fn difference_in(form: &Form, forms: &[Option<Form>], alloc: Global) -> Result<O
 }
 
 // What a form takes away, where that is a measure more or less a number.
-fn less_in(form: &Form, forms: &[Option<Form>], alloc: Global) -> Result<Option<Form>, Stop> {
+fn less_in(form: &Form, forms: &[Option<Form>], alloc: Global) -> Result<Option<Form>, SearchStop> {
     for (place, less) in forms.iter().enumerate().filter_map(measured) {
         if let Some(number) = number_of(&form.add(less, alloc)?) {
             let one = shifted(Some(place), 0, alloc)?;
@@ -93,14 +97,14 @@ fn symbol_of(form: &Form) -> Option<u32> {
 }
 
 // The place of the measure that a symbol stands for where paths begin.
-fn place_at(start: &Start, symbol: u32) -> Option<u32> {
+fn place_at(start: &LegStart, symbol: u32) -> Option<u32> {
     let is_it = |form: &Option<Form>| form.as_ref().and_then(symbol_of) == Some(symbol);
     u32::try_from(start.forms.iter().position(is_it)?).ok()
 }
 
 // A form over the symbols that paths begin with, over the measures that these stand for there; none
 // where it speaks of other symbols.
-fn measured_at(form: &Form, start: &Start, alloc: Global) -> Result<Option<Form>, Stop> {
+fn measured_at(form: &Form, start: &LegStart, alloc: Global) -> Result<Option<Form>, SearchStop> {
     let mut sum = Form::zero(alloc);
     for term in form.terms() {
         let one = match term.symbol {
@@ -125,7 +129,11 @@ fn first_of(keys: &Keys) -> usize {
 }
 
 // A condition on paths from a point as a claim there, if it speaks of what is there alone.
-fn claim_at(search: &Search<'_>, start: &Start, open: &Open) -> Result<Option<Claim>, Stop> {
+fn claim_at(
+    search: &PathSearch<'_>,
+    start: &LegStart,
+    open: &OpenCondition,
+) -> Result<Option<Claim>, SearchStop> {
     match measured_at(&open.wanted, start, search.alloc)? {
         Some(form) => claim_of(search, start.number, &form),
         None => Ok(None),
@@ -133,7 +141,7 @@ fn claim_at(search: &Search<'_>, start: &Start, open: &Open) -> Result<Option<Cl
 }
 
 // What is known at a key, as claims.
-fn known_at(search: &Search<'_>, keys: &Keys, place: usize) -> Result<Vec<Claim>, Stop> {
+fn known_at(search: &PathSearch<'_>, keys: &Keys, place: usize) -> Result<Vec<Claim>, SearchStop> {
     let mut claims = Vec::new(search.alloc);
     let (Some(key), Some(facts)) = (keys.keys.get(place), keys.facts.get(place)) else {
         return Ok(claims);
@@ -147,7 +155,7 @@ fn known_at(search: &Search<'_>, keys: &Keys, place: usize) -> Result<Vec<Claim>
 }
 
 // A condition as a claim where its element stands.
-fn claim_there(search: &Search<'_>, open: &Open) -> Result<Option<Claim>, Stop> {
+fn claim_there(search: &PathSearch<'_>, open: &OpenCondition) -> Result<Option<Claim>, SearchStop> {
     match difference_in(&open.wanted, &open.forms, search.alloc)? {
         Some(form) => claim_of(search, open.number, &form),
         None => Ok(None),
@@ -156,17 +164,17 @@ fn claim_there(search: &Search<'_>, open: &Open) -> Result<Option<Claim>, Stop> 
 
 // Why a condition of an element could not be shown: the first one of it.
 fn unshown(
-    search: &Search<'_>,
+    search: &PathSearch<'_>,
     web: &Web,
     keys: &Keys,
     number: usize,
-) -> Result<Option<Reason>, Stop> {
+) -> Result<Option<Shortfall>, SearchStop> {
     for open in &web.record.opens {
         let Some(start) = web.starts.get(open.source) else {
             continue;
         };
         if open.number == number {
-            return Ok(Some(Reason {
+            return Ok(Some(Shortfall {
                 needed: claim_there(search, open)?,
                 point: start.number,
                 wanted: claim_at(search, start, open)?,
@@ -180,12 +188,12 @@ fn unshown(
 
 // What is known where paths begin at a node: at the key of the first of some, or at its first one.
 fn known_at_node(
-    search: &Search<'_>,
+    search: &PathSearch<'_>,
     web: &Web,
     keys: &Keys,
     number: usize,
     paths: &[usize],
-) -> Result<Vec<Claim>, Stop> {
+) -> Result<Vec<Claim>, SearchStop> {
     let of_paths = paths
         .iter()
         .filter_map(|at| web.legs.get(*at))
@@ -201,7 +209,7 @@ fn known_at_node(
 }
 
 // The elements on paths, each way once.
-fn ways_of(web: &Web, paths: &[usize], alloc: Global) -> Result<Vec<Vec<usize>>, Stop> {
+fn ways_of(web: &Web, paths: &[usize], alloc: Global) -> Result<Vec<Vec<usize>>, SearchStop> {
     let mut ways: Vec<Vec<usize>> = Vec::new(alloc);
     for path in paths {
         let last = web.legs.get(*path).and_then(|leg| leg.passed);
@@ -216,13 +224,13 @@ fn ways_of(web: &Web, paths: &[usize], alloc: Global) -> Result<Vec<Vec<usize>>,
 
 // What is known at a node from which paths lead on without a bound.
 fn endless(
-    search: &Search<'_>,
+    search: &PathSearch<'_>,
     web: &Web,
     keys: &Keys,
     number: usize,
     paths: &[usize],
-) -> Result<Option<Reason>, Stop> {
-    Ok(Some(Reason {
+) -> Result<Option<Shortfall>, SearchStop> {
+    Ok(Some(Shortfall {
         needed: None,
         point: number,
         wanted: None,
@@ -233,20 +241,20 @@ fn endless(
 
 // Why a search stops, as far as that can be told.
 pub fn reason_for(
-    search: &Search<'_>,
+    search: &PathSearch<'_>,
     web: &Web,
     keys: &Keys,
-    known: &mut Known,
-    stop: Stop,
-) -> Result<Option<Reason>, Stop> {
+    known: &mut KnownClaims,
+    stop: SearchStop,
+) -> Result<Option<Shortfall>, SearchStop> {
     match stop {
-        Stop::Refused(Refusal::Condition(number)) => unshown(search, web, keys, number),
-        Stop::Refused(Refusal::Steps(number)) => {
+        SearchStop::Refused(SearchRefusal::Condition(number)) => unshown(search, web, keys, number),
+        SearchStop::Refused(SearchRefusal::Steps(number)) => {
             known.work = WORK;
             let paths = unbounded(web, known, number, search.alloc)?;
             endless(search, web, keys, number, &paths)
         }
-        Stop::Refused(Refusal::Size) => endless(search, web, keys, first_of(keys), &[]),
+        SearchStop::Refused(SearchRefusal::Size) => endless(search, web, keys, first_of(keys), &[]),
         _ => Ok(None),
     }
 }

@@ -1,19 +1,20 @@
-// How many turns of each iteration are still to come at most, where paths come to it.
+//! How many turns of each iteration are still to come at most, where paths come to it.
+use crate::known_claims::KnownClaims;
 use crate::polynomials::whole;
-use crate::potentials::{Known, Sought, lowest, product};
-use crate::wanted::Wanted;
+use crate::potentials::{PotentialProgram, lowest, product};
+use crate::wanted::WantedBound;
 use std::alloc::Global;
-use teco_bounds::fault::Stop;
+use teco_bounds::fault::SearchStop;
 use teco_bounds::legs::{Leg, Web};
 use teco_bounds::measures::{FAMILIES, SINGLES, TURNS};
 use teco_bounds::programs::add_form;
 use teco_linear::Form;
 use teco_rows::applied::form_at;
-use teco_simplex::Values;
+use teco_simplex::Assignment;
 
 // An iteration: where it begins, and the place of its turns.
 #[derive(Clone, Copy, PartialEq, Eq)]
-struct Iteration {
+struct IterationTurns {
     begin: usize,
     place: u32,
 }
@@ -28,13 +29,13 @@ fn turns_place(around: usize) -> u32 {
 }
 
 // The iterations that keys are in, the outermost first.
-fn iterations(web: &Web, alloc: Global) -> Result<Vec<Iteration>, Stop> {
-    let mut all: Vec<Iteration> = Vec::new(alloc);
+fn iterations(web: &Web, alloc: Global) -> Result<Vec<IterationTurns>, SearchStop> {
+    let mut all: Vec<IterationTurns> = Vec::new(alloc);
     for depth in 0..web.depth() {
         for start in &web.starts {
             let at = start.around.len().checked_sub(depth.saturating_add(1));
             if let Some((begin, _end)) = at.and_then(|at| start.around.get(at)) {
-                let iteration = Iteration {
+                let iteration = IterationTurns {
                     begin: *begin,
                     place: turns_place(depth),
                 };
@@ -48,7 +49,7 @@ fn iterations(web: &Web, alloc: Global) -> Result<Vec<Iteration>, Stop> {
 }
 
 // Whether a key is in an iteration.
-fn is_in(web: &Web, key: usize, iteration: Iteration) -> bool {
+fn is_in(web: &Web, key: usize, iteration: IterationTurns) -> bool {
     web.starts.get(key).is_some_and(|start| {
         start
             .around
@@ -58,7 +59,11 @@ fn is_in(web: &Web, key: usize, iteration: Iteration) -> bool {
 }
 
 // That the turns are within the polynomial where a path comes to the iteration.
-fn add_arrival(sought: &mut Sought<'_>, leg: &Leg, turns: &Form) -> Result<(), Stop> {
+fn add_arrival(
+    sought: &mut PotentialProgram<'_>,
+    leg: &Leg,
+    turns: &Form,
+) -> Result<(), SearchStop> {
     let alloc = sought.draft.alloc;
     let mut entries = Vec::new(alloc);
     sought.unknowns.add(&mut entries, 0, &leg.forms, 1, alloc)?;
@@ -69,12 +74,12 @@ fn add_arrival(sought: &mut Sought<'_>, leg: &Leg, turns: &Form) -> Result<(), S
 // The program of the turns of an iteration; none where they are not counted.
 fn sought_of<'a>(
     web: &'a Web,
-    known: &'a Known,
-    wanted: &Wanted<'_>,
-    iteration: Iteration,
-) -> Result<Option<Sought<'a>>, Stop> {
+    known: &'a KnownClaims,
+    wanted: &WantedBound<'_>,
+    iteration: IterationTurns,
+) -> Result<Option<PotentialProgram<'a>>, SearchStop> {
     let alloc = web.record.alloc;
-    let mut sought = Sought::of_facts(web, known, wanted, alloc)?;
+    let mut sought = PotentialProgram::of_facts(web, known, wanted, alloc)?;
     for leg in &web.legs {
         let Some(target) = leg.target else {
             continue;
@@ -95,10 +100,10 @@ fn sought_of<'a>(
 
 // That the turns are within the polynomial, at each key in the iteration.
 fn claims_of(
-    sought: &Sought<'_>,
-    values: &Values,
-    iteration: Iteration,
-) -> Result<Vec<Form>, Stop> {
+    sought: &PotentialProgram<'_>,
+    values: &Assignment,
+    iteration: IterationTurns,
+) -> Result<Vec<Form>, SearchStop> {
     let alloc = sought.draft.alloc;
     let most = whole(&sought.unknowns.polynomial(values, alloc)?, alloc)?;
     let one = Form::constant(1, alloc)?;
@@ -120,10 +125,10 @@ fn claims_of(
 // What is claimed of the turns of an iteration, if that is found, and the work that is spent on it.
 fn tried(
     web: &Web,
-    known: &Known,
-    wanted: &Wanted<'_>,
-    iteration: Iteration,
-) -> Result<(Option<Vec<Form>>, usize), Stop> {
+    known: &KnownClaims,
+    wanted: &WantedBound<'_>,
+    iteration: IterationTurns,
+) -> Result<(Option<Vec<Form>>, usize), SearchStop> {
     let Some(sought) = sought_of(web, known, wanted, iteration)? else {
         return Ok((None, 0));
     };
@@ -140,10 +145,10 @@ fn tried(
 // Adds bounds on turns to what is known, each sought like this one.
 pub fn add_turns(
     web: &Web,
-    known: &mut Known,
-    wanted: &Wanted<'_>,
+    known: &mut KnownClaims,
+    wanted: &WantedBound<'_>,
     alloc: Global,
-) -> Result<(), Stop> {
+) -> Result<(), SearchStop> {
     for iteration in iterations(web, alloc)? {
         let (claims, work) = tried(web, known, wanted, iteration)?;
         known.spend(work)?;

@@ -1,11 +1,11 @@
-// What is wanted of a program.
+//! What is wanted of a program.
 use teco_bounds::keys::{HELD, LINE_END, LINE_START, is_count};
 use teco_bounds::measures::{TURNS, family_of};
-use teco_bounds::reduced::Limits;
+use teco_bounds::reduced::UsedLimits;
 
 // What is promised: that a measure is no more than a polynomial, by coefficients of a degree in N.
 #[derive(Clone, Copy)]
-pub struct Wanted<'a> {
+pub struct WantedBound<'a> {
     pub place: u32,
     // 1, or -1 where the measure is to be no less than the polynomial taken once less.
     pub sign: i128,
@@ -13,7 +13,7 @@ pub struct Wanted<'a> {
     // The highest power of N that stands alone.
     pub highest: u32,
     pub is_loose: bool,
-    pub limits: Limits,
+    pub limits: UsedLimits,
     pub scope: Scope,
     // The most pivots of the program, and the most rows.
     pub pivots: usize,
@@ -22,7 +22,7 @@ pub struct Wanted<'a> {
     pub only: Option<&'a [usize]>,
 }
 
-impl Wanted<'_> {
+impl WantedBound<'_> {
     // Whether the measure counts what a run does.
     pub fn is_count(&self) -> bool {
         is_count(self.place)

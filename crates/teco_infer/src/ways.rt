@@ -1,11 +1,12 @@
-// Ways round a loop whose steps have no bound.
-use crate::potentials::{Known, promised};
-use crate::wanted::{Scope, Wanted};
+//! Ways round a loop whose steps have no bound.
+use crate::known_claims::KnownClaims;
+use crate::potentials::promised;
+use crate::wanted::{Scope, WantedBound};
 use std::alloc::Global;
-use teco_bounds::fault::Stop;
+use teco_bounds::fault::SearchStop;
 use teco_bounds::keys::STEPS;
 use teco_bounds::legs::Web;
-use teco_bounds::reduced::Limits;
+use teco_bounds::reduced::UsedLimits;
 
 // The most paths of which some are sought that have no bound together.
 const MOST_PATHS: usize = 60;
@@ -16,14 +17,19 @@ const PIVOTS: usize = 500;
 const ROWS: usize = 2000;
 
 // Whether some paths alone have a bound of their steps that is found.
-fn is_bounded(web: &Web, known: &mut Known, places: &[usize], alloc: Global) -> Result<bool, Stop> {
-    let wanted = Wanted {
+fn is_bounded(
+    web: &Web,
+    known: &mut KnownClaims,
+    places: &[usize],
+    alloc: Global,
+) -> Result<bool, SearchStop> {
+    let wanted = WantedBound {
         place: STEPS,
         sign: 1,
         degree: 2,
         highest: 2,
         is_loose: false,
-        limits: Limits::None,
+        limits: UsedLimits::None,
         scope: Scope::All,
         pivots: PIVOTS,
         rows: ROWS,
@@ -33,7 +39,7 @@ fn is_bounded(web: &Web, known: &mut Known, places: &[usize], alloc: Global) -> 
 }
 
 // The places of the paths round a node, or else of all between cut points, but not too many.
-fn places_of(web: &Web, node: Option<usize>, alloc: Global) -> Result<Vec<usize>, Stop> {
+fn places_of(web: &Web, node: Option<usize>, alloc: Global) -> Result<Vec<usize>, SearchStop> {
     let mut places = Vec::new(alloc);
     for (place, leg) in web.legs.iter().enumerate() {
         let is_one = match node {
@@ -48,7 +54,7 @@ fn places_of(web: &Web, node: Option<usize>, alloc: Global) -> Result<Vec<usize>
 }
 
 // The first node whose turns alone have no bound that is found, or else the last one.
-pub fn endless(web: &Web, known: &mut Known, alloc: Global) -> Result<usize, Stop> {
+pub fn endless(web: &Web, known: &mut KnownClaims, alloc: Global) -> Result<usize, SearchStop> {
     let mut last = 0;
     for start in web.starts.get(1..).unwrap_or(&[]) {
         if start.number == last {
@@ -64,7 +70,7 @@ pub fn endless(web: &Web, known: &mut Known, alloc: Global) -> Result<usize, Sto
 }
 
 // All places but one.
-fn without(places: &[usize], left_out: usize, alloc: Global) -> Result<Vec<usize>, Stop> {
+fn without(places: &[usize], left_out: usize, alloc: Global) -> Result<Vec<usize>, SearchStop> {
     let mut rest = Vec::new(alloc);
     for place in places {
         if *place != left_out {
@@ -78,10 +84,10 @@ fn without(places: &[usize], left_out: usize, alloc: Global) -> Result<Vec<usize
 // stays so where the rest has none. Where work runs out they may be more than need be.
 fn fewest(
     web: &Web,
-    known: &mut Known,
+    known: &mut KnownClaims,
     places: Vec<usize>,
     alloc: Global,
-) -> Result<Vec<usize>, Stop> {
+) -> Result<Vec<usize>, SearchStop> {
     let all = Vec::from_slice(alloc, &places)?;
     let mut left = places;
     for place in all.iter().rev() {
@@ -99,10 +105,10 @@ fn fewest(
 // all between cut points.
 pub fn unbounded(
     web: &Web,
-    known: &mut Known,
+    known: &mut KnownClaims,
     number: usize,
     alloc: Global,
-) -> Result<Vec<usize>, Stop> {
+) -> Result<Vec<usize>, SearchStop> {
     let turns = places_of(web, Some(number), alloc)?;
     if !is_bounded(web, known, &turns, alloc)? {
         return fewest(web, known, turns, alloc);

@@ -1,17 +1,18 @@
-// What steps are worth, level by level.
-use crate::levels::{Level, Levels, PIVOTS, add_number, all_levels, wanted_of};
+//! What steps are worth, level by level.
+use crate::known_claims::KnownClaims;
+use crate::levels::{KeyLevel, Levels, PIVOTS, add_number, all_levels, wanted_of};
 use crate::polynomials::{most, plus, times, whole};
-use crate::potentials::{Known, Promise, Sought, lowest, product, rounded_up};
-use crate::wanted::{Scope, Wanted};
+use crate::potentials::{FoundPromise, PotentialProgram, lowest, product, rounded_up};
+use crate::wanted::{Scope, WantedBound};
 use std::alloc::Global;
-use teco_bounds::fault::Stop;
+use teco_bounds::fault::SearchStop;
 use teco_bounds::keys::STEPS;
 use teco_bounds::legs::{Leg, Web};
 use teco_bounds::programs::add_form;
 use teco_bounds::steps::constant;
 use teco_linear::Form;
 use teco_rows::applied::form_at;
-use teco_simplex::{Sign, Values};
+use teco_simplex::{Assignment, Sign};
 
 // What paths cost: a number each, or its variable.
 #[derive(Drop)]
@@ -22,11 +23,11 @@ struct Costs {
 
 // That the steps of a path are within its cost and what falls.
 fn add_cost(
-    sought: &mut Sought<'_>,
+    sought: &mut PotentialProgram<'_>,
     costs: &mut Costs,
     leg: &Leg,
     is_given: bool,
-) -> Result<(), Stop> {
+) -> Result<(), SearchStop> {
     let alloc = sought.draft.alloc;
     let web = sought.web;
     let mut entries = Vec::new(alloc);
@@ -60,15 +61,15 @@ fn add_cost(
 // be least.
 fn costs_of<'a>(
     web: &'a Web,
-    known: &'a Known,
+    known: &'a KnownClaims,
     is_given: bool,
-) -> Result<(Sought<'a>, Costs), Stop> {
+) -> Result<(PotentialProgram<'a>, Costs), SearchStop> {
     let alloc = web.record.alloc;
-    let wanted = Wanted {
+    let wanted = WantedBound {
         scope: Scope::Few,
         ..wanted_of(1)
     };
-    let mut sought = Sought::of_facts(web, known, &wanted, alloc)?;
+    let mut sought = PotentialProgram::of_facts(web, known, &wanted, alloc)?;
     let mut costs = Costs {
         numbers: Vec::new(alloc),
         variables: Vec::new(alloc),
@@ -105,7 +106,7 @@ impl Paid {
 }
 
 // What a path costs, rounded up.
-fn cost_at(costs: &Costs, values: &Values, place: usize) -> u128 {
+fn cost_at(costs: &Costs, values: &Assignment, place: usize) -> u128 {
     let up = match costs.variables.get(place) {
         Some(variable) => {
             let numerator = values.numerators.get(*variable).copied().unwrap_or(0);
@@ -117,14 +118,18 @@ fn cost_at(costs: &Costs, values: &Values, place: usize) -> u128 {
 }
 
 // A polynomial that is a number.
-fn number_of(number: u128, alloc: Global) -> Result<Vec<u128>, Stop> {
+fn number_of(number: u128, alloc: Global) -> Result<Vec<u128>, SearchStop> {
     let mut polynomial = Vec::new(alloc);
     polynomial.push(number)?;
     Ok(polynomial)
 }
 
 // What paths cost, by the values of their program.
-fn paid_by(sought: &Sought<'_>, costs: &Costs, values: &Values) -> Result<Paid, Stop> {
+fn paid_by(
+    sought: &PotentialProgram<'_>,
+    costs: &Costs,
+    values: &Assignment,
+) -> Result<Paid, SearchStop> {
     let alloc = sought.draft.alloc;
     let mut all = Vec::new(alloc);
     for place in 0..costs.numbers.len() {
@@ -151,7 +156,7 @@ fn arriving(
     key: usize,
     tails: &[Vec<u128>],
     alloc: Global,
-) -> Result<Vec<u128>, Stop> {
+) -> Result<Vec<u128>, SearchStop> {
     let tail = tails.get(key).map_or(&[][..], |tail| tail.as_slice());
     match levels.inside(parent, key) {
         Some(level) => plus(&level.all, tail, alloc),
@@ -166,7 +171,7 @@ fn passing(
     parent: Option<usize>,
     place: usize,
     known: (&Paid, &[Vec<u128>]),
-) -> Result<Option<Vec<u128>>, Stop> {
+) -> Result<Option<Vec<u128>>, SearchStop> {
     let (paid, tails) = known;
     let alloc = web.record.alloc;
     let Some(leg) = web.legs.get(place) else {
@@ -193,7 +198,7 @@ fn tails_of(
     parent: Option<usize>,
     paid: &Paid,
     alloc: Global,
-) -> Result<Vec<Vec<u128>>, Stop> {
+) -> Result<Vec<Vec<u128>>, SearchStop> {
     let count = web.starts.len();
     let mut tails: Vec<Vec<u128>> = Vec::new(alloc);
     for _ in 0..count {
@@ -212,12 +217,12 @@ fn tails_of(
 
 // Raises what is to come at a key, and at those of the same level inside.
 fn raise(
-    inside: Option<&Level>,
+    inside: Option<&KeyLevel>,
     key: usize,
     worth: &[u128],
     tails: &mut [Vec<u128>],
     alloc: Global,
-) -> Result<(), Stop> {
+) -> Result<(), SearchStop> {
     for (other, tail) in tails.iter_mut().enumerate() {
         if other == key || inside.is_some_and(|level| level.has(other)) {
             *tail = most(tail, worth, alloc)?;
@@ -233,7 +238,7 @@ fn value(
     at: usize,
     paid: &Paid,
     alloc: Global,
-) -> Result<(), Stop> {
+) -> Result<(), SearchStop> {
     let tails = tails_of(web, levels, Some(at), paid, alloc)?;
     let mut worth: Vec<u128> = Vec::new(alloc);
     let mut first: Vec<u128> = Vec::new(alloc);
@@ -260,7 +265,12 @@ fn value(
 }
 
 // What is to come at a key, as a form over the places of measures.
-fn ahead(levels: &Levels, tops: &[Vec<u128>], key: usize, alloc: Global) -> Result<Form, Stop> {
+fn ahead(
+    levels: &Levels,
+    tops: &[Vec<u128>],
+    key: usize,
+    alloc: Global,
+) -> Result<Form, SearchStop> {
     let one = Form::constant(1, alloc)?;
     let mut sum = match tops.get(key) {
         Some(tail) => product(tail, &one, alloc)?,
@@ -285,7 +295,7 @@ fn all_of(
     paid: &Paid,
     tops: &[Vec<u128>],
     alloc: Global,
-) -> Result<Vec<u128>, Stop> {
+) -> Result<Vec<u128>, SearchStop> {
     let mut first: Vec<u128> = Vec::new(alloc);
     for (place, leg) in web.legs.iter().enumerate() {
         if leg.source != 0 {
@@ -301,7 +311,12 @@ fn all_of(
 }
 
 // What is promised of the steps.
-fn promise_of(web: &Web, levels: &Levels, paid: &Paid, alloc: Global) -> Result<Promise, Stop> {
+fn promise_of(
+    web: &Web,
+    levels: &Levels,
+    paid: &Paid,
+    alloc: Global,
+) -> Result<FoundPromise, SearchStop> {
     let tops = tails_of(web, levels, None, paid, alloc)?;
     let all = all_of(web, levels, paid, &tops, alloc)?;
     let one = Form::constant(1, alloc)?;
@@ -321,7 +336,7 @@ fn promise_of(web: &Web, levels: &Levels, paid: &Paid, alloc: Global) -> Result<
         numerators.push(i128::try_from(*coefficient).unwrap_or(i128::MAX))?;
     }
     let divisor = paid.divisor.first().copied().unwrap_or(1);
-    Ok(Promise {
+    Ok(FoundPromise {
         place: STEPS,
         sign: 1,
         numerators,
@@ -331,7 +346,11 @@ fn promise_of(web: &Web, levels: &Levels, paid: &Paid, alloc: Global) -> Result<
 }
 
 // What paths cost, if that is found, and the work that is spent on it.
-fn tried(web: &Web, known: &Known, is_given: bool) -> Result<(Option<Paid>, usize), Stop> {
+fn tried(
+    web: &Web,
+    known: &KnownClaims,
+    is_given: bool,
+) -> Result<(Option<Paid>, usize), SearchStop> {
     let (sought, costs) = costs_of(web, known, is_given)?;
     let work = sought.draft.work(PIVOTS);
     if work > known.work {
@@ -345,7 +364,7 @@ fn tried(web: &Web, known: &Known, is_given: bool) -> Result<(Option<Paid>, usiz
 }
 
 // What paths cost, if that is found: what is given is tried first.
-fn found_costs(web: &Web, known: &mut Known) -> Result<Option<Paid>, Stop> {
+fn found_costs(web: &Web, known: &mut KnownClaims) -> Result<Option<Paid>, SearchStop> {
     for is_given in [true, false] {
         let (found, work) = tried(web, known, is_given)?;
         known.spend(work)?;
@@ -359,10 +378,10 @@ fn found_costs(web: &Web, known: &mut Known) -> Result<Option<Paid>, Stop> {
 // A promise of the steps by levels, if one is found.
 pub fn promised_by_levels(
     web: &Web,
-    known: &mut Known,
+    known: &mut KnownClaims,
     highest: u32,
     alloc: Global,
-) -> Result<Option<Promise>, Stop> {
+) -> Result<Option<FoundPromise>, SearchStop> {
     let Some(mut levels) = all_levels(web, known, highest, alloc)? else {
         return Ok(None);
     };

@@ -1,9 +1,9 @@
-// What was found as claims of a certificate.
-use crate::potentials::Known;
+//! What was found as claims of a certificate.
+use crate::known_claims::KnownClaims;
 use crate::promises::Promises;
 use teco_base::Reg;
 use teco_bounds::bounds::{Bounds, NONE};
-use teco_bounds::fault::{Refusal, Stop};
+use teco_bounds::fault::{SearchRefusal, SearchStop};
 use teco_bounds::keys::{
     HELD, Key, LAST_LENGTH, LINE_END, LINE_START, POINTER, SIZE, STEPS, TYPED, add_always,
     bound_form, symbol_of,
@@ -12,7 +12,7 @@ use teco_bounds::measures::{
     LENGTH, NUMBER, PUSHED_LENGTH, PUSHED_NUMBER, SINGLES, TURNS, family_of, index_of,
 };
 use teco_bounds::numbers::plus;
-use teco_bounds::search::{Keys, Search};
+use teco_bounds::search::{Keys, PathSearch};
 use teco_claims::{Claim, Claims, Cut, Fraction, Measure, Single, Term};
 use teco_linear::Form;
 use teco_poly::Poly;
@@ -55,7 +55,7 @@ fn register_of(index: u32) -> Option<Reg> {
 }
 
 // The element that an iteration begins at, by how many are open round it.
-fn begin_of(search: &Search<'_>, number: usize, index: u32) -> Option<u32> {
+fn begin_of(search: &PathSearch<'_>, number: usize, index: u32) -> Option<u32> {
     if number == 0 || number > search.course.nodes.len() {
         return None;
     }
@@ -65,7 +65,7 @@ fn begin_of(search: &Search<'_>, number: usize, index: u32) -> Option<u32> {
 }
 
 // The measure of a place at a node.
-fn measure_of(search: &Search<'_>, number: usize, place: u32) -> Option<Measure> {
+fn measure_of(search: &PathSearch<'_>, number: usize, place: u32) -> Option<Measure> {
     let Some(index) = index_of(place) else {
         return Some(Measure::One(single_of(place)?));
     };
@@ -80,7 +80,11 @@ fn measure_of(search: &Search<'_>, number: usize, place: u32) -> Option<Measure>
 }
 
 // A form over the places of measures as a claim; none where it speaks of what has no name.
-pub fn claim_of(search: &Search<'_>, number: usize, form: &Form) -> Result<Option<Claim>, Stop> {
+pub fn claim_of(
+    search: &PathSearch<'_>,
+    number: usize,
+    form: &Form,
+) -> Result<Option<Claim>, SearchStop> {
     let mut terms: Vec<Term> = Vec::new(search.alloc);
     for term in form.terms() {
         let measure = match term.symbol {
@@ -105,14 +109,14 @@ pub fn claim_of(search: &Search<'_>, number: usize, form: &Form) -> Result<Optio
 }
 
 // What always holds at a key.
-fn always(search: &Search<'_>, key: &Key) -> Result<Bounds, Stop> {
+fn always(search: &PathSearch<'_>, key: &Key) -> Result<Bounds, SearchStop> {
     let mut always = Bounds::none(search.alloc)?.of_symbols(&key.told, search.alloc)?;
     add_always(&mut always, &key.told);
     Ok(always)
 }
 
 // Whether limits are claimed: a register, a turn or a pair has one.
-fn has_limits(search: &Search<'_>, keys: &Keys) -> Result<bool, Stop> {
+fn has_limits(search: &PathSearch<'_>, keys: &Keys) -> Result<bool, SearchStop> {
     for (key, facts) in keys.keys.iter().zip(keys.facts.iter()) {
         let always = always(search, key)?;
         for row in 1..facts.size() {
@@ -127,11 +131,11 @@ fn has_limits(search: &Search<'_>, keys: &Keys) -> Result<bool, Stop> {
 
 // The facts of a key that are claimed, with limits or without.
 pub fn claimed_facts(
-    search: &Search<'_>,
+    search: &PathSearch<'_>,
     key: &Key,
     facts: &Bounds,
     with_limits: bool,
-) -> Result<Vec<Form>, Stop> {
+) -> Result<Vec<Form>, SearchStop> {
     let alloc = search.alloc;
     let always = always(search, key)?;
     let mut left = facts.copied(alloc)?;
@@ -161,12 +165,12 @@ pub fn claimed_facts(
 
 // The cut point of a key, with limits or without.
 fn cut(
-    search: &Search<'_>,
+    search: &PathSearch<'_>,
     keys: &Keys,
     place: usize,
-    known: &Known,
+    known: &KnownClaims,
     with_limits: bool,
-) -> Result<Option<Cut>, Stop> {
+) -> Result<Option<Cut>, SearchStop> {
     let (Some(key), Some(facts)) = (keys.keys.get(place), keys.facts.get(place)) else {
         return Ok(None);
     };
@@ -180,7 +184,7 @@ fn cut(
         if *at == place {
             match claim_of(search, key.number, form)? {
                 Some(claim) => claims.push(claim)?,
-                None => return Err(Stop::Refused(Refusal::TooMuch)),
+                None => return Err(SearchStop::Refused(SearchRefusal::TooMuch)),
             }
         }
     }
@@ -192,14 +196,14 @@ fn cut(
 
 // The claims.
 pub fn claims_of(
-    search: &Search<'_>,
+    search: &PathSearch<'_>,
     keys: &Keys,
-    known: &Known,
+    known: &KnownClaims,
     promises: &Promises,
-) -> Result<Claims, Stop> {
+) -> Result<Claims, SearchStop> {
     let (Some(commands), Some(size)) = (polynomial(&promises.commands), polynomial(&promises.size))
     else {
-        return Err(Stop::Refused(Refusal::TooMuch));
+        return Err(SearchStop::Refused(SearchRefusal::TooMuch));
     };
     let types = match &promises.types {
         Some(types) => polynomial(types),

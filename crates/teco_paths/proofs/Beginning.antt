@@ -23,7 +23,7 @@ use Rattle.teco_rows.specs.declared.measure.Measure.{Measure}
 use Rattle.teco_rows.specs.declared.measure.Measure.TheVariants.{One, Each}
 use Rattle.teco_rows.specs.Measures.{place}
 use Rattle.teco_rows.specs.States.{Point, from_end, levels, measures_of, number_of, length_of, operators_of}
-use Rattle.teco_paths.specs.declared.cut.Cut.{Cut}
+use Rattle.teco_paths.specs.declared.cut.CutState.{CutState}
 use Rattle.teco_paths.specs.Entry.{AreThere, IsEntered, IsEntryClaim, IsEntryCut, family_is_there, is_there}
 use Rattle.teco_paths.specs.Entry.{length_if, used_lengths}
 use Rattle.teco_paths.specs.Symbols.{family_of, measure_of, numbers_of, single_of}
@@ -252,7 +252,7 @@ waits_none : (given : Option ℕ) (a : Arguments) → a ≡ arguments_given give
 waits_none None a e = ap (λ (a : Arguments). operators_of (levels a)) (sym e)
 waits_none (Some n) a e = ap (λ (a : Arguments). operators_of (levels a)) (sym e)
 
-pub is_entry_cut : (lengths : List (Option ℕ)) (argument : Option ArgumentRange) (cut : Cut)
+pub is_entry_cut : (lengths : List (Option ℕ)) (argument : Option ArgumentRange) (cut : CutState)
     → cut.shape.operators.items ≡ None ∷ []
     → cut.shape.iterations ≡ 0 → cut.shape.pushes ≡ 0 → AreThere (is_some argument) cut.present.items
     → All (IsEntryClaim lengths argument) cut.claims.items → IsEntryCut lengths argument cut

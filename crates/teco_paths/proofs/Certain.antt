@@ -22,7 +22,7 @@ use Rattle.teco_model.specs.Run.{Reaches, Ends}
 use Rattle.teco_model.specs.State.{Kept, World, State, Outcome, Next, End, start}
 use Rattle.teco_rows.specs.declared.case.Case.{Case}
 use Rattle.teco_flow_outcomes.specs.Law.{point_of, unread_in}
-use Rattle.teco_paths.specs.declared.cut.Cut.{Cut}
+use Rattle.teco_paths.specs.declared.cut.CutState.{CutState}
 use Rattle.teco_paths.specs.Claims.{IsCaseOf}
 use Rattle.teco_paths.specs.Entry.{HaveLengths, IsEntered, IsEntryCut}
 use Rattle.teco_paths.specs.Paths as paths
@@ -64,7 +64,7 @@ argument_whole (Some range) (Some n) asked =
     record { level = record { first = tt; value = omega (arith, ints, asked.small) }; outer = tt }
 argument_whole argument given asked = absurd (grind arith)
 
-module _ (course : Course) (argument : Option ArgumentRange) (cut : Cut) (case : Case)
+module _ (course : Course) (argument : Option ArgumentRange) (cut : CutState) (case : Case)
     (is_case : IsCaseOf course.size cut case) (is_entry : IsEntryCut course.lengths argument cut)
     (leads : Leads course 1 1 case)
     (followed : All (IsFollowed course) course.cuts) (library : Library) (entry : ℕ) (given : Option ℕ) (world : World)
@@ -239,7 +239,7 @@ in_all laws entry (Some range) (Some n) world most held typed named asked ends =
     digits_end laws entry n world most held typed named asked.small ends
 in_all laws entry argument given world most held typed named asked ends = absurd (grind arith)
 
-pub certain : CallLaws → (course : Course) (argument : Option ArgumentRange) (cut : Cut) (case : Case)
+pub certain : CallLaws → (course : Course) (argument : Option ArgumentRange) (cut : CutState) (case : Case)
     → IsCaseOf course.size cut case → IsEntryCut course.lengths argument cut → Leads course 1 1 case
     → All (IsFollowed course) course.cuts
     → IsCertain course.nodes course.lengths argument course.needs course.commands course.size course.types

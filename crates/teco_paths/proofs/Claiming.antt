@@ -12,7 +12,7 @@ use Rattle.teco_rows.specs.Cases.{value_if}
 use Rattle.teco_rows.specs.Measures.{place}
 use Rattle.teco_rows.specs.States.{Point, IsShape, IsTrueOf, Describes, single}
 use Rattle.teco_rows.specs.declared.measure.Single.TheVariants.{Typed}
-use Rattle.teco_paths.specs.declared.cut.Cut.{Cut}
+use Rattle.teco_paths.specs.declared.cut.CutState.{CutState}
 use Rattle.teco_paths.specs.Claims.{AreClaimed, AreFilled, AreKnown, ArePresent, AreSymbols, ClaimHolds, ComesTo}
 use Rattle.teco_paths.specs.Claims.{HasPresent, filled_by}
 use Rattle.teco_paths.specs.Facts.{IsFact}
@@ -26,7 +26,7 @@ use Rattle.teco_poly.specs.Polynomial as poly
 use Rattle.teco_poly.specs.Polynomial.{Polynomial}
 
 -- a case of symbols is true of a state that is as a cut point says
-pub case_holds : (cut : Cut) (case : Case) (n : ℕ) (s : Point)
+pub case_holds : (cut : CutState) (case : Case) (n : ℕ) (s : Point)
     → AreSymbols cut.present.items case.forms.items
     → All (Holds n (numbers_of s)) case.constraints.items
     → IsShape case.shape s → AreClaimed n cut s → IsTrueOf n (numbers_of s) case s
@@ -68,7 +68,7 @@ module _ (case : Case) (n : ℕ) (v : Valuation) (s : Point) (true_of : IsTrueOf
       (value_same (slice_index_or claims k d) n (values filled n v) (numbers_of s) (same_number filled are)) (h k d l)
 
 -- the whole of a cut point
-pub comes : (case : Case) (cut : Cut) (filled : List (List Term))
+pub comes : (case : Case) (cut : CutState) (filled : List (List Term))
     → case.shape.operators.items ≡ cut.shape.operators.items → case.shape.iterations ≡ cut.shape.iterations
     → case.shape.pushes ≡ cut.shape.pushes → ArePresent cut.present.items case.forms.items
     → AreFilled case.forms.items filled
@@ -116,7 +116,7 @@ shaped shape copy s operators iterations pushes h = record {
 }
 
 -- what is claimed, and facts behind it
-pub all_known : (size : Polynomial) (cut : Cut) (copies facts all : List (List Term))
+pub all_known : (size : Polynomial) (cut : CutState) (copies facts all : List (List Term))
     → ((n : ℕ) (v : Valuation) → All (Holds n v) cut.claims.items → All (Holds n v) copies)
     → All (IsFact size) facts → all ≡ copies ++ facts → AreKnown size cut all
 all_known size cut copies facts all copied are e n s whole room claimed =

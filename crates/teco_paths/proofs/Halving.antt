@@ -9,9 +9,9 @@ use Rattle.teco_linear.specs.Form.{value}
 use Rattle.teco_paths.specs.Paths.{Course, Ends, LeadsOn}
 use Rattle.teco_paths.specs.Runs.{IsAt}
 use Rattle.teco_paths.specs.Steps.{AreHalves, IsWith}
-use Rattle.teco_paths.specs.declared.spot.Spot.{Spot}
+use Rattle.teco_paths.specs.declared.spot.NodeCase.{NodeCase}
 
-pub halves_lead : (spot one other : Spot) (ahead end : List Term) → AreHalves ahead end
+pub halves_lead : (spot one other : NodeCase) (ahead end : List Term) → AreHalves ahead end
     → one.number ≡ spot.number → IsWith spot.case ahead one.case
     → other.number ≡ spot.number → IsWith spot.case end other.case
     → (course : Course) → LeadsOn course one → LeadsOn course other → LeadsOn course spot
@@ -28,7 +28,7 @@ halves_lead spot one other ahead end are one_there one_with other_there other_wi
         (d.0, one_with ground.n d.0 (point_of steps ground.origin s) d.1 (omega (arith, ints, is, are ground.n d.0)))
         cuts
 
-pub both_lead : (course : Course) (one other : Spot) (spots : List Spot) → spots ≡ one ∷ other ∷ []
+pub both_lead : (course : Course) (one other : NodeCase) (spots : List NodeCase) → spots ≡ one ∷ other ∷ []
     → All (LeadsOn course) spots → LeadsOn course one × LeadsOn course other
 both_lead course one other spots are all = by (subst (All (LeadsOn course)) are all) where
   by : All (LeadsOn course) (one ∷ other ∷ []) → LeadsOn course one × LeadsOn course other

@@ -3,7 +3,7 @@ use Rattle.std.proofs.Common.{◌≡◌, ◌⊎◌, inl, inr, ℕ, zero, suc, re
 use Rattle.std.proofs.Common.{◌++◌, length, Bool, true, false}
 use Rattle.std.specs.List.{Any}
 use Rattle.teco_rows.specs.declared.case.Case.{Case}
-use Rattle.teco_paths.specs.declared.spot.Spot.{Spot}
+use Rattle.teco_paths.specs.declared.spot.NodeCase.{NodeCase}
 use Rattle.teco_rows.specs.declared.outcomes.Outcomes.{Outcomes}
 use Rattle.teco_flow_outcomes.specs.Law.{point_of}
 use Rattle.teco_rows.specs.States.{Describes}
@@ -29,7 +29,7 @@ pub left_first : (nodes : List Node) (number : ℕ) (away : Bool) (cases : List 
     → AreLeft nodes number away cases cases []
 left_first nodes number away cases ground steps s t st any = inl any
 
-pub left_none : (nodes : List Node) (number : ℕ) (away : Bool) (cases rest : List Case) (spots : List Spot)
+pub left_none : (nodes : List Node) (number : ℕ) (away : Bool) (cases rest : List Case) (spots : List NodeCase)
     → length rest ≡ 0 → AreLeft nodes number away cases rest spots → AreKept nodes number away cases spots
 left_none nodes number away cases rest spots none left ground steps s t st any = by (left ground steps s t st any)
   where
@@ -39,10 +39,10 @@ left_none nodes number away cases rest spots none left ground steps s t st any =
     by (inl a) = absurd (omega (arith, a.2, none))
     by (inr a) = a
 
-module _ (nodes : List Node) (number : ℕ) (away : Bool) (cases rest : List Case) (case : Case) (spots : List Spot)
+module _ (nodes : List Node) (number : ℕ) (away : Bool) (cases rest : List Case) (case : Case) (spots : List NodeCase)
     (left : AreLeft nodes number away cases (rest ++ case ∷ []) spots) (target : ℕ)
     (is : IsTarget nodes number away case target) where
-  abbrev spot : Spot
+  abbrev spot : NodeCase
   spot = record { number = target; case = case }
 
   pub one_kept : AreLeft nodes number away cases rest (spots ++ spot ∷ [])
@@ -51,7 +51,7 @@ module _ (nodes : List Node) (number : ℕ) (away : Bool) (cases rest : List Cas
       Is : Case → Type 0
       Is c = Describes ground.n c (point_of steps ground.origin t)
 
-      There : Spot → Type 0
+      There : NodeCase → Type 0
       There = IsThere nodes ground steps t
 
       split : Any Is rest ⊎ Is case → Any Is rest ⊎ Any There (spots ++ spot ∷ [])
@@ -66,7 +66,7 @@ module _ (nodes : List Node) (number : ℕ) (away : Bool) (cases rest : List Cas
 
 -- of both ways
 pub spots_both : (nodes : List Node) (number : ℕ) (outcomes : Outcomes) (here there : List Case)
-    (behind elsewhere all : List Spot) → all ≡ behind ++ elsewhere
+    (behind elsewhere all : List NodeCase) → all ≡ behind ++ elsewhere
     → ArePossible outcomes.cases.items here → ArePossible outcomes.away.items there
     → AreKept nodes number false here behind → AreKept nodes number true there elsewhere
     → AreSpots nodes number outcomes all

@@ -7,8 +7,8 @@ use Rattle.std.specs.List.{All}
 use Rattle.teco_law_expansion.specs.Run.{RunsEnd}
 use Rattle.teco_rows.specs.declared.case.Case.{Case}
 use Rattle.teco_flow_outcomes.specs.Law.{point_of}
-use Rattle.teco_paths.specs.declared.cut.Cut.{Cut}
-use Rattle.teco_paths.specs.declared.spot.Spot.{Spot}
+use Rattle.teco_paths.specs.declared.cut.CutState.{CutState}
+use Rattle.teco_paths.specs.declared.spot.NodeCase.{NodeCase}
 use Rattle.teco_paths.specs.Claims.{ComesTo, IsCaseOf}
 use Rattle.teco_paths.specs.Paths.{Arrives, Course, IsFollowed, Leads, LeadsOn}
 use Rattle.teco_paths.specs.Runs.{IsAt, held_in}
@@ -21,7 +21,7 @@ use Rattle.teco_poly.specs.Polynomial.{value}
 use Rattle.teco_verifier.specs.expansion.Node.{Stand, stands, numbered}
 
 -- from the spots behind one
-pub leads_by : (course : Course) (number : ℕ) (case : Case) (spots : List Spot) → IsSmall course case
+pub leads_by : (course : Course) (number : ℕ) (case : Case) (spots : List NodeCase) → IsSmall course case
     → GoOn course.nodes course.needs number case spots → All (LeadsOn course) spots → Leads course 1 number case
 leads_by course number case spots small go all ground steps s of at d cuts =
     let g = go ground steps s of.needs of.linked at d in
@@ -39,7 +39,7 @@ leads_by course number case spots small go all ground steps s of at d cuts =
     (cuts_on course ground steps j s g.next (omega arith) g.goes cuts))
     g.none
 
-pub leads_at_once : (course : Course) (spot : Spot) → Leads course 1 spot.number spot.case → LeadsOn course spot
+pub leads_at_once : (course : Course) (spot : NodeCase) → Leads course 1 spot.number spot.case → LeadsOn course spot
 leads_at_once course spot leads ground steps s linked at d cuts =
     leads ground steps s linked at d (cuts_later course ground steps s cuts)
 
@@ -51,7 +51,7 @@ sharper_leads course number case sharp is leads ground steps s of at d cuts =
     leads ground steps s of at (is ground.n (point_of steps ground.origin s) at.whole.world.kept d) cuts
 
 -- at the end
-pub over_leads : RunsEnd → (course : Course) (spot : Spot) → 0 < spot.number → spot.number - 1 ≡ length course.nodes
+pub over_leads : RunsEnd → (course : Course) (spot : NodeCase) → 0 < spot.number → spot.number - 1 ≡ length course.nodes
     → IsInTime course spot.case → IsSmall course spot.case → TypesNoMore course spot.case → LeadsOn course spot
 over_leads ends course spot some number_is in_time small types ground steps s linked at d cuts =
     let k : spot.number ≡ length course.nodes + 1 = omega (arith, some, number_is) in
@@ -64,7 +64,7 @@ over_leads ends course spot some number_is in_time small types ground steps s li
     (in_time ground.n _ d) (small ground.n _ d) (types ground.n (point_of steps ground.origin s) d)
 
 -- at a cut point
-pub arrives : (course : Course) (spot : Spot) (cut : Cut) → spot.number ≡ cut.number → ComesTo spot.case cut
+pub arrives : (course : Course) (spot : NodeCase) (cut : CutState) → spot.number ≡ cut.number → ComesTo spot.case cut
     → IsInTime course spot.case → Arrives course spot cut
 arrives course spot cut e comes in_time ground steps s at d = record {
   at = subst (λ k. IsAt course.nodes ground k s) e at;
@@ -72,13 +72,13 @@ arrives course spot cut e comes in_time ground steps s at d = record {
   within = in_time ground.n (point_of steps ground.origin s) d;
 }
 
-pub cut_leads : (course : Course) (spot : Spot) (k : ℕ) (cut : Cut) → k < length course.cuts
+pub cut_leads : (course : Course) (spot : NodeCase) (k : ℕ) (cut : CutState) → k < length course.cuts
     → slice_index_or course.cuts k cut ≡ cut → Arrives course spot cut → LeadsOn course spot
 cut_leads course spot k cut l e arrived ground steps s linked at d cuts =
     cut_here course ground steps s cuts (k, cut, l, e, arrived ground steps s at d)
 
 -- from a cut point
-pub cut_followed : (course : Course) (cut : Cut) (case : Case) → IsCaseOf course.size cut case
+pub cut_followed : (course : Course) (cut : CutState) (case : Case) → IsCaseOf course.size cut case
     → Leads course 1 cut.number case → IsFollowed course cut
 cut_followed course cut case is leads ground steps s of at cuts =
     leads ground steps s of at.at (
@@ -88,33 +88,34 @@ cut_followed course cut case is leads ground steps s of at cuts =
     cuts
 
 -- one spot ahead, and those behind it in its place
-all_and_one : (P : Spot → Type 0) (xs : List Spot) (x : Spot) → All P xs → P x → All P (xs ++ x ∷ [])
+all_and_one : (P : NodeCase → Type 0) (xs : List NodeCase) (x : NodeCase) → All P xs → P x → All P (xs ++ x ∷ [])
 all_and_one P [] x h p zero d l = p
 all_and_one P [] x h p (suc k) d l = absurd (omega (arith, l))
 all_and_one P (y ∷ xs) x h p zero d l = h 0 d (omega arith)
 all_and_one P (y ∷ xs) x h p (suc k) d l =
     all_and_one P xs x (λ j e m. h (suc j) e (omega (arith, m))) p k d (omega (arith, l))
 
-pub in_place : (course : Course) (ahead more : List Spot) (spot : Spot)
+pub in_place : (course : Course) (ahead more : List NodeCase) (spot : NodeCase)
     → (All (LeadsOn course) more → LeadsOn course spot)
     → All (LeadsOn course) (ahead ++ more) → All (LeadsOn course) (ahead ++ spot ∷ [])
 in_place course ahead more spot leads all =
     let both = all_both (LeadsOn course) ahead more all in
     all_and_one (LeadsOn course) ahead spot both.0 (leads both.1)
 
-pub all_short : (P : Spot → Type 0) (xs : List Spot) → length xs ≡ 0 → All P xs
+pub all_short : (P : NodeCase → Type 0) (xs : List NodeCase) → length xs ≡ 0 → All P xs
 all_short P xs e k d l = absurd (omega (arith, l, e))
 
 -- one cut point more is followed
-same_there : (cuts : List Cut) (k : ℕ) (c d : Cut) → k < length cuts → slice_index_or cuts k c ≡ slice_index_or cuts k d
+same_there : (cuts : List CutState) (k : ℕ) (c d : CutState) → k < length cuts
+    → slice_index_or cuts k c ≡ slice_index_or cuts k d
 same_there [] k c d l = absurd (omega arith)
 same_there (x ∷ cuts) zero c d l = refl
 same_there (x ∷ cuts) (suc k) c d l = same_there cuts k c d (omega (arith, l))
 
-pub followed_more : (course : Course) (n : ℕ) (cut : Cut) → n < length course.cuts
+pub followed_more : (course : Course) (n : ℕ) (cut : CutState) → n < length course.cuts
     → slice_index_or course.cuts n cut ≡ cut
-    → ((k : ℕ) (d : Cut) → k < n → IsFollowed course (slice_index_or course.cuts k d)) → IsFollowed course cut
-    → (k : ℕ) (d : Cut) → k < n + 1 → IsFollowed course (slice_index_or course.cuts k d)
+    → ((k : ℕ) (d : CutState) → k < n → IsFollowed course (slice_index_or course.cuts k d)) → IsFollowed course cut
+    → (k : ℕ) (d : CutState) → k < n + 1 → IsFollowed course (slice_index_or course.cuts k d)
 followed_more course n cut within e first last k d l = by (cases_order k n)
   where
     by : (k ≡ n) ⊎ ((k < n) ⊎ (n < k)) → IsFollowed course (slice_index_or course.cuts k d)

@@ -38,7 +38,7 @@ use Rattle.teco_flow_outcomes.specs.Flow.{turned}
 use Rattle.teco_rows.specs.Foretold.{Begins, IsGuarded}
 use Rattle.teco_flow_outcomes.specs.Law.{Goes, StepsTo, loops_in, point_of}
 use Rattle.teco_rows.specs.States.{Describes, IsTrueOf}
-use Rattle.teco_paths.specs.declared.spot.Spot.{Spot}
+use Rattle.teco_paths.specs.declared.spot.NodeCase.{NodeCase}
 use Rattle.teco_search_outcomes.specs.PageSearches.{Comes, IsStill}
 use Rattle.teco_paths.specs.Runs.{Ground, IsAt, held_in}
 use Rattle.teco_paths.specs.Steps.{AreSpots, GoOn, GoesBy, GoesByFrames, GoesOn, IsCall, IsDuring, IsEndOrCall}
@@ -126,7 +126,7 @@ guarded_hold : (targets : List Guarded) (n : ℕ) (v : Valuation) → All IsKept
     → All (IsGuarded n v) targets
 guarded_hold targets n v kept k d l w agree hold = kept k d l n w hold
 
-module _ (laws : Laws) (nodes : List Node) (number : ℕ) (case : Case) (all : Outcomes) (spots : List Spot)
+module _ (laws : Laws) (nodes : List Node) (number : ℕ) (case : Case) (all : Outcomes) (spots : List NodeCase)
     (asked : AreMet case all) (are : AreSpots nodes number all spots)
     (ground : Ground) (steps : ℕ) (s : State) (linked : AreLinked ground.library ground.entry nodes)
     (at : IsAt nodes ground number s) (v : Valuation)
@@ -440,7 +440,7 @@ module _ (laws : Laws) (nodes : List Node) (number : ℕ) (case : Case) (all : O
   text_goes passes one h = by_read passes one node.element refl h
 
 -- ---- the spots behind a node
-module _ (laws : Laws) (nodes : List Node) (number : ℕ) (case : Case) (all : Outcomes) (spots : List Spot)
+module _ (laws : Laws) (nodes : List Node) (number : ℕ) (case : Case) (all : Outcomes) (spots : List NodeCase)
     (asked : AreMet case all) (are : AreSpots nodes number all spots)
     (one : 0 < number) (last : number ≤ length nodes) where
   pub go_on_element : (needs : Needs) (e : Element) → IsRead nodes number (Some e) → IsPlain nodes number e.kind

@@ -12,7 +12,7 @@ use Rattle.teco_rows.specs.declared.measure.Measure.{Measure}
 use Rattle.teco_rows.specs.Cases.{value_if}
 use Rattle.teco_rows.specs.Measures.{place}
 use Rattle.teco_rows.specs.States.{Point, IsShape, IsTrueOf, measures_of}
-use Rattle.teco_paths.specs.declared.cut.Cut.{Cut}
+use Rattle.teco_paths.specs.declared.cut.CutState.{CutState}
 use Rattle.teco_paths.specs.Symbols.{numbers_of}
 use Rattle.teco_poly.specs.Polynomial as poly
 use Rattle.teco_poly.specs.Polynomial.{Polynomial}
@@ -26,7 +26,7 @@ abbrev pub HasPresent : List Bool → Point → Type 0
 HasPresent present s = (m : Measure) → is_some (measures_of s m) ≡ slice_index_or present (place m) false
 
 -- A state is as a cut point says: of its shape, with its measures, and all of its claims hold.
-pub record AreClaimed (n : ℕ) (cut : Cut) (s : Point) : Type 0 where
+pub record AreClaimed (n : ℕ) (cut : CutState) (s : Point) : Type 0 where
   pub shape : IsShape cut.shape s
   pub present : HasPresent cut.present.items s
   pub claims : All (ClaimHolds n s) cut.claims.items
@@ -38,13 +38,13 @@ AreSymbols present forms =
     → value_if (slice_index_or forms k None) n v ≡ (if slice_index_or present k false then Some (v k) else None)
 
 -- what is claimed at a cut point makes all of these hold, at a whole state, where the size may be held
-abbrev pub AreKnown : Polynomial → Cut → List (List Term) → Type 0
+abbrev pub AreKnown : Polynomial → CutState → List (List Term) → Type 0
 AreKnown size cut all =
     (n : ℕ) (s : Point)
     → IsWhole s.kept → poly.value size n ≤ LIMIT → All (ClaimHolds n s) cut.claims.items → All (ClaimHolds n s) all
 
 -- a case describes each whole state that is as a cut point says, where the size may be held
-abbrev pub IsCaseOf : Polynomial → Cut → Case → Type 0
+abbrev pub IsCaseOf : Polynomial → CutState → Case → Type 0
 IsCaseOf size cut case =
     (n : ℕ) (s : Point)
     → IsWhole s.kept → poly.value size n ≤ LIMIT → AreClaimed n cut s → IsTrueOf n (numbers_of s) case s
@@ -66,5 +66,5 @@ AreFilled forms filled =
     → value (slice_index_or filled k []) n v ≡ value (filled_by (slice_index_or forms k None)) n v
 
 -- each state that a case describes is as a cut point says
-abbrev pub ComesTo : Case → Cut → Type 0
+abbrev pub ComesTo : Case → CutState → Type 0
 ComesTo case cut = (n : ℕ) (v : Valuation) (s : Point) → IsTrueOf n v case s → AreClaimed n cut s

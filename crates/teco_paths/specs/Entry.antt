@@ -14,7 +14,7 @@ use Rattle.teco_rows.specs.declared.measure.Family.TheVariants.{Value}
 use Rattle.teco_rows.specs.declared.measure.Measure.{Measure}
 use Rattle.teco_rows.specs.declared.measure.Measure.TheVariants.{One, Each}
 use Rattle.teco_rows.specs.States.{Point}
-use Rattle.teco_paths.specs.declared.cut.Cut.{Cut}
+use Rattle.teco_paths.specs.declared.cut.CutState.{CutState}
 use Rattle.teco_paths.specs.Claims.{AreClaimed, ClaimHolds}
 use Rattle.teco_paths.specs.Symbols.{measure_of}
 use Rattle.teco_verifier.specs.facts.Argument.{arguments_given}
@@ -71,6 +71,6 @@ AreThere has_argument present =
     (k : ℕ) → slice_index_or present k false ≡ is_there has_argument (measure_of k)
 
 -- the state at each entry is as a cut point says
-abbrev pub IsEntryCut : List (Option ℕ) → Option ArgumentRange → Cut → Type 0
+abbrev pub IsEntryCut : List (Option ℕ) → Option ArgumentRange → CutState → Type 0
 IsEntryCut lengths argument cut =
     (n : ℕ) (given : Option ℕ) (s : Point) → IsEntered lengths argument n given s → AreClaimed n cut s

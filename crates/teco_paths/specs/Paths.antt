@@ -9,8 +9,8 @@ use Rattle.teco_model.specs.State.{State}
 use Rattle.teco_rows.specs.declared.case.Case.{Case}
 use Rattle.teco_flow_outcomes.specs.Law.{point_of}
 use Rattle.teco_rows.specs.States.{Describes}
-use Rattle.teco_paths.specs.declared.cut.Cut.{Cut}
-use Rattle.teco_paths.specs.declared.spot.Spot.{Spot}
+use Rattle.teco_paths.specs.declared.cut.CutState.{CutState}
+use Rattle.teco_paths.specs.declared.spot.NodeCase.{NodeCase}
 use Rattle.teco_paths.specs.Claims.{AreClaimed}
 use Rattle.teco_paths.specs.Runs.{Ground, IsAt, EndsBy}
 use Rattle.teco_poly.specs.Polynomial.{Polynomial, value}
@@ -23,7 +23,7 @@ pub record Course : Type 0 where
   pub nodes : List Node
   pub lengths : List (Option ℕ)
   pub needs : Needs
-  pub cuts : List Cut
+  pub cuts : List CutState
   pub commands : Polynomial
   pub size : Polynomial
   pub types : Option Polynomial
@@ -41,7 +41,7 @@ Ends course ground steps s =
     (most_typed course.types ground.n ground.origin.typed) steps s
 
 -- A run comes to a cut point in time, and all is as it says.
-pub record IsAtCut (course : Course) (ground : Ground) (steps : ℕ) (s : State) (cut : Cut) : Type 0 where
+pub record IsAtCut (course : Course) (ground : Ground) (steps : ℕ) (s : State) (cut : CutState) : Type 0 where
   pub at : IsAt course.nodes ground cut.number s
   pub claimed : AreClaimed ground.n cut (point_of steps ground.origin s)
   pub within : steps ≤ value course.commands ground.n
@@ -63,18 +63,18 @@ Leads course least number case =
     → Ends course ground steps s
 
 -- and so from a spot
-abbrev pub LeadsOn : Course → Spot → Type 0
+abbrev pub LeadsOn : Course → NodeCase → Type 0
 LeadsOn course spot = Leads course 0 spot.number spot.case
 
 -- A run ends from a cut point, if it does so from those that it comes to then.
-abbrev pub IsFollowed : Course → Cut → Type 0
+abbrev pub IsFollowed : Course → CutState → Type 0
 IsFollowed course cut =
     (ground : Ground) (steps : ℕ) (s : State)
     → IsOf course ground → IsAtCut course ground steps s cut
     → CutsEnd course ground 1 steps s → Ends course ground steps s
 
 -- Each state that a spot describes, as a run comes to it, is at a cut point in time.
-abbrev pub Arrives : Course → Spot → Cut → Type 0
+abbrev pub Arrives : Course → NodeCase → CutState → Type 0
 Arrives course spot cut =
     (ground : Ground) (steps : ℕ) (s : State)
     → IsAt course.nodes ground spot.number s → Describes ground.n spot.case (point_of steps ground.origin s)

@@ -38,8 +38,8 @@ pub record IsAt (nodes : List Node) (ground : Ground) (number : ℕ) (s : State)
 abbrev pub held_in : State → ℕ
 held_in s = length s.world.kept.text + unread_in s.world.files.input
 
--- So many steps after its entry a run comes to its end in time, without a code, by no command of files, holds no more
--- than it may on the way, and has typed no more in the end.
+-- A run comes to its end so many steps after its entry and in time, without a code, by no command of files, holds no
+-- more than it may on the way, and has typed no more in the end.
 pub record EndsBy (most held : ℕ) (typed : Option ℕ) (steps : ℕ) (s : State) : Type 0 where
   pub more : ℕ
   pub new : World

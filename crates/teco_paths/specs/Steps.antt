@@ -31,7 +31,7 @@ use Rattle.teco_rows.specs.Foretold.{Begins}
 use Rattle.teco_flow_outcomes.specs.Law.{Goes, frames_on, place_away, point_of}
 use Rattle.teco_search_outcomes.specs.PageSearches.{Comes}
 use Rattle.teco_rows.specs.States.{Point, IsShape, IsTrueOf, Describes}
-use Rattle.teco_paths.specs.declared.spot.Spot.{Spot}
+use Rattle.teco_paths.specs.declared.spot.NodeCase.{NodeCase}
 use Rattle.teco_paths.specs.Runs.{Ground, StandsBy, IsAt, held_in}
 use Rattle.teco_paths.specs.Paths.{Course}
 use Rattle.teco_poly.specs.Polynomial.{value}
@@ -131,12 +131,12 @@ IsTest nodes number =
     → (e : Element) × (test : Test) × (node.element ≡ Some e) × (e.kind ≡ kind.Flow (flow.Test test))
 
 -- a spot is where a state stands, and describes it
-pub record IsThere (nodes : List Node) (ground : Ground) (steps : ℕ) (t : State) (spot : Spot) : Type 0 where
+pub record IsThere (nodes : List Node) (ground : Ground) (steps : ℕ) (t : State) (spot : NodeCase) : Type 0 where
   pub stands : StandsBy nodes ground spot.number t
   pub described : Describes ground.n spot.case (point_of steps ground.origin t)
 
 -- Where one of the cases describes the state that such a step comes to, one of the spots is there.
-abbrev pub AreKept : List Node → ℕ → Bool → List Case → List Spot → Type 0
+abbrev pub AreKept : List Node → ℕ → Bool → List Case → List NodeCase → Type 0
 AreKept nodes number away cases spots =
     (ground : Ground) (steps : ℕ) (s t : State)
     → Steps nodes ground number away s t
@@ -184,7 +184,7 @@ AreSifted cases rest found =
     → Any (λ case. Describes n case s) rest ⊎ Any (λ case. Describes n case s) found
 
 -- or one of the cases that are left does
-abbrev pub AreLeft : List Node → ℕ → Bool → List Case → List Case → List Spot → Type 0
+abbrev pub AreLeft : List Node → ℕ → Bool → List Case → List Case → List NodeCase → Type 0
 AreLeft nodes number away cases rest spots =
     (ground : Ground) (steps : ℕ) (s t : State)
     → Steps nodes ground number away s t
@@ -193,7 +193,7 @@ AreLeft nodes number away cases rest spots =
     ⊎ Any (IsThere nodes ground steps t) spots
 
 -- of either way
-abbrev pub AreSpots : List Node → ℕ → Outcomes → List Spot → Type 0
+abbrev pub AreSpots : List Node → ℕ → Outcomes → List NodeCase → Type 0
 AreSpots nodes number outcomes spots =
     (ground : Ground) (steps : ℕ) (s t : State) (away : Bool)
     → Steps nodes ground number away s t
@@ -235,9 +235,9 @@ pub record IsPlain (nodes : List Node) (number : ℕ) (k : Kind) : Type 0 where
   pub writes :
       (node : Node) → numbered nodes number ≡ Some node → written_by k ≡ None ⊎ (node.names_macro ≡ false)
 
--- So many steps and one more go to a state that one of the spots describes, where it stands, by no command of files;
+-- One step more than so many goes to a state that one of the spots describes, where it stands, by no command of files;
 -- and no more is held before the last than at first.
-pub record GoesOn (nodes : List Node) (ground : Ground) (steps : ℕ) (s : State) (spots : List Spot) : Type 0 where
+pub record GoesOn (nodes : List Node) (ground : Ground) (steps : ℕ) (s : State) (spots : List NodeCase) : Type 0 where
   pub more : ℕ
   pub next : State
   pub goes : Reaches (more + 1) s next
@@ -250,7 +250,7 @@ pub record GoesOn (nodes : List Node) (ground : Ground) (steps : ℕ) (s : State
   pub there : Any (IsThere nodes ground (steps + (more + 1)) next) spots
 
 -- from each state at a number that a case describes
-abbrev pub GoOn : List Node → Needs → ℕ → Case → List Spot → Type 0
+abbrev pub GoOn : List Node → Needs → ℕ → Case → List NodeCase → Type 0
 GoOn nodes needs number case spots =
     (ground : Ground) (steps : ℕ) (s : State)
     → ground.needs ≡ needs → AreLinked ground.library ground.entry nodes → IsAt nodes ground number s

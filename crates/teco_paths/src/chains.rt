@@ -1,7 +1,7 @@
 //! Multipliers of constraints that bound differences: chains of them.
 
 use crate::fault::PathFault;
-use crate::kinds::{CONSTANT, Kind, placed};
+use crate::kinds::{CONSTANT, Monomial, placed};
 use std::alloc::Global;
 use teco_linear::Form;
 
@@ -14,10 +14,10 @@ struct Edge {
     constraint: usize,
 }
 
-// The kinds that differences are of, and what constraints say of these.
+/// The kinds that differences are of, and what constraints say of these.
 #[derive(Drop)]
-struct Graph {
-    kinds: Vec<Kind>,
+pub struct Graph {
+    kinds: Vec<Monomial>,
     edges: Vec<Edge>,
 }
 
@@ -26,7 +26,7 @@ pub fn is_difference(form: &Form) -> bool {
     let mut above = 0usize;
     let mut below = 0usize;
     for term in form.terms() {
-        if Kind::of(term) == CONSTANT {
+        if Monomial::of(term) == CONSTANT {
             continue;
         }
         match term.coefficient {
@@ -40,7 +40,7 @@ pub fn is_difference(form: &Form) -> bool {
 
 // What a form says, if it bounds a difference.
 fn edge_of(
-    kinds: &mut Vec<Kind>,
+    kinds: &mut Vec<Monomial>,
     form: &Form,
     constraint: usize,
 ) -> Result<Option<Edge>, PathFault> {
@@ -48,7 +48,7 @@ fn edge_of(
     let mut from = None;
     let mut to = None;
     for term in form.terms() {
-        let kind = Kind::of(term);
+        let kind = Monomial::of(term);
         if kind == CONSTANT {
             most = term.coefficient;
         } else if term.coefficient == 1 && from.is_none() {
@@ -67,29 +67,14 @@ fn edge_of(
     }))
 }
 
-// What those of the constraints say that bound differences.
-fn graph_of(constraints: &[Form], places: &[usize], alloc: Global) -> Result<Graph, PathFault> {
-    let mut kinds = Vec::new(alloc);
-    kinds.push(CONSTANT)?;
-    let mut edges = Vec::new(alloc);
-    for place in places {
-        if let Some(form) = constraints.get(*place) {
-            if let Some(edge) = edge_of(&mut kinds, form, *place)? {
-                edges.push(edge)?;
-            }
-        }
-    }
-    Ok(Graph { kinds, edges })
-}
-
 // How far kinds are above where a search began at most, and by which edge.
 #[derive(Drop)]
-struct Distances {
+struct ChainDistances {
     least: Vec<Option<i128>>,
     by: Vec<Option<usize>>,
 }
 
-impl Distances {
+impl ChainDistances {
     fn far(&self, kind: usize) -> Option<i128> {
         match self.least.get(kind) {
             Some(least) => *least,
@@ -137,11 +122,39 @@ impl Distances {
 }
 
 impl Graph {
+    /// What those of the constraints at these places say that bound differences.
+    pub fn of(constraints: &[Form], places: &[usize], alloc: Global) -> Result<Graph, PathFault> {
+        let mut kinds = Vec::with_capacity(alloc, places.len())?;
+        kinds.push(CONSTANT)?;
+        let mut edges = Vec::with_capacity(alloc, places.len())?;
+        for place in places {
+            if let Some(form) = constraints.get(*place) {
+                if let Some(edge) = edge_of(&mut kinds, form, *place)? {
+                    edges.push(edge)?;
+                }
+            }
+        }
+        Ok(Graph { kinds, edges })
+    }
+
+    /// The constraints whose sum shows a bound on a difference, or that they can't all hold, where the
+    /// target is -1.
+    pub fn chain(&mut self, target: &Form, alloc: Global) -> Result<Option<Vec<usize>>, PathFault> {
+        let Some(wanted) = edge_of(&mut self.kinds, target, 0)? else {
+            return Ok(None);
+        };
+        if wanted.from == wanted.to {
+            self.circle(alloc)
+        } else {
+            self.path(&wanted, alloc)
+        }
+    }
+
     // The constraints by which a kind was reached, back to another, if their sum shows what is wanted:
     // where all can't hold, it may not.
     fn back(
         &self,
-        distances: &Distances,
+        distances: &ChainDistances,
         wanted: &Edge,
         alloc: Global,
     ) -> Result<Option<Vec<usize>>, PathFault> {
@@ -170,15 +183,15 @@ impl Graph {
     }
 
     // Distances before the search.
-    fn begun(&self, least: Option<i128>, alloc: Global) -> Result<Distances, PathFault> {
-        Ok(Distances {
+    fn begun(&self, least: Option<i128>, alloc: Global) -> Result<ChainDistances, PathFault> {
+        Ok(ChainDistances {
             least: Vec::from_elem(alloc, least, self.kinds.len())?,
             by: Vec::from_elem(alloc, None, self.kinds.len())?,
         })
     }
 
     // A chain that shows that a difference is within a bound.
-    fn chain(&self, wanted: &Edge, alloc: Global) -> Result<Option<Vec<usize>>, PathFault> {
+    fn path(&self, wanted: &Edge, alloc: Global) -> Result<Option<Vec<usize>>, PathFault> {
         let mut distances = self.begun(None, alloc)?;
         if let Some(least) = distances.least.get_mut(wanted.from) {
             *least = Some(0);
@@ -220,24 +233,5 @@ impl Graph {
             constraint: 0,
         };
         self.back(&distances, &below, alloc)
-    }
-}
-
-/// The constraints, of those at these places, whose sum shows a bound on a difference, or that they
-/// can't all hold, where the target is -1.
-pub fn chain(
-    constraints: &[Form],
-    places: &[usize],
-    target: &Form,
-    alloc: Global,
-) -> Result<Option<Vec<usize>>, PathFault> {
-    let mut graph = graph_of(constraints, places, alloc)?;
-    let Some(wanted) = edge_of(&mut graph.kinds, target, 0)? else {
-        return Ok(None);
-    };
-    if wanted.from == wanted.to {
-        graph.circle(alloc)
-    } else {
-        graph.chain(&wanted, alloc)
     }
 }

@@ -5,8 +5,8 @@ ghost use Rattle.teco_paths.specs.Sure.{IsCertain};
 ghost use Rattle.teco_poly.specs.Polynomial as poly;
 
 use crate::coefficients::coefficients;
-use crate::course::Course;
-use crate::cut::{Cut, case_of};
+use crate::course::MacroGraph;
+use crate::cut::{CutState, case_of};
 use crate::entry::entry_cut;
 use crate::fault::PathFault;
 use crate::shapes::shapes;
@@ -32,7 +32,7 @@ pub struct Called<'a> {
 // Claims as paths are followed by: the cut points, which measures the macro uses, and the coefficients.
 #[derive(Drop)]
 struct Prepared {
-    cuts: Vec<Cut>,
+    cuts: Vec<CutState>,
     used: Vec<bool>,
     commands: Vec<u64>,
     size: Vec<u64>,
@@ -64,8 +64,12 @@ fn coefficients_if(polynomial: &Option<Poly>, alloc: Global) -> Result<Option<Ve
 }
 
 // The shapes of states at the nodes.
-fn stands(called: &Called<'_>, prepared: &Prepared, alloc: Global) -> Result<Vec<Cut>, PathFault> {
-    let course = Course {
+fn stands(
+    called: &Called<'_>,
+    prepared: &Prepared,
+    alloc: Global,
+) -> Result<Vec<CutState>, PathFault> {
+    let course = MacroGraph {
         nodes: called.nodes,
         lengths: called.lengths,
         needs: called.needs,
@@ -80,8 +84,8 @@ fn stands(called: &Called<'_>, prepared: &Prepared, alloc: Global) -> Result<Vec
     shapes(&course, entry, alloc)
 }
 
-// The same with cut points.
-fn with_cuts(prepared: Prepared, cuts: Vec<Cut>) -> Prepared
+// What is prepared, with these cut points in place of none.
+fn with_cuts(prepared: Prepared, cuts: Vec<CutState>) -> Prepared
     ensures commands { result.commands.items ≡ prepared.commands.items }
     ensures size { result.size.items ≡ prepared.size.items }
     ensures types { result.types ≡ prepared.types }
@@ -130,7 +134,7 @@ fn check_prepared(called: &Called<'_>, prepared: &Prepared, alloc: Global) -> Re
         called.now.needs prepared.now.commands.items prepared.now.size.items
         (option_map (λ t. t.items) prepared.now.types)) }
 {
-    let course = Course {
+    let course = MacroGraph {
         nodes: called.nodes,
         lengths: called.lengths,
         needs: called.needs,

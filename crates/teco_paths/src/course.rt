@@ -3,7 +3,7 @@ ghost use Rattle.std.specs.Prelude.{◌≡◌, ◌+ℤ◌, ◌*◌, ◌^◌, ℕ
 ghost use Rattle.teco_linear.specs.Form.{Valuation, value};
 ghost use Rattle.teco_poly.specs.Polynomial as poly;
 
-use crate::cut::Cut;
+use crate::cut::CutState;
 use std::alloc::Global;
 use std::marker::Model;
 use teco_expansion::Nodes;
@@ -15,18 +15,18 @@ use teco_model::Needs;
 /// commands a run may take and how much it may hold, and how many bytes it may type, if that is
 /// claimed: polynomials in N, each by its coefficients, that of the constant first.
 #[derive(Drop)]
-pub struct Course<'a> {
+pub struct MacroGraph<'a> {
     pub nodes: &'a Nodes<'a>,
     pub lengths: &'a [Option<usize>],
     pub needs: Needs,
     pub used: &'a [bool],
-    pub cuts: &'a [Cut],
+    pub cuts: &'a [CutState],
     pub commands: &'a [u64],
     pub size: &'a [u64],
     pub types: Option<&'a [u64]>,
 }
 
-impl<'a> Model for Course<'a> {
+impl<'a> Model for MacroGraph<'a> {
     ghost use Rattle.std.specs.Prelude.{option_map};
     ghost use Rattle.teco_paths.specs.Paths as model;
 

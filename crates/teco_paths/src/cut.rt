@@ -21,7 +21,7 @@ use teco_rows::case::{Case, Shape};
 /// of which of these is told what always holds, and what is claimed: each symbol is the measure in its
 /// place.
 #[derive(Drop)]
-pub struct Cut {
+pub struct CutState {
     pub number: usize,
     pub shape: Shape,
     pub present: Vec<bool>,
@@ -29,7 +29,7 @@ pub struct Cut {
     pub claims: Vec<Form>,
 }
 
-/// The same shape once more.
+/// A copy of a shape.
 pub fn copied_shape(shape: &Shape, alloc: Global) -> Result<Shape, PathFault>
     ensures operators { IfOk result (λ copy. copy.operators.items ≡ shape.now.operators.items) }
     ensures iterations { IfOk result (λ copy. copy.iterations ≡ shape.now.iterations) }
@@ -70,7 +70,7 @@ fn symbols_of(present: &[bool], alloc: Global) -> Result<Vec<Option<Form>>, Path
 }
 
 // What is claimed at a cut point, and what always holds.
-fn known(size: &[u64], cut: &Cut, alloc: Global) -> Result<Vec<Form>, PathFault>
+fn known(size: &[u64], cut: &CutState, alloc: Global) -> Result<Vec<Form>, PathFault>
     ensures { IfOk result (λ all. AreKnown size.now cut.now all.items) }
 {
     let mut all = copied_constraints(&cut.claims, alloc)?;
@@ -80,7 +80,7 @@ fn known(size: &[u64], cut: &Cut, alloc: Global) -> Result<Vec<Form>, PathFault>
 }
 
 /// The case of the states that are as a cut point says: each measure is a symbol.
-pub fn case_of(size: &[u64], cut: &Cut, alloc: Global) -> Result<Case, PathFault>
+pub fn case_of(size: &[u64], cut: &CutState, alloc: Global) -> Result<Case, PathFault>
     ensures { IfOk result (λ case. IsCaseOf size.now cut.now case) }
 {
     let Ok(symbols) = u32::try_from(cut.present.len()) else {
@@ -228,7 +228,7 @@ fn are_claims_so(
 }
 
 /// Whether each state that a case describes is as a cut point says.
-pub fn comes_to(case: &Case, cut: &Cut, alloc: Global) -> Result<bool, PathFault>
+pub fn comes_to(case: &Case, cut: &CutState, alloc: Global) -> Result<bool, PathFault>
     ensures { IfOk result (λ answer. OnTrue answer (ComesTo case.now cut.now)) }
 {
     if !is_same_shape(&case.shape, &cut.shape) || !are_marked(&cut.present, &case.forms) {

@@ -10,7 +10,7 @@ ghost use Rattle.teco_paths.specs.Entry.{AreThere, IsEntryClaim, IsEntryCut, is_
 ghost use Rattle.teco_paths.specs.Symbols.{measure_of};
 ghost use Rattle.teco_verifier.specs.table.Printed.{steps_before};
 
-use crate::cut::Cut;
+use crate::cut::CutState;
 use crate::facts::{no_less, no_more};
 use crate::fault::PathFault;
 use std::alloc::Global;
@@ -212,7 +212,7 @@ pub fn entry_cut(
     argument: Option<ArgumentRange>,
     used: &[bool],
     alloc: Global,
-) -> Result<Cut, PathFault>
+) -> Result<CutState, PathFault>
     ensures { IfOk result (λ cut. IsEntryCut lengths.now argument cut) }
 {
     let present = present(argument.is_some(), alloc)?;
@@ -220,7 +220,7 @@ pub fn entry_cut(
     let told = both(&present, used, alloc)?;
     let mut operators = Vec::new(alloc);
     operators.push(None)?;
-    Ok(Cut {
+    Ok(CutState {
         number: 1,
         shape: Shape {
             operators,

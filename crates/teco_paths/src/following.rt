@@ -4,13 +4,13 @@ ghost use Rattle.std.specs.Bool.{OnTrue};
 ghost use Rattle.std.specs.List.{All};
 ghost use Rattle.teco_paths.specs.Paths.{Arrives, IsFollowed, Leads, LeadsOn};
 
-use crate::course::Course;
-use crate::cut::{Cut, case_of, comes_to};
+use crate::course::MacroGraph;
+use crate::cut::{CutState, case_of, comes_to};
 use crate::fault::PathFault;
 use crate::halves::halves;
 use crate::light::lighter;
 use crate::sharp::sharpened;
-use crate::spot::Spot;
+use crate::spot::NodeCase;
 use crate::steps::{behind, is_in_time, is_small, types_no_more};
 use std::alloc::Global;
 use teco_rows::case::Case;
@@ -19,7 +19,7 @@ use teco_rows::case::Case;
 pub const MOST_SPOTS: usize = 20_000;
 
 // Whether a path is at the end, in time.
-fn is_over(course: &Course<'_>, spot: &Spot, alloc: Global) -> Result<bool, PathFault>
+fn is_over(course: &MacroGraph<'_>, spot: &NodeCase, alloc: Global) -> Result<bool, PathFault>
     ensures { IfOk result (λ answer. OnTrue answer (LeadsOn course.now spot.now)) }
 {
     teco_law_expansion::laws::runs_end();
@@ -33,7 +33,11 @@ fn is_over(course: &Course<'_>, spot: &Spot, alloc: Global) -> Result<bool, Path
 }
 
 // Why a path may not be over at the end.
-fn not_over(course: &Course<'_>, spot: &Spot, alloc: Global) -> Result<PathFault, PathFault> {
+fn not_over(
+    course: &MacroGraph<'_>,
+    spot: &NodeCase,
+    alloc: Global,
+) -> Result<PathFault, PathFault> {
     let is_quiet = types_no_more(course, &spot.case, alloc)?;
     if is_quiet {
         Ok(PathFault::Commands(spot.number))
@@ -43,7 +47,12 @@ fn not_over(course: &Course<'_>, spot: &Spot, alloc: Global) -> Result<PathFault
 }
 
 // Whether it has come to a cut point, in time.
-fn is_arrived(course: &Course<'_>, spot: &Spot, cut: &Cut, alloc: Global) -> Result<bool, PathFault>
+fn is_arrived(
+    course: &MacroGraph<'_>,
+    spot: &NodeCase,
+    cut: &CutState,
+    alloc: Global,
+) -> Result<bool, PathFault>
     ensures { IfOk result (λ answer. OnTrue answer (Arrives course.now spot.now cut.now)) }
 {
     if spot.number != cut.number {
@@ -58,7 +67,7 @@ fn is_arrived(course: &Course<'_>, spot: &Spot, cut: &Cut, alloc: Global) -> Res
 }
 
 // Whether it has come to one of the cut points.
-fn is_at_cut(course: &Course<'_>, spot: &Spot, alloc: Global) -> Result<bool, PathFault>
+fn is_at_cut(course: &MacroGraph<'_>, spot: &NodeCase, alloc: Global) -> Result<bool, PathFault>
     ensures { IfOk result (λ answer. OnTrue answer (LeadsOn course.now spot.now)) }
 {
     for cut in course.cuts {
@@ -70,12 +79,16 @@ fn is_at_cut(course: &Course<'_>, spot: &Spot, alloc: Global) -> Result<bool, Pa
 }
 
 // Whether a node has a cut point.
-fn has_cut(course: &Course<'_>, number: usize) -> bool {
+fn has_cut(course: &MacroGraph<'_>, number: usize) -> bool {
     course.cuts.iter().any(|cut| cut.number == number)
 }
 
 // The spots behind one at which a path is neither over nor at a cut point.
-fn spots_ahead(course: &Course<'_>, spot: &Spot, alloc: Global) -> Result<Vec<Spot>, PathFault>
+fn spots_ahead(
+    course: &MacroGraph<'_>,
+    spot: &NodeCase,
+    alloc: Global,
+) -> Result<Vec<NodeCase>, PathFault>
     ensures { IfOk result (λ spots.
         All (LeadsOn course.now) spots.items → LeadsOn course.now spot.now) }
 {
@@ -98,14 +111,18 @@ fn spots_ahead(course: &Course<'_>, spot: &Spot, alloc: Global) -> Result<Vec<Sp
 }
 
 // The spots behind one, of whose case all is taken that is known, and no more than is of use.
-fn onward(course: &Course<'_>, spot: Spot, alloc: Global) -> Result<Vec<Spot>, PathFault>
+fn onward(
+    course: &MacroGraph<'_>,
+    spot: NodeCase,
+    alloc: Global,
+) -> Result<Vec<NodeCase>, PathFault>
     ensures { IfOk result (λ spots.
         All (LeadsOn course.now) spots.items → LeadsOn course.now spot) }
 {
-    let Spot { number, case } = spot;
+    let NodeCase { number, case } = spot;
     let sharp = sharpened(case, alloc)?;
     let light = lighter(sharp, alloc)?;
-    let spot = Spot {
+    let spot = NodeCase {
         number,
         case: light,
     };
@@ -113,7 +130,7 @@ fn onward(course: &Course<'_>, spot: Spot, alloc: Global) -> Result<Vec<Spot>, P
 }
 
 // Follows all paths from some spots, to cut points and to the end.
-fn follow(course: &Course<'_>, spots: Vec<Spot>, alloc: Global) -> Result<(), PathFault>
+fn follow(course: &MacroGraph<'_>, spots: Vec<NodeCase>, alloc: Global) -> Result<(), PathFault>
     ensures { OnOk result (All (LeadsOn course.now) spots.items) }
 {
     let mut ahead = spots;
@@ -129,7 +146,7 @@ fn follow(course: &Course<'_>, spots: Vec<Spot>, alloc: Global) -> Result<(), Pa
 
 /// Follows all paths from a case at a node.
 pub fn follow_case(
-    course: &Course<'_>,
+    course: &MacroGraph<'_>,
     number: usize,
     case: &Case,
     alloc: Global,
@@ -141,7 +158,7 @@ pub fn follow_case(
 }
 
 // Follows all paths from a cut point.
-fn follow_cut(course: &Course<'_>, cut: &Cut, alloc: Global) -> Result<(), PathFault>
+fn follow_cut(course: &MacroGraph<'_>, cut: &CutState, alloc: Global) -> Result<(), PathFault>
     ensures { OnOk result (IsFollowed course.now cut.now) }
 {
     let case = case_of(course.size, cut, alloc)?;
@@ -149,7 +166,7 @@ fn follow_cut(course: &Course<'_>, cut: &Cut, alloc: Global) -> Result<(), PathF
 }
 
 /// Follows all paths from all cut points.
-pub fn follow_cuts(course: &Course<'_>, alloc: Global) -> Result<(), PathFault>
+pub fn follow_cuts(course: &MacroGraph<'_>, alloc: Global) -> Result<(), PathFault>
     ensures { OnOk result (All (IsFollowed course.now) course.now.cuts) }
 {
     for cut in course.cuts {

@@ -7,7 +7,7 @@ ghost use Rattle.teco_paths.specs.Steps.{AreHalves, IsWith};
 use crate::cut::copied_shape;
 use crate::fault::PathFault;
 use crate::implied::is_so_nearby;
-use crate::spot::Spot;
+use crate::spot::NodeCase;
 use std::alloc::Global;
 use teco_linear::Form;
 use teco_rows::applied::{copied_constraints, copied_forms};
@@ -53,12 +53,12 @@ fn case_with(case: &Case, form: Form, alloc: Global) -> Result<Case, PathFault>
 }
 
 // The spot with one constraint more.
-fn spot_with(spot: &Spot, form: Form, alloc: Global) -> Result<Spot, PathFault>
+fn spot_with(spot: &NodeCase, form: Form, alloc: Global) -> Result<NodeCase, PathFault>
     ensures number { IfOk result (λ more. more.number ≡ spot.now.number) }
     ensures case { IfOk result (λ more. IsWith spot.now.case form more.case) }
 {
     let case = case_with(&spot.case, form, alloc)?;
-    Ok(Spot {
+    Ok(NodeCase {
         number: spot.number,
         case,
     })
@@ -66,7 +66,7 @@ fn spot_with(spot: &Spot, form: Form, alloc: Global) -> Result<Spot, PathFault>
 
 /// The spot where its pointer is in front of the end of the buffer, and where it is there. Where one of
 /// both is known, there is nothing to tell apart, and what is claimed at the node is not implied.
-pub fn halves(spot: &Spot, alloc: Global) -> Result<Vec<Spot>, PathFault>
+pub fn halves(spot: &NodeCase, alloc: Global) -> Result<Vec<NodeCase>, PathFault>
     ensures { IfOk result (λ spots. (course : Course) → All (LeadsOn course) spots.items
         → LeadsOn course spot.now) }
 {

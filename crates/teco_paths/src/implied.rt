@@ -6,7 +6,7 @@ ghost use Rattle.teco_linear.specs.Implied.{Implies};
 ghost use Rattle.teco_paths.specs.Steps.{AreMet, IsImpossible, IsKept};
 
 use crate::fault::PathFault;
-use crate::multipliers::{Depth, Found, find};
+use crate::multipliers::{Combination, Depth, find};
 use std::alloc::Global;
 use teco_linear::{Form, LinearFault, is_implied};
 use teco_rows::applied::copied_constraints;
@@ -16,7 +16,7 @@ use teco_rows::outcomes::{Guarded, Outcomes};
 // Whether multipliers show it. Where a number passes its bounds, they do not.
 fn is_shown(
     constraints: &[Form],
-    found: &Found,
+    found: &Combination,
     target: &Form,
     alloc: Global,
 ) -> Result<bool, PathFault>

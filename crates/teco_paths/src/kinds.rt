@@ -6,21 +6,21 @@ use teco_linear::{Form, Term};
 
 /// A symbol or none, times a power of N.
 #[derive(Clone, Copy, PartialEq, Eq)]
-pub struct Kind {
+pub struct Monomial {
     pub symbol: Option<u32>,
     pub power: u32,
 }
 
 /// The kind of constants.
-pub const CONSTANT: Kind = Kind {
+pub const CONSTANT: Monomial = Monomial {
     symbol: None,
     power: 0,
 };
 
-impl Kind {
+impl Monomial {
     /// That of a term.
-    pub fn of(term: &Term) -> Kind {
-        Kind {
+    pub fn of(term: &Term) -> Monomial {
+        Monomial {
             symbol: term.symbol,
             power: term.power,
         }
@@ -29,7 +29,7 @@ impl Kind {
     /// How often it is in a form.
     pub fn coefficient(self, form: &Form) -> i128 {
         for term in form.terms() {
-            if self == Kind::of(term) {
+            if self == Monomial::of(term) {
                 return term.coefficient;
             }
         }
@@ -38,7 +38,7 @@ impl Kind {
 }
 
 /// The place of a kind among others, where it is added if it is not there.
-pub fn placed(kinds: &mut Vec<Kind>, kind: Kind) -> Result<usize, PathFault> {
+pub fn placed(kinds: &mut Vec<Monomial>, kind: Monomial) -> Result<usize, PathFault> {
     for place in 0..kinds.len() {
         if kinds[place] == kind {
             return Ok(place);
@@ -81,12 +81,12 @@ pub fn highest_alone(form: &Form) -> u32 {
 }
 
 /// The kinds of these forms, each once, that of constants first.
-pub fn kinds_of(forms: &[&Form], alloc: Global) -> Result<Vec<Kind>, PathFault> {
+pub fn kinds_of(forms: &[&Form], alloc: Global) -> Result<Vec<Monomial>, PathFault> {
     let mut kinds = Vec::new(alloc);
     kinds.push(CONSTANT)?;
     for form in forms {
         for term in form.terms() {
-            placed(&mut kinds, Kind::of(term))?;
+            placed(&mut kinds, Monomial::of(term))?;
         }
     }
     Ok(kinds)

@@ -1,13 +1,17 @@
 //! Which multipliers show that constraints imply a form. Nothing is promised of what is found.
 
-use crate::chains::{chain, is_difference};
+use crate::chains::{Graph, is_difference};
 use crate::fault::PathFault;
-use crate::kinds::{Kind, highest, highest_alone, highest_in, kinds_of};
+use crate::kinds::{Monomial, highest, highest_alone, highest_in, kinds_of, placed};
+use crate::points::is_refuted;
 use crate::relevant::{near, relevant};
+use crate::shifted::{Shifted, with_chain};
 use crate::useful::useful;
 use std::alloc::Global;
 use teco_linear::{Form, Multiplier};
-use teco_simplex::{Answer, Program, Relation, Row, Sign, SimplexFault, Values};
+use teco_simplex::{
+    Assignment, Condition, LinearProgram, Relation, Sign, SimplexFault, SolverAnswer,
+};
 
 // The most steps of the search.
 const PIVOTS: usize = 2000;
@@ -32,14 +36,14 @@ pub enum Depth {
 
 /// Multipliers, and the divisor.
 #[derive(Drop)]
-pub struct Found {
+pub struct Combination {
     pub multipliers: Vec<Multiplier>,
     pub divisor: u64,
 }
 
 // A constraint times a power of N.
 #[derive(Clone, Copy)]
-struct Column {
+struct ConstraintMultiple {
     constraint: usize,
     power: u32,
 }
@@ -50,13 +54,13 @@ fn columns_of(
     places: &[usize],
     most: u32,
     alloc: Global,
-) -> Result<Vec<Column>, PathFault> {
+) -> Result<Vec<ConstraintMultiple>, PathFault> {
     let mut columns = Vec::new(alloc);
     for place in places {
         if let Some(constraint) = constraints.get(*place) {
             let highest = highest_in(constraint);
             for power in 0..=most.saturating_sub(highest) {
-                columns.push(Column {
+                columns.push(ConstraintMultiple {
                     constraint: *place,
                     power,
                 })?;
@@ -66,94 +70,95 @@ fn columns_of(
     Ok(columns)
 }
 
-// How often a kind is in a constraint times a power of N.
-fn coefficient(constraints: &[Form], column: Column, kind: Kind) -> i128 {
-    match (
-        constraints.get(column.constraint),
-        kind.power.checked_sub(column.power),
-    ) {
-        (Some(constraint), Some(power)) => Kind { power, ..kind }.coefficient(constraint),
-        _ => 0,
+// The rows of a program: what the multipliers do to the terms of each kind.
+#[derive(Drop)]
+struct Sums {
+    kinds: Vec<Monomial>,
+    terms: Vec<Vec<teco_simplex::Summand>>,
+}
+
+impl Sums {
+    // No terms of the kinds that stand in the target.
+    fn of(target: &Form, alloc: Global) -> Result<Sums, PathFault> {
+        let kinds = kinds_of(&[target], alloc)?;
+        let mut terms = Vec::with_capacity(alloc, 16)?;
+        for _ in &kinds {
+            terms.push(Vec::with_capacity(alloc, 8)?)?;
+        }
+        Ok(Sums { kinds, terms })
+    }
+
+    // Adds a constraint times the power of N of a column, which is a variable.
+    fn add(
+        &mut self,
+        constraint: &Form,
+        power: u32,
+        variable: usize,
+        alloc: Global,
+    ) -> Result<(), PathFault> {
+        for term in constraint.terms() {
+            let kind = Monomial {
+                symbol: term.symbol,
+                power: term.power.saturating_add(power),
+            };
+            let place = placed(&mut self.kinds, kind)?;
+            if place == self.terms.len() {
+                self.terms.push(Vec::with_capacity(alloc, 8)?)?;
+            }
+            if let Some(terms) = self.terms.get_mut(place) {
+                terms.push(teco_simplex::Summand {
+                    variable,
+                    coefficient: term.coefficient,
+                })?;
+            }
+        }
+        Ok(())
     }
 }
 
 // What the multipliers must do to the terms of a kind: none with a symbol may stay, nor a negative
 // one without.
-fn row_of(
-    constraints: &[Form],
-    columns: &[Column],
-    target: &Form,
-    kind: Kind,
-    alloc: Global,
-) -> Result<Row, PathFault> {
-    let mut terms = Vec::new(alloc);
-    for variable in 0..columns.len() {
-        let coefficient = coefficient(constraints, columns[variable], kind);
-        if coefficient != 0 {
-            terms.push(teco_simplex::Term {
-                variable,
-                coefficient,
-            })?;
-        }
-    }
+fn row_of(kind: Monomial, terms: Vec<teco_simplex::Summand>, target: &Form) -> Condition {
     let relation = if kind.symbol.is_some() {
         Relation::Equal
     } else {
         Relation::AtMost
     };
-    Ok(Row {
+    Condition {
         terms,
         relation,
         bound: kind.coefficient(target),
-    })
-}
-
-// The kinds that stand in the columns or in the target.
-fn all_kinds(
-    constraints: &[Form],
-    columns: &[Column],
-    target: &Form,
-    alloc: Global,
-) -> Result<Vec<Kind>, PathFault> {
-    let mut kinds = kinds_of(&[target], alloc)?;
-    for column in columns {
-        if let Some(constraint) = constraints.get(column.constraint) {
-            for term in constraint.terms() {
-                let kind = Kind {
-                    symbol: term.symbol,
-                    power: term.power.saturating_add(column.power),
-                };
-                crate::kinds::placed(&mut kinds, kind)?;
-            }
-        }
     }
-    Ok(kinds)
 }
 
 // The program whose values are multipliers.
 fn program_of(
     constraints: &[Form],
-    columns: &[Column],
+    columns: &[ConstraintMultiple],
     target: &Form,
     alloc: Global,
-) -> Result<Program, PathFault> {
-    let kinds = all_kinds(constraints, columns, target, alloc)?;
-    let mut program = Program::new(alloc);
-    for _ in columns {
+) -> Result<LinearProgram, PathFault> {
+    let mut sums = Sums::of(target, alloc)?;
+    let mut program = LinearProgram::new(alloc);
+    for (variable, column) in columns.iter().enumerate() {
         program.add_variable(Sign::NonNegative)?;
+        if let Some(constraint) = constraints.get(column.constraint) {
+            sums.add(constraint, column.power, variable, alloc)?;
+        }
     }
-    for kind in &kinds {
-        program.add_row(row_of(constraints, columns, target, *kind, alloc)?)?;
+    let Sums { kinds, terms } = sums;
+    for (kind, terms) in kinds.into_iter().zip(terms) {
+        program.add_row(row_of(kind, terms, target))?;
     }
     Ok(program)
 }
 
 // Values as multipliers, if these numbers hold them.
 fn multipliers_of(
-    columns: &[Column],
-    values: &Values,
+    columns: &[ConstraintMultiple],
+    values: &Assignment,
     alloc: Global,
-) -> Result<Option<Found>, PathFault> {
+) -> Result<Option<Combination>, PathFault> {
     let Ok(divisor) = u64::try_from(values.denominator) else {
         return Ok(None);
     };
@@ -170,14 +175,14 @@ fn multipliers_of(
             })?;
         }
     }
-    Ok(Some(Found {
+    Ok(Some(Combination {
         multipliers,
         divisor,
     }))
 }
 
 // Each of these constraints once.
-fn once(places: &[usize], alloc: Global) -> Result<Found, PathFault> {
+fn once(places: &[usize], alloc: Global) -> Result<Combination, PathFault> {
     let mut multipliers = Vec::new(alloc);
     for place in places {
         multipliers.push(Multiplier {
@@ -186,7 +191,28 @@ fn once(places: &[usize], alloc: Global) -> Result<Found, PathFault> {
             power: 0,
         })?;
     }
-    Ok(Found {
+    Ok(Combination {
+        multipliers,
+        divisor: 1,
+    })
+}
+
+// A constraint once, and those of a chain so many times.
+fn of_shifted(shifted: &Shifted, alloc: Global) -> Result<Combination, PathFault> {
+    let mut multipliers = Vec::with_capacity(alloc, shifted.chain.len().saturating_add(1))?;
+    multipliers.push(Multiplier {
+        constraint: shifted.constraint,
+        factor: 1,
+        power: 0,
+    })?;
+    for place in &shifted.chain {
+        multipliers.push(Multiplier {
+            constraint: *place,
+            factor: shifted.times,
+            power: 0,
+        })?;
+    }
+    Ok(Combination {
         multipliers,
         divisor: 1,
     })
@@ -199,11 +225,11 @@ fn by_powers(
     target: &Form,
     most: u32,
     alloc: Global,
-) -> Result<Option<Found>, PathFault> {
+) -> Result<Option<Combination>, PathFault> {
     let columns = columns_of(constraints, places, most, alloc)?;
     let program = program_of(constraints, &columns, target, alloc)?;
     match program.solve(alloc, PIVOTS) {
-        Ok(Answer::Found(values)) => multipliers_of(&columns, &values, alloc),
+        Ok(SolverAnswer::Found(values)) => multipliers_of(&columns, &values, alloc),
         Err(SimplexFault::Memory) => Err(PathFault::Memory),
         _ => Ok(None),
     }
@@ -242,7 +268,7 @@ fn by_program(
     target: &Form,
     has_more: bool,
     alloc: Global,
-) -> Result<Option<Found>, PathFault> {
+) -> Result<Option<Combination>, PathFault> {
     let mut tried = None;
     for most in tried_powers(constraints, places, target, has_more) {
         if tried == Some(most) {
@@ -269,25 +295,15 @@ fn is_any_limit(constraints: &[Form], places: &[usize]) -> bool {
     places.iter().any(|place| constraints.get(*place).is_some_and(|form| is_limit(form)))
 }
 
-// The constraints that say something, each once.
-fn distinct(
-    constraints: &[Form],
-    places: &[usize],
-    alloc: Global,
-) -> Result<Vec<usize>, PathFault> {
-    let mut left: Vec<usize> = Vec::new(alloc);
-    for place in places {
-        let Some(form) = constraints.get(*place) else {
-            continue;
-        };
-        let is_known = left.iter().any(|other| constraints
-            .get(*other)
-            .is_some_and(|known| known.terms() == form.terms()));
-        if !is_known && !form.is_harmless() {
-            left.push(*place)?;
-        }
+// Whether each constraint says something that none before it says.
+fn speaking(constraints: &[Form], alloc: Global) -> Result<Vec<bool>, PathFault> {
+    let mut all = Vec::with_capacity(alloc, constraints.len())?;
+    for (place, form) in constraints.iter().enumerate() {
+        let before = constraints.get(..place).unwrap_or(&[]);
+        let is_known = before.iter().any(|known| known.terms() == form.terms());
+        all.push(!is_known && !form.is_harmless())?;
     }
-    Ok(left)
+    Ok(all)
 }
 
 // Whether these constraints and the target bound differences alone: then there are no multipliers
@@ -299,15 +315,15 @@ fn are_differences(constraints: &[Form], places: &[usize], target: &Form) -> boo
             .is_some_and(|form| is_difference(form)))
 }
 
-// Which constraints programs are made of, and whether a chain of differences would have been found.
+// Which constraints programs are made of: those that say something, and which have limits or none.
 #[derive(Clone, Copy)]
-struct Reach {
+struct Reach<'a> {
     depth: Depth,
     has_limits: bool,
-    is_chained: bool,
+    speaking: &'a [bool],
 }
 
-impl Reach {
+impl Reach<'_> {
     // How many steps from the seeds are gone at most.
     fn most(self) -> usize {
         match self.depth {
@@ -316,9 +332,12 @@ impl Reach {
         }
     }
 
-    // Whether a constraint may stand in a program.
-    fn takes(self, constraint: &Form) -> bool {
-        self.has_limits || !is_limit(constraint)
+    // Whether the constraint at a place may stand in a program.
+    fn takes(self, constraints: &[Form], place: usize) -> bool {
+        self.speaking.get(place) == Some(&true)
+            && constraints
+                .get(place)
+                .is_some_and(|form| self.has_limits || !is_limit(form))
     }
 }
 
@@ -327,7 +346,7 @@ fn reached(
     constraints: &[Form],
     seeds: &[Form],
     steps: usize,
-    reach: Reach,
+    reach: Reach<'_>,
     alloc: Global,
 ) -> Result<Vec<usize>, PathFault> {
     let mut places = if steps < NEAR {
@@ -335,10 +354,16 @@ fn reached(
     } else {
         relevant(constraints, seeds, alloc)?
     };
-    places.retain(|place| constraints
-        .get(*place)
-        .is_some_and(|form| reach.takes(form)));
-    distinct(constraints, &places, alloc)
+    places.retain(|place| reach.takes(constraints, *place));
+    Ok(places)
+}
+
+// Whether differences alone can't all hold, so that there may be multipliers where there is no chain.
+fn is_round(constraints: &[Form], seeds: &[Form], alloc: Global) -> Result<bool, PathFault> {
+    let below = Form::constant(-1, alloc)?;
+    let places = relevant(constraints, seeds, alloc)?;
+    let mut graph = Graph::of(constraints, &places, alloc)?;
+    Ok(graph.chain(&below, alloc)?.is_some())
 }
 
 // By linear programs of more and more constraints: first of those that speak of the seeds' symbols
@@ -348,9 +373,9 @@ fn by_steps(
     constraints: &[Form],
     seeds: &[Form],
     target: &Form,
-    reach: Reach,
+    reach: Reach<'_>,
     alloc: Global,
-) -> Result<Option<Found>, PathFault> {
+) -> Result<Option<Combination>, PathFault> {
     let mut tried = 0;
     for steps in 0..=reach.most() {
         let places = reached(constraints, seeds, steps, reach, alloc)?;
@@ -359,7 +384,7 @@ fn by_steps(
             continue;
         }
         tried = places.len();
-        if reach.is_chained && are_differences(constraints, &places, target) {
+        if are_differences(constraints, &places, target) && !is_round(constraints, seeds, alloc)? {
             continue;
         }
         let Some(useful) = useful(constraints, &places, target, alloc)? else {
@@ -379,13 +404,15 @@ fn by_programs(
     constraints: &[Form],
     seeds: &[Form],
     target: &Form,
-    reach: Reach,
+    depth: Depth,
     alloc: Global,
-) -> Result<Option<Found>, PathFault> {
+) -> Result<Option<Combination>, PathFault> {
+    let speaking = speaking(constraints, alloc)?;
     for has_limits in [false, true] {
         let reach = Reach {
+            depth,
             has_limits,
-            ..reach
+            speaking: &speaking,
         };
         let found = by_steps(constraints, seeds, target, reach, alloc)?;
         if found.is_some() {
@@ -396,26 +423,28 @@ fn by_programs(
 }
 
 /// Looks for multipliers that show a target, by way of the constraints that are connected with the
-/// seeds by symbols: for chains of differences first, and then by linear programs.
+/// seeds by symbols: for chains of differences first, and then by linear programs, unless values are
+/// found that show that there are none.
 pub fn find(
     constraints: &[Form],
     seeds: &[Form],
     target: &Form,
     depth: Depth,
     alloc: Global,
-) -> Result<Option<Found>, PathFault> {
+) -> Result<Option<Combination>, PathFault> {
     if target.is_harmless() {
         return Ok(Some(once(&[], alloc)?));
     }
     let places = relevant(constraints, seeds, alloc)?;
-    if let Some(found) = chain(constraints, &places, target, alloc)? {
+    let mut graph = Graph::of(constraints, &places, alloc)?;
+    if let Some(found) = graph.chain(target, alloc)? {
         return Ok(Some(once(&found, alloc)?));
     }
-    let below = Form::constant(-1, alloc)?;
-    let reach = Reach {
-        depth,
-        has_limits: false,
-        is_chained: chain(constraints, &places, &below, alloc)?.is_none(),
-    };
-    by_programs(constraints, seeds, target, reach, alloc)
+    if let Some(found) = with_chain(constraints, &places, target, &mut graph, alloc)? {
+        return Ok(Some(of_shifted(&found, alloc)?));
+    }
+    if is_refuted(constraints, &places, target, alloc)? {
+        return Ok(None);
+    }
+    by_programs(constraints, seeds, target, depth, alloc)
 }

@@ -7,7 +7,7 @@ ghost use Rattle.teco_model.specs.Element.{seen};
 ghost use Rattle.teco_search_outcomes.specs.Pages.{PageLaw};
 ghost use Rattle.teco_paths.specs.Steps.{HasPair, IsMet, IsRead, LawAt, Passes};
 
-use crate::course::Course;
+use crate::course::MacroGraph;
 use crate::fault::PathFault;
 use std::alloc::Global;
 use teco_flow_outcomes::flow::turn;
@@ -58,7 +58,7 @@ fn told_of(case: &Case, page: Page, alloc: Global) -> Result<Outcomes, Fault>
 // The outcomes of a search. It answers where it has a colon or ; is behind it, and else leaves its
 // iteration, where one is open in its text.
 fn search_at(
-    course: &Course<'_>,
+    course: &MacroGraph<'_>,
     number: usize,
     case: &Case,
     element: &Element,
@@ -96,7 +96,7 @@ fn is_met(needs: Needs, page: Page) -> bool
 
 // The outcomes of a search over pages, where an output is open.
 fn long_search_at(
-    course: &Course<'_>,
+    course: &MacroGraph<'_>,
     number: usize,
     case: &Case,
     element: &Element,
@@ -127,7 +127,7 @@ fn long_search_at(
 
 // The outcomes of a command on pages, where its file is open.
 fn page_at(
-    course: &Course<'_>,
+    course: &MacroGraph<'_>,
     number: usize,
     case: &Case,
     element: &Element,
@@ -153,7 +153,7 @@ fn page_at(
 
 // The outcomes of any other element, where a sum fits 32 bits.
 fn fitting_at(
-    course: &Course<'_>,
+    course: &MacroGraph<'_>,
     number: usize,
     case: &Case,
     element: &Element,
@@ -176,7 +176,7 @@ fn fitting_at(
 
 // The outcomes of a command on pages, or of `nA`, which tells a character.
 fn page_or_character(
-    course: &Course<'_>,
+    course: &MacroGraph<'_>,
     number: usize,
     case: &Case,
     element: &Element,
@@ -195,7 +195,7 @@ fn page_or_character(
 
 /// The outcomes of an element at its node, where a sum fits 32 bits.
 pub fn outcomes_at(
-    course: &Course<'_>,
+    course: &MacroGraph<'_>,
     number: usize,
     case: &Case,
     element: &Element,
@@ -218,7 +218,7 @@ pub fn outcomes_at(
 
 /// The outcomes of an element at its node, where a sum may be any number of 32 bits.
 pub fn wrapped_at(
-    course: &Course<'_>,
+    course: &MacroGraph<'_>,
     number: usize,
     case: &Case,
     element: &Element,

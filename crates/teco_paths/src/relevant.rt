@@ -52,11 +52,14 @@ impl Reached {
 
     // Whether a form shares a symbol, or N, with what is reached. One without any is always taken.
     fn touches(&self, form: &Form) -> bool {
-        let is_number = form
-            .terms()
-            .iter()
-            .all(|term| term.symbol.is_none() && term.power == 0);
-        is_number || form.terms().iter().any(|term| self.has(term))
+        let mut is_number = true;
+        for term in form.terms() {
+            if self.has(term) {
+                return true;
+            }
+            is_number = is_number && term.symbol.is_none() && term.power == 0;
+        }
+        is_number
     }
 }
 

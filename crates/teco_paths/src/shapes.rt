@@ -2,11 +2,11 @@
 //! nothing is asked of numbers. Nothing is promised of what is found.
 ghost use Rattle.std.specs.Prelude.{◌<◌, ◌≤◌, length};
 
-use crate::course::Course;
-use crate::cut::{Cut, copied_shape, is_same_shape};
+use crate::course::MacroGraph;
+use crate::cut::{CutState, copied_shape, is_same_shape};
 use crate::fault::PathFault;
 use crate::outcomes::{outcomes_at, passing};
-use crate::spot::Spot;
+use crate::spot::NodeCase;
 use crate::targets::target;
 use std::alloc::Global;
 use teco_expansion::Nodes;
@@ -43,8 +43,8 @@ fn are_same(one: &[bool], other: &[bool]) -> bool {
 }
 
 // The cut point of a spot, at which nothing is claimed.
-fn stand_of(spot: &Spot, alloc: Global) -> Result<Cut, PathFault> {
-    Ok(Cut {
+fn stand_of(spot: &NodeCase, alloc: Global) -> Result<CutState, PathFault> {
+    Ok(CutState {
         number: spot.number,
         shape: copied_shape(&spot.case.shape, alloc)?,
         present: present_in(&spot.case.forms, alloc)?,
@@ -54,7 +54,7 @@ fn stand_of(spot: &Spot, alloc: Global) -> Result<Cut, PathFault> {
 }
 
 // Whether it is among those that were found.
-fn is_known(found: &[Cut], stand: &Cut) -> bool {
+fn is_known(found: &[CutState], stand: &CutState) -> bool {
     found.iter().any(|other| {
         other.number == stand.number
             && is_same_shape(&other.shape, &stand.shape)
@@ -64,7 +64,7 @@ fn is_known(found: &[Cut], stand: &Cut) -> bool {
 
 // What comes of the element of a node, or of the end of a text.
 fn outcomes_behind(
-    course: &Course<'_>,
+    course: &MacroGraph<'_>,
     number: usize,
     case: &Case,
     alloc: Global,
@@ -83,7 +83,7 @@ fn outcomes_behind(
 
 // Adds the spots of cases. Where it is not told to which node a way leads, it is left out.
 fn add_spots(
-    spots: &mut Vec<Spot>,
+    spots: &mut Vec<NodeCase>,
     nodes: &Nodes<'_>,
     number: usize,
     is_away: bool,
@@ -98,7 +98,7 @@ fn add_spots(
     }
     for case in cases.into_iter() {
         if let Ok(number) = target(nodes, number, is_away, &case) {
-            spots.push(Spot { number, case })?;
+            spots.push(NodeCase { number, case })?;
         }
     }
     Ok(())
@@ -106,10 +106,14 @@ fn add_spots(
 
 /// Goes through a macro from a case at its first node, and tells each node that is come to with its
 /// shapes.
-pub fn shapes(course: &Course<'_>, first: Case, alloc: Global) -> Result<Vec<Cut>, PathFault> {
+pub fn shapes(
+    course: &MacroGraph<'_>,
+    first: Case,
+    alloc: Global,
+) -> Result<Vec<CutState>, PathFault> {
     let mut found = Vec::new(alloc);
     let mut ahead = Vec::new(alloc);
-    ahead.push(Spot {
+    ahead.push(NodeCase {
         number: 1,
         case: first,
     })?;

@@ -7,12 +7,12 @@ ghost use Rattle.teco_paths.specs.Paths.{Leads, LeadsOn};
 ghost use Rattle.teco_paths.specs.Steps.{AreKept, AreSpots, GoOn, IsAskedAt, IsInTime, IsPlain, IsRead};
 ghost use Rattle.teco_paths.specs.Steps.{IsSmall, IsTextEnd, TypesNoMore};
 
-use crate::course::{Course, form_of};
+use crate::course::{MacroGraph, form_of};
 use crate::fault::PathFault;
 use crate::implied::{are_met, is_so};
 use crate::outcomes::{outcomes_at, passing, wrapped_at};
 use crate::possible::{MOST_CASES, possible};
-use crate::spot::Spot;
+use crate::spot::NodeCase;
 use crate::targets::target;
 use std::alloc::Global;
 use teco_expansion::Nodes;
@@ -30,7 +30,7 @@ fn kept(
     is_away: bool,
     cases: Vec<Case>,
     alloc: Global,
-) -> Result<Vec<Spot>, PathFault>
+) -> Result<Vec<NodeCase>, PathFault>
     requires one { 0 < number }
     requires last { number ≤ length nodes.now }
     ensures { IfOk result (λ spots. AreKept nodes.now number is_away cases.items spots.items) }
@@ -42,7 +42,7 @@ fn kept(
             return Ok(spots);
         };
         let number = target(nodes, number, is_away, &case)?;
-        spots.push(Spot { number, case })?;
+        spots.push(NodeCase { number, case })?;
     }
     Err(PathFault::TooLong)
 }
@@ -64,7 +64,7 @@ pub fn is_plain(nodes: &Nodes<'_>, number: usize, kind: Kind) -> bool
 }
 
 /// Whether what a case says of how much is held is within the size that is claimed.
-pub fn is_small(course: &Course<'_>, case: &Case, alloc: Global) -> Result<bool, PathFault>
+pub fn is_small(course: &MacroGraph<'_>, case: &Case, alloc: Global) -> Result<bool, PathFault>
     ensures { IfOk result (λ answer. OnTrue answer (IsSmall course.now case.now)) }
 {
     let size = form_of(course.size, alloc)?;
@@ -73,7 +73,7 @@ pub fn is_small(course: &Course<'_>, case: &Case, alloc: Global) -> Result<bool,
 }
 
 /// Whether the steps that a case says are within the commands that are claimed.
-pub fn is_in_time(course: &Course<'_>, case: &Case, alloc: Global) -> Result<bool, PathFault>
+pub fn is_in_time(course: &MacroGraph<'_>, case: &Case, alloc: Global) -> Result<bool, PathFault>
     ensures { IfOk result (λ answer. OnTrue answer (IsInTime course.now case.now)) }
 {
     let commands = form_of(course.commands, alloc)?;
@@ -82,7 +82,7 @@ pub fn is_in_time(course: &Course<'_>, case: &Case, alloc: Global) -> Result<boo
 }
 
 /// Whether the bytes that a case says were typed are within the bound that is claimed, if one is.
-pub fn types_no_more(course: &Course<'_>, case: &Case, alloc: Global) -> Result<bool, PathFault>
+pub fn types_no_more(course: &MacroGraph<'_>, case: &Case, alloc: Global) -> Result<bool, PathFault>
     ensures { IfOk result (λ answer. OnTrue answer (TypesNoMore course.now case.now)) }
 {
     let Some(types) = course.types else {
@@ -94,7 +94,7 @@ pub fn types_no_more(course: &Course<'_>, case: &Case, alloc: Global) -> Result<
 }
 
 // The spots of both ways.
-fn joined(first: Vec<Spot>, second: Vec<Spot>) -> Result<Vec<Spot>, PathFault>
+fn joined(first: Vec<NodeCase>, second: Vec<NodeCase>) -> Result<Vec<NodeCase>, PathFault>
     ensures { IfOk result (λ all. all.items ≡ first.items ++ second.items) }
 {
     let mut all = first;
@@ -110,7 +110,7 @@ fn spots_of(
     known: usize,
     outcomes: Outcomes,
     alloc: Global,
-) -> Result<Vec<Spot>, PathFault>
+) -> Result<Vec<NodeCase>, PathFault>
     requires one { 0 < number }
     requires last { number ≤ length nodes.now }
     ensures { IfOk result (λ spots. AreSpots nodes.now number outcomes spots.items) }
@@ -131,7 +131,7 @@ fn spots_of(
 // The outcomes of an element whose conditions a case implies: those where a sum fits 32 bits, or else
 // those where it may not.
 fn asked_at(
-    course: &Course<'_>,
+    course: &MacroGraph<'_>,
     number: usize,
     case: &Case,
     element: &Element,
@@ -157,12 +157,12 @@ fn asked_at(
 
 // The spots behind an element.
 fn behind_element(
-    course: &Course<'_>,
+    course: &MacroGraph<'_>,
     number: usize,
     case: &Case,
     element: &Element,
     alloc: Global,
-) -> Result<Vec<Spot>, PathFault>
+) -> Result<Vec<NodeCase>, PathFault>
     requires one { 0 < number }
     requires last { number ≤ length course.now.nodes }
     requires reads { IsRead course.now.nodes number (Some (seen element.now)) }
@@ -188,11 +188,11 @@ fn behind_element(
 
 // The spots behind a call, or behind the end of a text.
 fn behind_text(
-    course: &Course<'_>,
+    course: &MacroGraph<'_>,
     number: usize,
     case: &Case,
     alloc: Global,
-) -> Result<Vec<Spot>, PathFault>
+) -> Result<Vec<NodeCase>, PathFault>
     requires one { 0 < number }
     requires last { number ≤ length course.now.nodes }
     requires reads { IsTextEnd course.now.nodes number }
@@ -222,11 +222,11 @@ fn behind_text(
 
 // The spots behind a node.
 fn behind_node(
-    course: &Course<'_>,
+    course: &MacroGraph<'_>,
     number: usize,
     case: &Case,
     alloc: Global,
-) -> Result<Vec<Spot>, PathFault>
+) -> Result<Vec<NodeCase>, PathFault>
     requires one { 0 < number }
     requires last { number ≤ length course.now.nodes }
     ensures { IfOk result (λ spots. GoOn course.now.nodes course.now.needs number case.now spots.items) }
@@ -243,11 +243,11 @@ fn behind_node(
 /// The spots behind one, from which a run ends if it does so from them, and holds no more than it
 /// may.
 pub fn behind(
-    course: &Course<'_>,
+    course: &MacroGraph<'_>,
     number: usize,
     case: &Case,
     alloc: Global,
-) -> Result<Vec<Spot>, PathFault>
+) -> Result<Vec<NodeCase>, PathFault>
     ensures { IfOk result (λ spots.
         All (LeadsOn course.now) spots.items → Leads course.now 1 number case.now) }
 {

@@ -1,7 +1,7 @@
 //! Claims as they are read, as cut points.
 ghost use Rattle.std.specs.Prelude.{◌<◌, ◌≤◌, length};
 
-use crate::cut::{Cut, copied_shape};
+use crate::cut::{CutState, copied_shape};
 use crate::entry::both;
 use crate::fault::PathFault;
 use std::alloc::Global;
@@ -147,10 +147,10 @@ fn form_of(
 fn cut_of(
     nodes: &Nodes<'_>,
     cut: &teco_claims::Cut,
-    stand: &Cut,
+    stand: &CutState,
     used: &[bool],
     alloc: Global,
-) -> Result<Cut, PathFault> {
+) -> Result<CutState, PathFault> {
     let number = cut.point;
     if number == 0 || number > nodes.len() {
         return Err(PathFault::NoElement(number));
@@ -162,7 +162,7 @@ fn cut_of(
     let mut present = Vec::new(alloc);
     present.extend_from_slice(&stand.present)?;
     let told = both(&present, used, alloc)?;
-    Ok(Cut {
+    Ok(CutState {
         number,
         shape: copied_shape(&stand.shape, alloc)?,
         present,
@@ -176,10 +176,10 @@ fn cut_of(
 pub fn cuts_of(
     nodes: &Nodes<'_>,
     claimed: &teco_claims::Claims,
-    stands: &[Cut],
+    stands: &[CutState],
     used: &[bool],
     alloc: Global,
-) -> Result<Vec<Cut>, PathFault> {
+) -> Result<Vec<CutState>, PathFault> {
     let mut cuts = Vec::new(alloc);
     for cut in &claimed.cuts {
         for stand in stands {

@@ -2,7 +2,7 @@
 ghost use Rattle.std.specs.Prelude.{OnOk};
 ghost use Rattle.teco_paths.specs.Sure.{IsCertain};
 
-use crate::course::Course;
+use crate::course::MacroGraph;
 use crate::cut::case_of;
 use crate::entry::entry_cut;
 use crate::fault::PathFault;
@@ -13,7 +13,7 @@ use teco_model::ArgumentRange;
 /// Follows all paths of a macro that may be declared to take an argument: from its entry and from
 /// each cut point to the next, or to the end. Where nothing is refused, every run of it ends in time.
 pub fn check_claims(
-    course: &Course<'_>,
+    course: &MacroGraph<'_>,
     argument: Option<ArgumentRange>,
     alloc: Global,
 ) -> Result<(), PathFault>

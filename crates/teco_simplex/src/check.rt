@@ -2,12 +2,12 @@
 ghost use Rattle.std.specs.Prelude.{◌≡◌, length, IsTrue, IfSome, All};
 ghost use Rattle.teco_simplex.specs.Satisfaction.{Satisfies, Holds, HaveSigns, Stands, total_of};
 
-use crate::program::{Program, Relation, Row, Sign, Term, Values};
+use crate::program::{Assignment, Condition, LinearProgram, Relation, Sign, Summand};
 
-impl Program {
+impl LinearProgram {
     /// Whether the values are one for each variable, with the signs that the program wants, and
     /// satisfy all rows. Values whose sums leave 128 bits are not taken.
-    pub fn is_satisfied_by(&self, values: &Values) -> bool
+    pub fn is_satisfied_by(&self, values: &Assignment) -> bool
         ensures { IsTrue result → Satisfies self.now values.now }
     {
         values.denominator > 0
@@ -29,13 +29,13 @@ fn have_signs(numerators: &[i128], signs: &[Sign]) -> bool
     true
 }
 
-fn all_hold(rows: &[Row], values: &Values) -> bool
+fn all_hold(rows: &[Condition], values: &Assignment) -> bool
     ensures { IsTrue result → All (λ row. Holds row values.now) rows.now }
 {
     rows.iter().all(|row| holds(row, values))
 }
 
-fn holds(row: &Row, values: &Values) -> bool
+fn holds(row: &Condition, values: &Assignment) -> bool
     ensures { IsTrue result → Holds row.now values.now }
 {
     let Some(sum) = total(&row.terms, &values.numerators) else {
@@ -58,7 +58,7 @@ fn stands(relation: Relation, sum: i128, bound: i128) -> bool
 }
 
 // The sum of the terms at the numerators.
-fn total(terms: &[Term], numerators: &[i128]) -> Option<i128>
+fn total(terms: &[Summand], numerators: &[i128]) -> Option<i128>
     ensures { IfSome result (λ sum. sum ≡ total_of terms.now numerators.now) }
 {
     let mut sum = 0i128;

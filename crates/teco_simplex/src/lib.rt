@@ -13,4 +13,4 @@ mod solve;
 mod tableau;
 
 pub use fault::SimplexFault;
-pub use program::{Answer, Program, Relation, Row, Sign, Term, Values};
+pub use program::{Assignment, Condition, LinearProgram, Relation, Sign, SolverAnswer, Summand};

@@ -26,7 +26,7 @@ pub enum Relation {
 
 /// A coefficient times a variable, which is named by its place among the program's variables.
 #[derive(Clone, Copy, Debug, PartialEq, Eq)]
-pub struct Term {
+pub struct Summand {
     /// The variable's place, from 0.
     pub variable: usize,
     /// Any whole number, also 0.
@@ -36,9 +36,9 @@ pub struct Term {
 /// A condition: the sum of the terms stands in the relation to the bound. A variable may come in
 /// several terms.
 #[derive(Debug, Drop)]
-pub struct Row {
+pub struct Condition {
     /// The sum's terms, in any order.
-    pub terms: Vec<Term>,
+    pub terms: Vec<Summand>,
     /// How the sum stands to the bound.
     pub relation: Relation,
     /// What the sum is compared with.
@@ -48,18 +48,18 @@ pub struct Row {
 /// A linear program. The objectives are to be minimised in order: each one among the values that are
 /// least for those before it.
 #[derive(Debug, Drop)]
-pub struct Program {
+pub struct LinearProgram {
     /// One for each variable.
     pub signs: Vec<Sign>,
     /// The conditions.
-    pub rows: Vec<Row>,
+    pub rows: Vec<Condition>,
     /// The sums to be minimised, the one that matters most first.
-    pub objectives: Vec<Vec<Term>>,
+    pub objectives: Vec<Vec<Summand>>,
 }
 
 /// A value for each variable: its numerator over the one denominator, which is above 0.
 #[derive(Debug, Drop)]
-pub struct Values {
+pub struct Assignment {
     /// The least number, above 0, that makes all numerators whole.
     pub denominator: i128,
     /// One for each variable, in order.
@@ -68,23 +68,23 @@ pub struct Values {
 
 /// What the search says of a program. Of the three only `Found` is checked.
 #[derive(Debug, Drop)]
-pub enum Answer {
+pub enum SolverAnswer {
     /// Values that satisfy all rows.
-    Found(Values),
+    Found(Assignment),
     /// No values satisfy all rows.
     Infeasible,
     /// An objective has no least value.
     Unbounded,
 }
 
-impl Program {
+impl LinearProgram {
     /// A program with no variable.
-    pub fn new(alloc: Global) -> Program
+    pub fn new(alloc: Global) -> LinearProgram
         ensures signs { result.signs.items ≡ [] }
         ensures rows { result.rows.items ≡ [] }
         ensures objectives { result.objectives.items ≡ [] }
     {
-        Program {
+        LinearProgram {
             signs: Vec::new(alloc),
             rows: Vec::new(alloc),
             objectives: Vec::new(alloc),
@@ -104,7 +104,7 @@ impl Program {
     }
 
     /// Adds a condition.
-    pub fn add_row(&mut self, row: Row) -> Result<(), SimplexFault>
+    pub fn add_row(&mut self, row: Condition) -> Result<(), SimplexFault>
         ensures ok { OnOk result (self.new.rows.items ≡ self.old.rows.items ++ row ∷ []) }
         ensures err { OnErr result (self.new.rows.items ≡ self.old.rows.items) }
         ensures kept { (self.new.signs ≡ self.old.signs) × (self.new.objectives ≡ self.old.objectives) }
@@ -114,7 +114,7 @@ impl Program {
     }
 
     /// Adds an objective, which matters less than those before it.
-    pub fn add_objective(&mut self, objective: Vec<Term>) -> Result<(), SimplexFault>
+    pub fn add_objective(&mut self, objective: Vec<Summand>) -> Result<(), SimplexFault>
         ensures ok { OnOk result (self.new.objectives.items ≡ self.old.objectives.items ++ objective ∷ []) }
         ensures err { OnErr result (self.new.objectives.items ≡ self.old.objectives.items) }
         ensures kept { (self.new.signs ≡ self.old.signs) × (self.new.rows ≡ self.old.rows) }

@@ -2,14 +2,14 @@
 use crate::equation::Equation;
 use crate::exact::{common_divisor, difference, product, quotient};
 use crate::fault::SimplexFault;
-use crate::program::Values;
+use crate::program::Assignment;
 use crate::tableau::Tableau;
 
 impl Tableau {
     // The basic variables have the values that their equations give, the others are 0; then the free
     // variables, the last defined first. Only the first `variables` are told.
-    pub fn values(&self, variables: usize) -> Result<Values, SimplexFault> {
-        let mut values = Values {
+    pub fn values(&self, variables: usize) -> Result<Assignment, SimplexFault> {
+        let mut values = Assignment {
             denominator: 1,
             numerators: Vec::from_elem(self.alloc, 0i128, self.columns.len())?,
         };
@@ -26,7 +26,7 @@ impl Tableau {
     }
 }
 
-impl Values {
+impl Assignment {
     // Sets the variable to a fraction, and brings all to a common denominator.
     fn set(
         &mut self,

@@ -2,18 +2,18 @@
 ghost use Rattle.std.specs.Prelude.{IfOk};
 ghost use Rattle.teco_simplex.specs.Satisfaction.{IsSatisfying};
 
-use crate::equation::Equation;
+use crate::equation::{Equation, Pivot};
 use crate::exact::{difference, sum};
 use crate::fault::SimplexFault;
-use crate::program::{Answer, Program, Term};
+use crate::program::{LinearProgram, SolverAnswer, Summand};
 use crate::simplex::End;
-use crate::tableau::{Column, Limits, Tableau};
+use crate::tableau::{Column, PivotLimits, Tableau};
 use std::alloc::Global;
 
 // Behind so many pivots in a row that change no value the search is slow, and maybe in a cycle.
 pub const PATIENCE: usize = 1000;
 
-impl Program {
+impl LinearProgram {
     /// Looks for values that satisfy the rows and are least, by at most so many pivots. Pivots that take the free
     /// variables out and that prepare equations count too.
     ///
@@ -24,37 +24,39 @@ impl Program {
     ///
     /// `GivenUp` at the limit, `TooLarge` where a number leaves 128 bits, `UnknownVariable` for a term that names no
     /// variable, and `Memory`.
-    pub fn solve(&self, alloc: Global, pivots: usize) -> Result<Answer, SimplexFault>
+    pub fn solve(&self, alloc: Global, pivots: usize) -> Result<SolverAnswer, SimplexFault>
         ensures { IfOk result (λ answer. IsSatisfying self.now answer) }
     {
         self.solve_within(
             alloc,
-            Limits {
+            PivotLimits {
                 pivots,
                 patience: PATIENCE,
             },
         )
     }
 
-    pub(crate) fn solve_within(&self, alloc: Global, limits: Limits) -> Result<Answer, SimplexFault>
+    pub(crate) fn solve_within(
+        &self,
+        alloc: Global,
+        limits: PivotLimits,
+    ) -> Result<SolverAnswer, SimplexFault>
         ensures { IfOk result (λ answer. IsSatisfying self.now answer) }
     {
         let mut tableau = Tableau::of(self, alloc, limits)?;
         tableau.define_free()?;
+        tableau.bar_zeros();
         tableau.choose_slacks()?;
         tableau.settle()?;
         if !tableau.make_feasible()? {
-            return Ok(Answer::Infeasible);
+            return Ok(SolverAnswer::Infeasible);
         }
-        for objective in 0..tableau.objectives.len() {
-            if tableau.minimise(objective)? == End::Unbounded {
-                return Ok(Answer::Unbounded);
-            }
-            tableau.keep_least(objective);
+        if tableau.minimise_all()? == End::Unbounded {
+            return Ok(SolverAnswer::Unbounded);
         }
         let values = tableau.values(self.signs.len())?;
         if self.is_satisfied_by(&values) {
-            Ok(Answer::Found(values))
+            Ok(SolverAnswer::Found(values))
         } else {
             Err(SimplexFault::TooLarge)
         }
@@ -89,7 +91,7 @@ impl Tableau {
 
     // Makes each constant at least 0, and a slack basic where its sign allows it.
     fn choose_slacks(&mut self) -> Result<(), SimplexFault> {
-        let counts = self.counts()?;
+        let counts = self.counted()?;
         for equation in self.equations.iter_mut() {
             if equation.constant < 0 {
                 equation.negate()?;
@@ -103,7 +105,7 @@ impl Tableau {
     }
 
     // In how many equations and objectives each variable is.
-    fn counts(&self) -> Result<Vec<usize>, SimplexFault> {
+    fn counted(&self) -> Result<Vec<usize>, SimplexFault> {
         let mut counts = Vec::from_elem(self.alloc, 0usize, self.columns.len())?;
         for equation in self.equations.iter().chain(&self.objectives) {
             for term in &equation.terms {
@@ -117,20 +119,21 @@ impl Tableau {
 
     // Gives each equation with the constant 0 a basic variable, and drops those that say 0 = 0.
     fn settle(&mut self) -> Result<(), SimplexFault> {
+        self.counts = self.counted()?;
         for _ in 0..self.equations.len() {
             let Some(place) = self.unsettled() else {
                 break;
             };
-            let counts = self.counts()?;
             match self
                 .equations
                 .get(place)
-                .and_then(|equation| rarest(equation, &counts))
+                .and_then(|equation| rarest(equation, &self.counts))
             {
                 Some(variable) => self.pivot(place, variable)?,
                 None => drop(self.take(place)),
             }
         }
+        self.counts.clear();
         Ok(())
     }
 
@@ -155,15 +158,80 @@ impl Tableau {
             return Ok(true);
         }
         let infeasibility = self.infeasibility()?;
-        let objective = self.objectives.len();
+        let objectives = std::mem::replace(&mut self.objectives, Vec::new(self.alloc));
         self.objectives.push(infeasibility)?;
-        let _ = self.minimise(objective)?;
-        self.objectives.truncate(objective);
+        let _ = self.minimise(0)?;
+        self.objectives = objectives;
         if !self.is_feasible() {
             return Ok(false);
         }
+        self.free_objectives()?;
         self.settle()?;
         Ok(true)
+    }
+
+    // Takes the basic variables out of the objectives.
+    fn free_objectives(&mut self) -> Result<(), SimplexFault> {
+        for equation in &self.equations {
+            if let Some(basic) = equation.basic {
+                let by = Pivot::of(equation, basic);
+                for objective in self.objectives.iter_mut() {
+                    objective.eliminate(&by, &mut self.spare, &mut self.counts)?;
+                }
+            }
+        }
+        Ok(())
+    }
+
+    // Brings the objectives to their least values, one after the other. Those that wait are not changed
+    // by pivots.
+    fn minimise_all(&mut self) -> Result<End, SimplexFault> {
+        let waiting = std::mem::replace(&mut self.objectives, Vec::new(self.alloc));
+        for objective in waiting {
+            let mut objective = objective;
+            objective.terms.retain(|term| {
+                self.columns.get(term.variable) != Some(&Column::Barred)
+            });
+            self.objectives.push(objective)?;
+            self.free_objectives()?;
+            if self.minimise(0)? == End::Unbounded {
+                return Ok(End::Unbounded);
+            }
+            self.keep_least(0);
+            self.objectives.clear();
+            self.drop_barred();
+        }
+        Ok(End::Least)
+    }
+
+    // Bars the variables that equations with the constant 0 keep at 0, as long as there are more.
+    fn bar_zeros(&mut self) {
+        for _ in 0..self.equations.len() {
+            let mut is_more = false;
+            for equation in &self.equations {
+                if equation.is_sum_of_zeros() {
+                    for term in &equation.terms {
+                        if let Some(column) = self.columns.get_mut(term.variable) {
+                            *column = Column::Barred;
+                            is_more = true;
+                        }
+                    }
+                }
+            }
+            if !is_more {
+                return;
+            }
+            self.drop_barred();
+        }
+    }
+
+    // Takes the variables that stay at 0 out of the equations.
+    fn drop_barred(&mut self) {
+        for equation in self.equations.iter_mut() {
+            equation.terms.retain(|term| {
+                self.columns.get(term.variable) != Some(&Column::Barred)
+            });
+        }
     }
 
     fn is_feasible(&self) -> bool {
@@ -186,17 +254,13 @@ impl Tableau {
         let mut terms = Vec::new(self.alloc);
         for (variable, coefficient) in coefficients.iter().enumerate() {
             if *coefficient != 0 {
-                terms.push(Term {
+                terms.push(Summand {
                     variable,
                     coefficient: *coefficient,
                 })?;
             }
         }
-        Ok(Equation {
-            basic: None,
-            terms,
-            constant: 0,
-        })
+        Ok(Equation::new(terms, 0))
     }
 }
 

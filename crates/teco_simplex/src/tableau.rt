@@ -1,8 +1,8 @@
 // The tableau: the equations that are left of a program, each with its basic variable.
-use crate::equation::Equation;
+use crate::equation::{Equation, Pivot};
 use crate::exact::sum;
 use crate::fault::SimplexFault;
-use crate::program::{Program, Relation, Sign, Term};
+use crate::program::{LinearProgram, Relation, Sign, Summand};
 use std::alloc::Global;
 
 // What a variable may do while it is at 0: only a usable one may become basic.
@@ -15,7 +15,7 @@ pub enum Column {
 
 // How far the search goes.
 #[derive(Clone, Copy, Debug)]
-pub struct Limits {
+pub struct PivotLimits {
     // How many pivots are left.
     pub pivots: usize,
     // Behind so many pivots in a row that change no value Bland's rule takes over, by which none comes twice.
@@ -31,11 +31,19 @@ pub struct Tableau {
     // The equations that define the free variables, each without those defined before it.
     pub definitions: Vec<Equation>,
     pub objectives: Vec<Equation>,
-    pub limits: Limits,
+    pub limits: PivotLimits,
+    // Memory for the terms of the next sum.
+    pub spare: Vec<Summand>,
+    // In how many equations and objectives each variable is, while that is kept up; else none.
+    pub counts: Vec<usize>,
 }
 
 impl Tableau {
-    pub fn of(program: &Program, alloc: Global, limits: Limits) -> Result<Tableau, SimplexFault> {
+    pub fn of(
+        program: &LinearProgram,
+        alloc: Global,
+        limits: PivotLimits,
+    ) -> Result<Tableau, SimplexFault> {
         let mut tableau = Tableau {
             alloc,
             columns: Vec::new(alloc),
@@ -43,21 +51,19 @@ impl Tableau {
             definitions: Vec::new(alloc),
             objectives: Vec::new(alloc),
             limits,
+            spare: Vec::new(alloc),
+            counts: Vec::new(alloc),
         };
         tableau.add_columns(program)?;
         tableau.add_equations(program)?;
         for objective in &program.objectives {
             let terms = ordered(alloc, objective, program.signs.len())?;
-            tableau.objectives.push(Equation {
-                basic: None,
-                terms,
-                constant: 0,
-            })?;
+            tableau.objectives.push(Equation::new(terms, 0))?;
         }
         Ok(tableau)
     }
 
-    fn add_columns(&mut self, program: &Program) -> Result<(), SimplexFault> {
+    fn add_columns(&mut self, program: &LinearProgram) -> Result<(), SimplexFault> {
         for sign in &program.signs {
             let column = match sign {
                 Sign::NonNegative => Column::Usable,
@@ -69,7 +75,7 @@ impl Tableau {
     }
 
     // A row that is no equation gets a slack, with the coefficient 1 or -1.
-    fn add_equations(&mut self, program: &Program) -> Result<(), SimplexFault> {
+    fn add_equations(&mut self, program: &LinearProgram) -> Result<(), SimplexFault> {
         for row in &program.rows {
             let mut terms = ordered(self.alloc, &row.terms, program.signs.len())?;
             let slack = match row.relation {
@@ -80,16 +86,12 @@ impl Tableau {
             if slack != 0 {
                 let variable = self.columns.len();
                 self.columns.push(Column::Usable)?;
-                terms.push(Term {
+                terms.push(Summand {
                     variable,
                     coefficient: slack,
                 })?;
             }
-            let mut equation = Equation {
-                basic: None,
-                terms,
-                constant: row.bound,
-            };
+            let mut equation = Equation::new(terms, row.bound);
             equation.reduce()?;
             self.equations.push(equation)?;
         }
@@ -136,21 +138,31 @@ impl Tableau {
         let mut pivot = self.take(place).ok_or(SimplexFault::GivenUp)?;
         pivot.orient(variable)?;
         pivot.basic = Some(variable);
+        let by = Pivot::of(&pivot, variable);
         for equation in self.equations.iter_mut() {
-            equation.eliminate(self.alloc, &pivot, variable)?;
+            equation.eliminate(&by, &mut self.spare, &mut self.counts)?;
         }
         for objective in self.objectives.iter_mut() {
-            objective.eliminate(self.alloc, &pivot, variable)?;
+            objective.eliminate(&by, &mut self.spare, &mut self.counts)?;
         }
         Ok(pivot)
     }
 }
 
 // The terms in the order of their variables, each of the first `variables` in one term at most.
-fn ordered(alloc: Global, terms: &[Term], variables: usize) -> Result<Vec<Term>, SimplexFault> {
+fn ordered(
+    alloc: Global,
+    terms: &[Summand],
+    variables: usize,
+) -> Result<Vec<Summand>, SimplexFault> {
+    if are_ordered(terms, variables) {
+        let mut copies = Vec::with_capacity(alloc, terms.len().saturating_add(1))?;
+        copies.extend_from_slice(terms)?;
+        return Ok(copies);
+    }
     let mut sorted = Vec::from_slice(alloc, terms)?;
     sorted.sort_by_key(|term| term.variable)?;
-    let mut merged = Vec::<Term>::with_capacity(alloc, sorted.len())?;
+    let mut merged = Vec::<Summand>::with_capacity(alloc, sorted.len())?;
     for term in &sorted {
         if term.variable >= variables {
             return Err(SimplexFault::UnknownVariable);
@@ -164,4 +176,16 @@ fn ordered(alloc: Global, terms: &[Term], variables: usize) -> Result<Vec<Term>,
     }
     merged.retain(|term| term.coefficient != 0);
     Ok(merged)
+}
+
+// Whether the terms are so already.
+fn are_ordered(terms: &[Summand], variables: usize) -> bool {
+    let mut least = 0;
+    for term in terms {
+        if term.variable < least || term.variable >= variables || term.coefficient == 0 {
+            return false;
+        }
+        least = term.variable.saturating_add(1);
+    }
+    true
 }

@@ -2,7 +2,7 @@
 use crate::trial::{expect_text, kept, of_words};
 use std::fs;
 use std::test::Fail;
-use teco_edits::{Choice, choose};
+use teco_edits::{FileChoice, choose};
 
 /// The folder in which files are looked for.
 const FOLDER: &str = "somleut_tools_chosen";
@@ -40,7 +40,7 @@ const PATTERNS: &[(&[&str], &[&str], &str)] = &[
 ];
 
 // The names that are chosen, in a line, without the folder's.
-fn chosen(rt: &HostRuntime, choice: &Choice<'_>) -> Result<String, Fail> {
+fn chosen(rt: &HostRuntime, choice: &FileChoice<'_>) -> Result<String, Fail> {
     let mut line = String::from_str(rt.alloc(), "")?;
     let front = format!(in rt.alloc(); "{FOLDER}/")?;
     for file in &choose(rt, &mut kept(rt).voice, choice)? {
@@ -58,7 +58,7 @@ fn files_are_chosen(rt: HostRuntime) -> Result<(), Fail> {
     make(&rt)?;
     let folder: [&[u8]; 1] = [FOLDER.as_bytes()];
     for (included, excluded, wanted) in PATTERNS {
-        let choice = Choice {
+        let choice = FileChoice {
             is_recursive: true,
             included: *included,
             excluded: *excluded,
@@ -66,7 +66,7 @@ fn files_are_chosen(rt: HostRuntime) -> Result<(), Fail> {
         };
         expect_text(&rt, chosen(&rt, &choice)?.as_bytes(), *wanted);
     }
-    let listed = Choice {
+    let listed = FileChoice {
         list: Some("somleut_tools_list"),
         ..of_words(&[b"first"])
     };

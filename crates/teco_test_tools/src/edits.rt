@@ -6,7 +6,7 @@ use std::test::Fail;
 use teco_applied::{Names, Task, apply_macro};
 use teco_apply::Pages;
 use teco_console::{AnswerFault, Escape, Outcome, Request, Setting};
-use teco_edits::{Change, Chosen, InPlace, Keeping, Naming, choose, edit_files};
+use teco_edits::{Change, ChosenFile, InPlaceEdits, Keeping, Naming, choose, edit_files};
 use teco_pages::FileHost;
 use teco_tools::{INPUT, OUTPUT, Start, Streams, ToolFault};
 
@@ -30,18 +30,18 @@ const NAMES: Names<'static> = Names {
 
 // What came of an edit: its outcome, what is typed, and what is said.
 #[derive(Drop)]
-struct Came {
+struct EditCame {
     outcome: Result<Outcome, ToolFault>,
     typed: Vec<u8>,
     said: Vec<u8>,
 }
 
-fn edited(rt: &HostRuntime, task: &Task<'_, '_>, names: Names<'_>) -> Came {
+fn edited(rt: &HostRuntime, task: &Task<'_, '_>, names: Names<'_>) -> EditCame {
     let mut console = kept(rt);
     let mut host = FileHost::new(rt.alloc(), *rt);
     let outcome = apply_macro(rt, &mut console, task, names, &mut host);
     let (typed, said) = console.into_parts();
-    Came {
+    EditCame {
         outcome,
         typed,
         said,
@@ -49,7 +49,7 @@ fn edited(rt: &HostRuntime, task: &Task<'_, '_>, names: Names<'_>) -> Came {
 }
 
 // This came of it, and nothing is typed.
-fn expect_came(abort: &impl Abort, came: &Came, wanted: Outcome, said: &str) {
+fn expect_came(abort: &impl Abort, came: &EditCame, wanted: Outcome, said: &str) {
     let is_so = matches!(came.outcome, Ok(outcome) if outcome == wanted);
     assert!(abort; is_so && came.typed.is_empty(), "{said}");
     expect_text(abort, &came.said, said);
@@ -69,9 +69,9 @@ fn remove(rt: &HostRuntime, names: &[&str]) -> Result<(), Fail> {
 }
 
 // Which pages are edited, whether strictly and with counts, what is made, and what is said.
-type Row = (Pages, bool, &'static [u8], &'static str);
+type EditRow = (Pages, bool, &'static [u8], &'static str);
 
-const ROWS: &[Row] = &[
+const ROWS: &[EditRow] = &[
     (Pages::First, false, b"a bar\x0cfoo\x0c\x0cfoo", COPIED),
     (Pages::Each, false, b"a bar\x0cbar\x0c\x0cbar", ""),
     (Pages::Whole, true, b"a bar\x0cbar\x0c\x0cbar", COUNTED),
@@ -203,15 +203,19 @@ const OLD: Option<&'static str> = Some(".old");
 const WOULD: &str = "files: 3, would change: 1, failed: 1\n";
 
 // Files that words name.
-fn chosen(abort: &impl Abort, rt: &HostRuntime, names: &[&[u8]]) -> Vec<Chosen> {
+fn chosen(abort: &impl Abort, rt: &HostRuntime, names: &[&[u8]]) -> Vec<ChosenFile> {
     choose(rt, &mut kept(rt).voice, &of_words(names)).expect(abort, "memory")
 }
 
 // How files are edited in place; they are kept in the place of no other.
-fn in_place<'a>(files: &'a [Chosen], change: Change, suffix: Option<&'static str>) -> InPlace<'a> {
+fn in_place<'a>(
+    files: &'a [ChosenFile],
+    change: Change,
+    suffix: Option<&'static str>,
+) -> InPlaceEdits<'a> {
     let replaces = false;
     let keeping = suffix.map(|suffix| Keeping { suffix, replaces });
-    InPlace {
+    InPlaceEdits {
         files,
         change,
         takes_binary: false,

@@ -7,7 +7,7 @@ use teco_applied::Task;
 use teco_apply::Pages;
 use teco_base::Reg;
 use teco_console::{Console, Edition, Escape, Method, Origin, Request};
-use teco_edits::Choice;
+use teco_edits::FileChoice;
 use teco_tools::Start;
 
 /// Fails, and says what, where this is false.
@@ -36,8 +36,8 @@ pub fn library_file<'a>(rt: &HostRuntime, name: &'a str, text: &[u8]) -> Result<
 }
 
 /// Files of words, with no list and no folders.
-pub fn of_words<'a>(names: &'a [&'a [u8]]) -> Choice<'a> {
-    Choice {
+pub fn of_words<'a>(names: &'a [&'a [u8]]) -> FileChoice<'a> {
+    FileChoice {
         names,
         list: None,
         ends_by_nul: false,

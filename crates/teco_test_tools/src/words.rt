@@ -6,8 +6,8 @@ use std::env::{Env, FillError};
 use teco_console::{Edition, Method};
 use teco_tools::Script;
 use teco_words::{
-    Arguments, cap, check_streams, check_texts, command, entry, escape_of, file_name, given, limit,
-    method_of, pages, scripts, settings,
+    CommandLine, cap, check_streams, check_texts, command, entry, escape_of, file_name, given,
+    limit, method_of, pages, scripts, settings,
 };
 
 // The words of a line.
@@ -199,13 +199,13 @@ fn bytes_of(alloc: Global, line: &str) -> Result<Vec<Vec<u8>>, AllocError> {
 }
 
 // The words of a line, as they are given to the program. None where memory was refused.
-fn arguments_of(alloc: Global, line: &str) -> Option<Arguments> {
+fn arguments_of(alloc: Global, line: &str) -> Option<CommandLine> {
     let words = bytes_of(alloc, line).ok()?;
-    Arguments::read(&(Words(&words), alloc)).ok()
+    CommandLine::read(&(Words(&words), alloc)).ok()
 }
 
 // Is a file's name in these words read as it was given? None where it may be no name.
-fn is_read<'a>(given: &ArgMatches<'a>, all: &'a Arguments, id: &str, name: &str) -> Option<bool> {
+fn is_read<'a>(given: &ArgMatches<'a>, all: &'a CommandLine, id: &str, name: &str) -> Option<bool> {
     let found = file_name(given, id, all).ok()?;
     let mut bytes = found.iter().zip(name.as_bytes().iter());
     Some(found.len() == name.len() && bytes.all(|(byte, given)| *byte == byte_of(*given)))

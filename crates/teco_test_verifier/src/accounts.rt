@@ -1,5 +1,5 @@
 // What is known of macros, element by element, worked out by hand from the rules.
-use crate::subjects::{Case, expect_all, library_of};
+use crate::subjects::{TableRow, expect_all, library_of};
 use std::alloc::Global;
 use std::test::*;
 use teco_base::Reg;
@@ -129,7 +129,7 @@ fn is_told(Told(_, refused, nodes, expected): &Told, account: &Account<'_>) -> b
         && (refused.is_some() || (tells_of_choice(account) && tells_of_search(account)))
 }
 
-impl Case for Told {
+impl TableRow for Told {
     fn holds(&self, alloc: Global) -> Option<bool> {
         let library = library_of(alloc, self.0.as_bytes())?;
         let account = account_of(alloc, &library, Reg::default()).ok()?;

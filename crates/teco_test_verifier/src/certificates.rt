@@ -1,5 +1,5 @@
 // Certificates as the rules print them, and texts that differ in a byte; cases say those that differ in more.
-use crate::subjects::{Case, is_so, library_of};
+use crate::subjects::{TableRow, is_so, library_of};
 use std::alloc::Global;
 use std::test::*;
 use teco_base::LIMIT;
@@ -94,7 +94,7 @@ fn is_judged(alloc: Global, library: &Library, text: &mut [u8], place: usize) ->
     Some(true)
 }
 
-impl Case for Place {
+impl TableRow for Place {
     fn holds(&self, alloc: Global) -> Option<bool> {
         let library = library_of(alloc, LIBRARY)?;
         let mut text = Vec::from_slice(alloc, MARK.as_bytes()).ok()?;

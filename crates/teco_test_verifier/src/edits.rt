@@ -1,7 +1,7 @@
 //! Edits by hosts that fail at the nth call, and runs of macros that are not ready. Cases say what edits make.
 ghost use Rattle.std.specs.Prelude.{⊤};
 
-use crate::subjects::{Case, expect_all, library_of};
+use crate::subjects::{TableRow, expect_all, library_of};
 use std::alloc::Global;
 use std::process::Abort;
 use std::test::*;
@@ -42,14 +42,14 @@ impl Guard for Refusing {
 
 // Counts what a guard is asked and what is heard.
 #[derive(Clone, Copy, Default)]
-struct Watch {
+struct GuardCounts {
     asked: u64,
     heard: u64,
     held: u128,
     unread: Option<u64>,
 }
 
-impl<H: Host> Listener<H> for Watch {
+impl<H: Host> Listener<H> for GuardCounts {
     fn stopped<T: TextStore>(
         &mut self,
         _text: &[u8],
@@ -63,7 +63,7 @@ impl<H: Host> Listener<H> for Watch {
     fn rest(&mut self, _code: Option<Code>) {}
 }
 
-impl<H: Host> Observer<H> for Watch {
+impl<H: Host> Observer<H> for GuardCounts {
     fn asked(&mut self, asked: Asked, _host: &H) {
         self.asked = self.asked.saturating_add(1);
         self.held = asked.held;
@@ -85,7 +85,7 @@ fn failing_host(alloc: Global, input: &[u8], (call, nth): Failing) -> Option<Tes
 }
 
 // Did a code end an edit, or a guard or neither, behind how many pages and in how many steps?
-type Ended = (bool, bool, u64, u64);
+type EndedEdit = (bool, bool, u64, u64);
 
 // Edits pages of the file `in` of a host into the file `out`. None where there is no end, or an output is left open.
 fn edited_by(
@@ -94,9 +94,9 @@ fn edited_by(
     (pages, refused): (Pages, u128),
     host: &mut TestHost,
     written: &mut Vec<u8>,
-) -> Option<(Ended, Watch)> {
+) -> Option<(EndedEdit, GuardCounts)> {
     let mut machine = Machine::new(alloc, VecText::new(alloc));
-    let mut seen = Watch::default();
+    let mut seen = GuardCounts::default();
     let promise = verified.promise();
     let edit = Edit {
         alloc,
@@ -121,12 +121,12 @@ fn edited_first_alone(
     verified: &Verified<'_>,
     host: &mut TestHost,
     written: &mut Vec<u8>,
-) -> Option<(Ended, Watch)> {
+) -> Option<(EndedEdit, GuardCounts)> {
     let mut machine = Machine::new(alloc, VecText::new(alloc));
     let on = &mut machine;
     match apply(alloc, on, verified, None, b"in", b"out", host, written) {
         Ok(done) if !done.exit && !machine.has_output() => {
-            Some(((done.coded, false, 0, 0), Watch::default()))
+            Some(((done.coded, false, 0, 0), GuardCounts::default()))
         }
         _ => None,
     }
@@ -143,7 +143,7 @@ fn edited_first(alloc: Global, verified: &Verified<'_>) -> Option<u64> {
 }
 
 // A file, if it is there.
-type File = Option<&'static [u8]>;
+type FileThere = Option<&'static [u8]>;
 
 // Edits the file `TWO` by the macro A: pages, or the first alone. Is this written, too, and the file `out` this?
 fn edited(
@@ -151,8 +151,8 @@ fn edited(
     file: &[u8],
     (pages, refused): (Option<Pages>, u128),
     failing: Failing,
-    (wanted, out): (&[u8], File),
-) -> Option<(Ended, Watch, bool)> {
+    (wanted, out): (&[u8], FileThere),
+) -> Option<(EndedEdit, GuardCounts, bool)> {
     let library = library_of(alloc, file)?;
     let verified = verify(alloc, &library, Reg::default()).ok()?;
     let mut host = failing_host(alloc, TWO, failing)?;
@@ -168,18 +168,24 @@ fn edited(
 
 // Where how many characters held are refused, how the edit ends, if that is said, of how many runs the guard was
 // asked, how much was held and unread at the last, how many strings were heard, if that is said, and the file `out`.
-struct Guarded(u128, Option<Ended>, (u64, u128, u64), Option<u64>, File);
+struct GuardedEdit(
+    u128,
+    Option<EndedEdit>,
+    (u64, u128, u64),
+    Option<u64>,
+    FileThere,
+);
 
 // The first run is refused, and the second. Or none is, and heard are what opens the files, two runs,
 // what turns to the second page, and what closes the output; the page and the 12 characters of the
 // macro are held, and all has been read.
-const GUARDED: &[Guarded] = &[
-    Guarded(16, Some((false, true, 0, 0)), (1, 16, 3), None, None),
-    Guarded(15, None, (2, 15, 0), None, None),
-    Guarded(0, None, (2, 15, 0), Some(5), Some(b"xfoo!\x0cfoo!")),
+const GUARDED: &[GuardedEdit] = &[
+    GuardedEdit(16, Some((false, true, 0, 0)), (1, 16, 3), None, None),
+    GuardedEdit(15, None, (2, 15, 0), None, None),
+    GuardedEdit(0, None, (2, 15, 0), Some(5), Some(b"xfoo!\x0cfoo!")),
 ];
 
-impl Case for Guarded {
+impl TableRow for GuardedEdit {
     fn holds(&self, alloc: Global) -> Option<bool> {
         let how = (Some(Pages::Each), self.0);
         let (ended, seen, is_left) = edited(alloc, MARKS, how, NONE, (b"", self.4))?;
@@ -203,7 +209,7 @@ const DROPPED: &[Dropped] = &[
     Dropped(HostCall::Write, 1, Pages::Whole, b"?OUT\r\n", 1, 3),
 ];
 
-impl Case for Dropped {
+impl TableRow for Dropped {
     fn holds(&self, alloc: Global) -> Option<bool> {
         let (how, failing) = ((Some(self.2), 0), (self.0, self.1));
         let (ended, _, is_left) = edited(alloc, STAYS, how, failing, (self.3, None))?;
@@ -212,14 +218,14 @@ impl Case for Dropped {
 }
 
 // Which close of an output fails, so that it is dropped, what is written, and the file `out`.
-struct FirstPage(u64, &'static [u8], File);
+struct FirstPage(u64, &'static [u8], FileThere);
 
 const FIRST_PAGES: &[FirstPage] = &[
     FirstPage(2, b"xfoo", Some(TWO)),
     FirstPage(1, b"xfoo?OUT\r\n", None),
 ];
 
-impl Case for FirstPage {
+impl TableRow for FirstPage {
     fn holds(&self, alloc: Global) -> Option<bool> {
         let failing = (HostCall::CloseOut, self.0);
         let (ended, _, is_left) = edited(alloc, TYPES, (None, 0), failing, (self.1, self.2))?;
@@ -278,7 +284,7 @@ const ASKING: &[Asking] = &[
     Asking(THRICE, None, "nothing"),
 ];
 
-impl Case for Asking {
+impl TableRow for Asking {
     fn holds(&self, alloc: Global) -> Option<bool> {
         let library = library_of(alloc, self.0)?;
         let verified = verify(alloc, &library, Reg::default()).ok()?;

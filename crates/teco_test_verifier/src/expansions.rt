@@ -1,6 +1,6 @@
 // Long texts of A: of some nodes the place, and where their last ways lead; and where what was pushed
 // lies. What is expanded of short texts, and why there is no expansion, is said by cases.
-use crate::subjects::{Case, expect_all, library_of};
+use crate::subjects::{TableRow, expect_all, library_of};
 use std::alloc::{AllocError, Global};
 use std::test::*;
 use teco_base::Reg;
@@ -61,7 +61,7 @@ fn library_in(alloc: Global, parts: Parts) -> Option<Library> {
     library_of(alloc, file_of(alloc, parts).ok()?.as_bytes())
 }
 
-impl Case for LongExpanded {
+impl TableRow for LongExpanded {
     fn holds(&self, alloc: Global) -> Option<bool> {
         let library = library_in(alloc, self.0)?;
         let nodes = expand(alloc, &library, Reg::default()).ok()?;
@@ -77,7 +77,7 @@ impl Case for LongExpanded {
     }
 }
 
-impl Case for LongRefused {
+impl TableRow for LongRefused {
     fn holds(&self, alloc: Global) -> Option<bool> {
         let library = library_in(alloc, self.0)?;
         match expand(alloc, &library, Reg::default()) {
@@ -109,7 +109,7 @@ fn lie_together(table: &Table, one: usize, other: usize) -> Option<bool> {
     Some(table.facts(one)?.has_pushes_of(table.facts(other)?))
 }
 
-impl Case for Packed {
+impl TableRow for Packed {
     fn holds(&self, alloc: Global) -> Option<bool> {
         let library = library_in(alloc, self.0)?;
         let nodes = expand(alloc, &library, Reg::default()).ok()?;

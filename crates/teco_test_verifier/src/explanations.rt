@@ -1,5 +1,5 @@
 // Names of codes and refusals, their notes, and hints.
-use crate::subjects::{Case, expect, expect_all, is_text};
+use crate::subjects::{TableRow, expect, expect_all, is_text};
 use std::alloc::{AllocError, Global};
 use std::test::*;
 use teco_base::{Code, Reg};
@@ -95,7 +95,7 @@ const HINTS: &[Hinted] = &[
 
 const NOTHING: &str = "A test of a character says nothing";
 
-impl Case for Hinted {
+impl TableRow for Hinted {
     fn holds(&self, _alloc: Global) -> Option<bool> {
         let why = refusal_numbered(self.0)?;
         let found = hint(why, self.2.as_bytes(), self.1).unwrap_or("");
@@ -128,7 +128,7 @@ const OUTLINES: &[Outlined] = &[
     Outlined("3>?5", "3>\n?5\n"),
 ];
 
-impl Case for Outlined {
+impl TableRow for Outlined {
     fn holds(&self, alloc: Global) -> Option<bool> {
         is_text(alloc, &outline(self.0), self.1)
     }
@@ -155,7 +155,7 @@ fn longest_line(text: &str) -> usize {
     longest
 }
 
-impl Case for Nest {
+impl TableRow for Nest {
     fn holds(&self, alloc: Global) -> Option<bool> {
         let text = iterations(alloc, self.0).ok()?;
         let lines = format!(in alloc; "{}", outline(&text)).ok()?;
@@ -194,7 +194,7 @@ const FAULT: &str =
 
 const MISSING: &str = "lib.tec: refused X11: the library has no such macro";
 
-impl Case for Said {
+impl TableRow for Said {
     fn holds(&self, alloc: Global) -> Option<bool> {
         let file = self.0.as_bytes().to_vec(alloc).ok()?;
         let source = Source::new(alloc, "lib.tec", file, Form::Readable).ok()?;
@@ -244,17 +244,17 @@ fn commands_have_names_and_words_near_to_them(rt: HostRuntime) {
 }
 
 // A text that ends with a search, whether that ignores case, and the letter behind a caret in it.
-struct Searching(&'static str, bool, Option<u8>);
+struct SearchText(&'static str, bool, Option<u8>);
 
-const SEARCHING: &[Searching] = &[
-    Searching("Sfoo\x1b", true, None),
-    Searching("1^XSfoo\x1b", false, None),
-    Searching("QA^XSfoo\x1b", true, None),
-    Searching("S^b\x1b", false, Some(b'b')),
-    Searching("1^XSa^b^c\x1b", false, Some(b'b')),
-    Searching("S^Q^b\x1b", true, None),
-    Searching("S^EA^ED^N^ER\x1b", false, None),
-    Searching("FSa\x1b^b\x1b", true, None),
+const SEARCHING: &[SearchText] = &[
+    SearchText("Sfoo\x1b", true, None),
+    SearchText("1^XSfoo\x1b", false, None),
+    SearchText("QA^XSfoo\x1b", true, None),
+    SearchText("S^b\x1b", false, Some(b'b')),
+    SearchText("1^XSa^b^c\x1b", false, Some(b'b')),
+    SearchText("S^Q^b\x1b", true, None),
+    SearchText("S^EA^ED^N^ER\x1b", false, None),
+    SearchText("FSa\x1b^b\x1b", true, None),
 ];
 
 // The slips of the last element of a text.
@@ -275,7 +275,7 @@ fn slips_of(text: &[u8]) -> Option<Slips> {
     slips
 }
 
-impl Case for Searching {
+impl TableRow for SearchText {
     fn holds(&self, _alloc: Global) -> Option<bool> {
         let Slips {
             ignores_case,

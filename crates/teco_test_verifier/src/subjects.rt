@@ -7,13 +7,13 @@ use teco_base::LIMIT;
 use teco_library::Library;
 
 /// A row of a table.
-pub trait Case {
+pub trait TableRow {
     /// Is what the row says so? None where memory was refused.
     fn holds(&self, alloc: Global) -> Option<bool>;
 }
 
 /// Is a row so? It is tried once more where memory was refused, so that tests also hold where one allocation fails.
-pub fn is_so<C: Case>(case: &C, alloc: Global) -> bool {
+pub fn is_so<C: TableRow>(case: &C, alloc: Global) -> bool {
     match case.holds(alloc) {
         Some(holds) => holds,
         None => case.holds(alloc) == Some(true),
@@ -21,7 +21,7 @@ pub fn is_so<C: Case>(case: &C, alloc: Global) -> bool {
 }
 
 /// Asserts each row.
-pub fn expect_all<C: Case>(rt: &impl Abort, alloc: Global, rows: &[C]) {
+pub fn expect_all<C: TableRow>(rt: &impl Abort, alloc: Global, rows: &[C]) {
     for (row, case) in rows.iter().enumerate() {
         assert!(rt; is_so(case, alloc), "row {row}");
     }

@@ -1,5 +1,5 @@
 // Polynomials, worked by hand from sums and products of numbers, and stacks that share.
-use crate::subjects::{Case, expect_all};
+use crate::subjects::{TableRow, expect_all};
 use std::alloc::{AllocError, Global};
 use std::test::*;
 use teco_poly::Poly;
@@ -89,7 +89,7 @@ fn is_written(alloc: Global, found: Option<Poly>, text: &str) -> Option<bool> {
     Some(printed.as_str() == text && Poly::read(text.as_bytes()) == Some(poly))
 }
 
-impl Case for Worked {
+impl TableRow for Worked {
     fn holds(&self, alloc: Global) -> Option<bool> {
         let left = Poly::read(self.0.as_bytes())?;
         let right = Poly::read(self.2.as_bytes())?;
@@ -148,7 +148,7 @@ fn has_all(stack: &Stack<u32>, count: u32) -> bool {
         && below_top(stack) == count.checked_sub(1)
 }
 
-impl Case for Height {
+impl TableRow for Height {
     fn holds(&self, alloc: Global) -> Option<bool> {
         let mut stack = numbers(alloc, self.0).ok()?;
         let packed = match stack.packed() {

@@ -18,6 +18,6 @@ pub use messages::tell_anyway;
 pub use prompting::Prompting;
 pub use reporting::{Reporting, tell_trouble};
 pub use running::{Run, Script, run_scripts};
-pub use setting::{Case, Start, prepare};
+pub use setting::{LetterCase, Start, prepare};
 pub use teco_streams::{INPUT, OUTPUT, Streams, told_name};
 pub use telling::{code_of, size_of, tell_macro};

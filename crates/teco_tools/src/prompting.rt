@@ -1,5 +1,5 @@
 //! Prompts at a terminal.
-use crate::strings::Progress;
+use crate::strings::StringProgress;
 use std::io;
 use std::io::{Read, Write};
 
@@ -16,7 +16,7 @@ pub struct Prompting<S: Read + Drop, P: Write + Drop> {
     reader: S,
     prompts: P,
     is_on: bool,
-    progress: Progress,
+    progress: StringProgress,
 }
 
 impl<S: Read + Drop, P: Write + Drop> Prompting<S, P> {
@@ -26,7 +26,7 @@ impl<S: Read + Drop, P: Write + Drop> Prompting<S, P> {
             reader,
             prompts,
             is_on,
-            progress: Progress::None,
+            progress: StringProgress::None,
         }
     }
 
@@ -50,8 +50,8 @@ impl<S: Read + Drop, P: Write + Drop> Read for Prompting<S, P> {
             return self.reader.read(buf);
         }
         let prompt = match self.progress {
-            Progress::None => FIRST,
-            Progress::Begun | Progress::Half => FURTHER,
+            StringProgress::None => FIRST,
+            StringProgress::Begun | StringProgress::Half => FURTHER,
         };
         let _written = self.prompts.write_all(prompt);
         let n = self.reader.read(buf)?;

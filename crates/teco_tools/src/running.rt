@@ -12,7 +12,7 @@ use crate::fault::ToolFault;
 use crate::machines::machine_with;
 use crate::reporting::{Reporting, tell_trouble};
 use crate::setting::{Start, prepare};
-use crate::strings::Progress;
+use crate::strings::StringProgress;
 use crate::telling::{Scene, code_of, size_of, tell_macro};
 use std::alloc::{AllocError, Global};
 use std::io::{Read, Write};
@@ -176,7 +176,7 @@ fn word_source(alloc: Global, word: &str, escape: Escape) -> Result<Source, Allo
     let form = form_of_word(escape);
     let bytes = word.as_bytes().to_vec(alloc)?;
     let source = Source::new(alloc, "-e", bytes, form)?;
-    let count = Progress::None.behind(source.text()).lacking();
+    let count = StringProgress::None.behind(source.text()).lacking();
     source.ended(count)
 }
 
@@ -292,7 +292,7 @@ where
 // A script that is to be played: how its session is conducted, and its text, where it is none of the
 // stream.
 #[derive(Drop)]
-struct Part {
+struct PlayedScript {
     conduct: Conduct,
     source: Option<Source>,
 }
@@ -301,7 +301,7 @@ struct Part {
 fn run_script<S, H, O, E>(
     console: &mut Console<O, E>,
     machine: &mut Machine<GapText>,
-    part: Part,
+    part: PlayedScript,
     reader: &mut S,
     host: &mut H,
 ) -> Result<Done, SessionFault>
@@ -317,7 +317,7 @@ where
         (setting new (H.failures host.new) (S.remaining reader.new) (O.contents console.new.out))
         result) machine.old machine.new (H.files host.old) (H.files host.new) }
 {
-    let Part { conduct, source } = part;
+    let PlayedScript { conduct, source } = part;
     match source {
         None => run_stream(console, machine, conduct, reader, host),
         Some(source) => run_source(console, machine, conduct, &source, host),
@@ -333,7 +333,7 @@ fn is_last(done: Done, until_code: bool) -> bool
 
 // Scripts that are to be played, over files that are read by name.
 #[derive(Clone, Copy)]
-struct Task<'t, 'a, R: Shelf> {
+struct PlayedScripts<'t, 'a, R: Shelf> {
     rt: &'t R,
     scripts: &'t [Script<'a>],
     escape: Escape,
@@ -342,7 +342,7 @@ struct Task<'t, 'a, R: Shelf> {
 
 // Runs scripts in turn, and says what came of them, and whether the session was ended.
 fn run_each<R, S, H, O, E>(
-    task: Task<'_, '_, R>,
+    task: PlayedScripts<'_, '_, R>,
     console: &mut Console<O, E>,
     machine: &mut Machine<GapText>,
     reader: &mut S,
@@ -365,7 +365,7 @@ where
     let mut coded = false;
     for script in task.scripts {
         let source = source_of(task.rt, console.alloc, *script, task.escape)?;
-        let part = Part {
+        let part = PlayedScript {
             conduct: task.conduct,
             source,
         };
@@ -418,7 +418,7 @@ fn outcome_of(done: Done, is_all_kept: bool) -> Outcome
 
 // Runs scripts in turn, and says what they leave that is lost.
 fn play_out<R, S, H, O, E>(
-    task: Task<'_, '_, R>,
+    task: PlayedScripts<'_, '_, R>,
     console: &mut Console<O, E>,
     machine: &mut Machine<GapText>,
     reader: &mut S,
@@ -465,7 +465,7 @@ where
 {
     let mut machine = machine_with(console.alloc, run.cap);
     prepare(&mut machine, run.start, host)?;
-    let task = Task {
+    let task = PlayedScripts {
         rt,
         scripts: run.scripts,
         escape: run.escape,

@@ -37,19 +37,19 @@ fn with_text<'a>(
 
 /// How searches treat the case of letters.
 #[derive(Clone, Copy, Debug, PartialEq, Eq)]
-pub enum Case {
+pub enum LetterCase {
     /// A letter matches itself alone.
     Exact,
     /// A letter matches itself in either case.
     Any,
 }
 
-impl Case {
+impl LetterCase {
     // The command string that makes searches treat it so.
     fn command(self) -> &'static [u8] {
         match self {
-            Case::Exact => b"1^X",
-            Case::Any => b"0^X",
+            LetterCase::Exact => b"1^X",
+            LetterCase::Any => b"0^X",
         }
     }
 }
@@ -60,7 +60,7 @@ pub struct Start<'s> {
     /// The texts of registers.
     pub settings: &'s [Setting],
     /// How searches treat case until a command says otherwise; in any case where it is none.
-    pub case: Option<Case>,
+    pub case: Option<LetterCase>,
 }
 
 impl Start<'_> {

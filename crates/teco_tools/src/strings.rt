@@ -3,7 +3,7 @@ use teco_base::bytes::{ESC, is_blank};
 
 /// How far the last command string of a text has come.
 #[derive(Clone, Copy, Debug, PartialEq, Eq)]
-pub enum Progress {
+pub enum StringProgress {
     /// None has begun: only blanks came, if anything.
     None,
     /// A string has begun, and its end has not come.
@@ -12,28 +12,28 @@ pub enum Progress {
     Half,
 }
 
-impl Progress {
+impl StringProgress {
     /// How far the last string has come behind one more byte.
-    pub fn after(self, byte: u8) -> Progress {
+    pub fn after(self, byte: u8) -> StringProgress {
         match self {
-            Progress::Half if byte == ESC => Progress::None,
-            Progress::None if is_blank(byte) => Progress::None,
-            _ if byte == ESC => Progress::Half,
-            _ => Progress::Begun,
+            StringProgress::Half if byte == ESC => StringProgress::None,
+            StringProgress::None if is_blank(byte) => StringProgress::None,
+            _ if byte == ESC => StringProgress::Half,
+            _ => StringProgress::Begun,
         }
     }
 
     /// How far the last string has come behind more bytes.
-    pub fn behind(self, bytes: &[u8]) -> Progress {
+    pub fn behind(self, bytes: &[u8]) -> StringProgress {
         bytes.iter().fold(self, |so_far, byte| so_far.after(*byte))
     }
 
     /// How many ESC are lacking at the end of the string, if it is begun.
     pub fn lacking(self) -> usize {
         match self {
-            Progress::None => 0,
-            Progress::Begun => 2,
-            Progress::Half => 1,
+            StringProgress::None => 0,
+            StringProgress::Begun => 2,
+            StringProgress::Half => 1,
         }
     }
 }

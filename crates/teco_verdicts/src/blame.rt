@@ -19,13 +19,13 @@ const LARGE: u64 = 1000;
 
 // A count, where it stands and how large it may be with an empty text.
 #[derive(Clone, Copy)]
-struct Count {
+struct BlamedCount {
     number: usize,
     most: u64,
 }
 
 // The largest count of the iterations of a macro; none where all are small.
-fn largest_count(account: &Account<'_>) -> Option<Count> {
+fn largest_count(account: &Account<'_>) -> Option<BlamedCount> {
     let mut largest = None;
     let mut least = LARGE;
     for before in 0..account.len() {
@@ -36,14 +36,14 @@ fn largest_count(account: &Account<'_>) -> Option<Count> {
         };
         if most > least {
             least = most;
-            largest = Some(Count { number, most });
+            largest = Some(BlamedCount { number, most });
         }
     }
     largest
 }
 
 // The position of a count in the library file.
-fn position_of(source: &Source, account: &Account<'_>, count: Count) -> Option<Position> {
+fn position_of(source: &Source, account: &Account<'_>, count: BlamedCount) -> Option<Position> {
     let place = account.begin(count.number)?;
     position_in(source, account.register(count.number), place)
 }

@@ -6,7 +6,7 @@ ghost use Rattle.teco_console.specs.Output.{Writes};
 ghost use Rattle.teco_console.specs.declared.outcome.Outcome.TheVariants.{Done, Refused};
 
 use crate::blame::tell_premise;
-use crate::claim::{Claim, edition_of, split_line};
+use crate::claim::{ClaimedCertificate, edition_of, split_line};
 use crate::library::{explained, library_of};
 use crate::linear::check_claims;
 use crate::verdict::Verdict;
@@ -22,14 +22,14 @@ use teco_verify::{Refusal, Verified, verify};
 
 // A line of a certificate that isn't as it should be.
 #[derive(Clone, Copy)]
-struct Difference<'a> {
+struct FaultyLine<'a> {
     number: usize,
     found: &'a [u8],
     wanted: &'a [u8],
 }
 
 // The first line in which two texts differ, if they do.
-fn first_difference<'a>(found: &'a [u8], wanted: &'a [u8]) -> Option<Difference<'a>> {
+fn first_difference<'a>(found: &'a [u8], wanted: &'a [u8]) -> Option<FaultyLine<'a>> {
     let mut found_rest = found;
     let mut wanted_rest = wanted;
     for number in 1..usize::MAX {
@@ -39,7 +39,7 @@ fn first_difference<'a>(found: &'a [u8], wanted: &'a [u8]) -> Option<Difference<
         let (found, behind_found) = split_line(found_rest);
         let (wanted, behind_wanted) = split_line(wanted_rest);
         if found != wanted {
-            return Some(Difference {
+            return Some(FaultyLine {
                 number,
                 found,
                 wanted,
@@ -64,7 +64,7 @@ fn tell_difference<O: Write + Drop, E: Write + Drop>(
     match first_difference(found, wanted) {
         None => console.say(format_args!("{name}: its line ends are not those of a certificate")),
         Some(difference) => {
-            let Difference {
+            let FaultyLine {
                 number,
                 found,
                 wanted,
@@ -111,7 +111,7 @@ pub fn tell_other_edition<O: Write + Drop, E: Write + Drop>(
 // Says in which line a certificate is another than that of the macro.
 fn tell_wanted<O: Write + Drop, E: Write + Drop>(
     console: &mut Console<O, E>,
-    claim: &Claim<'_>,
+    claim: &ClaimedCertificate<'_>,
     verified: &Verified<'_>,
 ) -> Result<(), AnswerFault>
     ensures { console.new.out ≡ console.old.out }
@@ -140,7 +140,7 @@ fn tell_why<O: Write + Drop, E: Write + Drop>(
     console: &mut Console<O, E>,
     sourced: &Sourced,
     entry: Reg,
-    claim: &Claim<'_>,
+    claim: &ClaimedCertificate<'_>,
 ) -> Result<(), AnswerFault>
     ensures { console.new.out ≡ console.old.out }
 {
@@ -159,7 +159,7 @@ pub fn refuse_claim<O: Write + Drop, E: Write + Drop>(
     console: &mut Console<O, E>,
     sourced: &Sourced,
     entry: Reg,
-    claim: &Claim<'_>,
+    claim: &ClaimedCertificate<'_>,
     refusal: Refusal,
 ) -> Result<Outcome, AnswerFault>
     ensures outcome { IfOk result (λ outcome. outcome ≡ Refused) }
@@ -208,7 +208,7 @@ fn check_table<O: Write + Drop, E: Write + Drop>(
     console: &mut Console<O, E>,
     sourced: &Sourced,
     entry: Reg,
-    claim: &Claim<'_>,
+    claim: &ClaimedCertificate<'_>,
 ) -> Result<Outcome, AnswerFault>
     ensures { Answers (ChecksByTable claim.now.bytes.items sourced.now.library entry)
         (O.contents console.old.out) (O.contents console.new.out) result }
@@ -228,7 +228,7 @@ fn check_by_edition<O: Write + Drop, E: Write + Drop>(
     sourced: &Sourced,
     edition: Edition,
     entry: Reg,
-    claim: &Claim<'_>,
+    claim: &ClaimedCertificate<'_>,
 ) -> Result<Outcome, AnswerFault>
     ensures { Answers (ChecksIn edition claim.now.bytes.items sourced.now.library entry)
         (O.contents console.old.out) (O.contents console.new.out) result }
@@ -245,7 +245,7 @@ fn check_by_method<O: Write + Drop, E: Write + Drop>(
     console: &mut Console<O, E>,
     sourced: &Sourced,
     entry: Reg,
-    claim: &Claim<'_>,
+    claim: &ClaimedCertificate<'_>,
 ) -> Result<Outcome, AnswerFault>
     ensures { Answers (ChecksBy sourced.now.method claim.now.bytes.items sourced.now.library entry)
         (O.contents console.old.out) (O.contents console.new.out) result }
@@ -261,7 +261,7 @@ fn check_source<O: Write + Drop, E: Write + Drop>(
     source: Source,
     method: Method,
     entry: Reg,
-    claim: &Claim<'_>,
+    claim: &ClaimedCertificate<'_>,
 ) -> Result<Outcome, AnswerFault>
     ensures { Answers (OfText (λ library. ChecksBy method claim.now.bytes.items library entry)
         source) (O.contents console.old.out) (O.contents console.new.out) result }
@@ -285,7 +285,7 @@ fn check_in<R: Shelf, O: Write + Drop, E: Write + Drop>(
     console: &mut Console<O, E>,
     request: Request<'_>,
     entry: Reg,
-    claim: &Claim<'_>,
+    claim: &ClaimedCertificate<'_>,
 ) -> Result<Outcome, AnswerFault>
     ensures { AnswersFor (R.holds rt.now) request.entry
         (λ library. ChecksBy request.entry.method claim.now.bytes.items library entry)
@@ -306,6 +306,6 @@ pub fn check_macro<R: Shelf, O: Write + Drop, E: Write + Drop>(
     ensures { ChecksFor (R.holds rt.now) request.entry entry name.now
         (O.contents console.old.out) (O.contents console.new.out) result }
 {
-    let claim = Claim::read(rt, console.alloc, name)?;
+    let claim = ClaimedCertificate::read(rt, console.alloc, name)?;
     check_in(rt, console, request, entry, &claim)
 }

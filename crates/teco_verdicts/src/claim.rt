@@ -44,7 +44,7 @@ pub fn edition_of(text: &[u8]) -> Edition {
 
 /// What a file says to be the certificate of a macro.
 #[derive(Drop)]
-pub struct Claim<'a> {
+pub struct ClaimedCertificate<'a> {
     /// The name of the file; `-` for standard input.
     pub name: &'a str,
     /// What it has.
@@ -52,14 +52,18 @@ pub struct Claim<'a> {
     ghost within: { vec_len bytes ≤ LIMIT },
 }
 
-impl<'a> Claim<'a> {
+impl<'a> ClaimedCertificate<'a> {
     /// Reads the file of a name.
-    pub fn read<R: Shelf>(rt: &R, alloc: Global, name: &'a str) -> Result<Claim<'a>, AnswerFault>
+    pub fn read<R: Shelf>(
+        rt: &R,
+        alloc: Global,
+        name: &'a str,
+    ) -> Result<ClaimedCertificate<'a>, AnswerFault>
         ensures { IfOk result (λ claim. IfSome (R.holds rt.now name.now)
             (λ told. claim.bytes.items ≡ told)) }
     {
         let bytes = read_file(rt, alloc, name)?;
-        Ok(Claim { name, bytes })
+        Ok(ClaimedCertificate { name, bytes })
     }
 
     /// The edition by which it is checked: where each is tried, the one that it says it is of.
@@ -102,10 +106,10 @@ pub fn read_claim<'a, R: Shelf>(
     rt: &R,
     alloc: Global,
     name: Option<&'a str>,
-) -> Result<Option<Claim<'a>>, AnswerFault> {
+) -> Result<Option<ClaimedCertificate<'a>>, AnswerFault> {
     match name {
         None => Ok(None),
-        Some(name) => Ok(Some(Claim::read(rt, alloc, name)?)),
+        Some(name) => Ok(Some(ClaimedCertificate::read(rt, alloc, name)?)),
     }
 }
 
@@ -115,7 +119,7 @@ fn accepted_by<'l>(
     library: &'l Library,
     entry: Reg,
     method: Method,
-    claim: &Claim<'_>,
+    claim: &ClaimedCertificate<'_>,
 ) -> Result<Accepted<'l>, Refusal>
     ensures is { IfOk result (IsOf library.now entry) }
     ensures text { IfOk result (λ accepted. certificate_of accepted ≡ claim.now.bytes.items) }
@@ -138,7 +142,7 @@ pub fn accepted<'l>(
     library: &'l Library,
     entry: Reg,
     method: Method,
-    claim: Option<&Claim<'_>>,
+    claim: Option<&ClaimedCertificate<'_>>,
 ) -> Result<Accepted<'l>, Refusal>
     ensures is { IfOk result (IsOf library.now entry) }
     ensures text { IfSome claim.entry (λ claim. IfOk result

@@ -21,15 +21,15 @@ const COEFFICIENTS: usize = 9;
 
 // The coefficients of a polynomial, that of the constant first.
 #[derive(Clone, Copy)]
-struct Coefficients([u64; COEFFICIENTS]);
+struct PrintedPolynomial([u64; COEFFICIENTS]);
 
-impl Coefficients {
-    fn of(alloc: Global, poly: &Poly) -> Result<Coefficients, AllocError> {
-        Ok(Coefficients::read(poly.print(alloc)?.as_str()))
+impl PrintedPolynomial {
+    fn of(alloc: Global, poly: &Poly) -> Result<PrintedPolynomial, AllocError> {
+        Ok(PrintedPolynomial::read(poly.print(alloc)?.as_str()))
     }
 
     // Those of the text of a polynomial.
-    fn read(text: &str) -> Coefficients {
+    fn read(text: &str) -> PrintedPolynomial {
         let mut coefficients = [0; COEFFICIENTS];
         for term in text.split(" + ") {
             let (factor, power) = parts_of(term);
@@ -37,7 +37,7 @@ impl Coefficients {
                 coefficients[power] = factor;
             }
         }
-        Coefficients(coefficients)
+        PrintedPolynomial(coefficients)
     }
 
     // The greatest power with a coefficient.
@@ -65,7 +65,7 @@ fn parts_of(term: &str) -> (u64, usize) {
     (factor, power)
 }
 
-impl fmt::Display for Coefficients {
+impl fmt::Display for PrintedPolynomial {
     fn fmt<W: fmt::Write>(&self, f: &mut fmt::Formatter<W>) -> fmt::Result {
         write!(f, "[{}", self.0[0])?;
         for coefficient in self.0.iter().take(self.degree().saturating_add(1)).skip(1) {
@@ -77,18 +77,18 @@ impl fmt::Display for Coefficients {
 
 // The coefficients of a bound, or null where none is known.
 #[derive(Clone, Copy)]
-struct Bound(Option<Coefficients>);
+struct PrintedBound(Option<PrintedPolynomial>);
 
-impl Bound {
-    fn of(alloc: Global, bound: Option<Poly>) -> Result<Bound, AllocError> {
+impl PrintedBound {
+    fn of(alloc: Global, bound: Option<Poly>) -> Result<PrintedBound, AllocError> {
         match bound {
-            None => Ok(Bound(None)),
-            Some(poly) => Ok(Bound(Some(Coefficients::of(alloc, &poly)?))),
+            None => Ok(PrintedBound(None)),
+            Some(poly) => Ok(PrintedBound(Some(PrintedPolynomial::of(alloc, &poly)?))),
         }
     }
 }
 
-impl fmt::Display for Bound {
+impl fmt::Display for PrintedBound {
     fn fmt<W: fmt::Write>(&self, f: &mut fmt::Formatter<W>) -> fmt::Result {
         match self.0 {
             None => write!(f, "null"),
@@ -116,9 +116,9 @@ fn answer_accepted<O: Write + Drop, E: Write + Drop>(
     promise: &Promise<'_>,
 ) -> Result<Outcome, AnswerFault> {
     let name = char::from(promise.entry().name());
-    let commands = Coefficients::of(console.alloc, &promise.commands())?;
-    let size = Coefficients::of(console.alloc, &promise.size())?;
-    let types = Bound::of(console.alloc, promise.types())?;
+    let commands = PrintedPolynomial::of(console.alloc, &promise.commands())?;
+    let size = PrintedPolynomial::of(console.alloc, &promise.size())?;
+    let types = PrintedBound::of(console.alloc, promise.types())?;
     let needs = promise.needs();
     let input = needs.input;
     let output = needs.output;

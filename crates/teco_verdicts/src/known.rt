@@ -14,19 +14,19 @@ const MOST: i64 = i32::MAX as i64;
 
 // An interval as listings have it.
 #[derive(Clone, Copy)]
-struct Numbers {
+struct ListedInterval {
     lo: i64,
     hi: i64,
 }
 
-impl Numbers {
+impl ListedInterval {
     // Is it any number?
     fn is_any(self) -> bool {
         self.lo <= LEAST && self.hi >= MOST
     }
 }
 
-impl fmt::Display for Numbers {
+impl fmt::Display for ListedInterval {
     fn fmt<W: fmt::Write>(&self, f: &mut fmt::Formatter<W>) -> fmt::Result {
         if self.is_any() {
             write!(f, "any number")
@@ -57,9 +57,9 @@ impl fmt::Display for Multiple {
 
 // A value as listings have it.
 #[derive(Clone, Copy)]
-struct Pending(Value);
+struct ListedValue(Value);
 
-impl fmt::Display for Pending {
+impl fmt::Display for ListedValue {
     fn fmt<W: fmt::Write>(&self, f: &mut fmt::Formatter<W>) -> fmt::Result {
         let Value {
             ahead,
@@ -77,7 +77,7 @@ impl fmt::Display for Pending {
             distance: "behind",
         };
         let place = if saved { ", a place" } else { "" };
-        write!(f, "{ahead}{behind}{}{place}", Numbers { lo, hi })
+        write!(f, "{ahead}{behind}{}{place}", ListedInterval { lo, hi })
     }
 }
 
@@ -114,11 +114,11 @@ fn push_pending(alloc: Global, text: &mut String, known: &Known<'_>) -> Result<(
         push(
             alloc,
             text,
-            format_args!("; in front of the comma {}", Pending(first)),
+            format_args!("; in front of the comma {}", ListedValue(first)),
         )?;
     }
     if let Some(value) = known.value() {
-        push(alloc, text, format_args!("; value {}", Pending(value)))?;
+        push(alloc, text, format_args!("; value {}", ListedValue(value)))?;
     }
     if known.found().is_some() {
         text.push_str(", the answer of a search")?;
@@ -128,9 +128,9 @@ fn push_pending(alloc: Global, text: &mut String, known: &Known<'_>) -> Result<(
 
 // What is used up of what is ahead in the turn of an open iteration.
 #[derive(Clone, Copy)]
-struct Fall(Option<i64>);
+struct ListedFall(Option<i64>);
 
-impl fmt::Display for Fall {
+impl fmt::Display for ListedFall {
     fn fmt<W: fmt::Write>(&self, f: &mut fmt::Formatter<W>) -> fmt::Result {
         match self.0 {
             None => write!(f, "; used up in the turn: not known"),
@@ -142,7 +142,7 @@ impl fmt::Display for Fall {
 // What is used up in the turns of the open iterations, the innermost first.
 fn push_falls(alloc: Global, text: &mut String, known: &Known<'_>) -> Result<(), AllocError> {
     for at in 0..known.open() {
-        push(alloc, text, Fall(known.fall(at)))?;
+        push(alloc, text, ListedFall(known.fall(at)))?;
     }
     Ok(())
 }
@@ -156,7 +156,7 @@ fn push_number(
 ) -> Result<(), AllocError> {
     let name = char::from(register.name());
     let Interval { lo, hi } = known.number(register);
-    let numbers = Numbers { lo, hi };
+    let numbers = ListedInterval { lo, hi };
     if !numbers.is_any() {
         push(alloc, text, format_args!("; Q{name} {numbers}"))?;
     }

@@ -20,7 +20,7 @@ mod verifying;
 pub use acceptance::{Accepted, verified_by};
 pub use blame::{tell_no_text, tell_promise, warn_no_text};
 pub use checking::{check_macro, refuse_claim};
-pub use claim::{Claim, accepted, read_claim};
+pub use claim::{ClaimedCertificate, accepted, read_claim};
 pub use explaining::explain_macro;
 pub use json::{verify_library_as_json, verify_macro_as_json};
 pub use library::{Setup, read_library, read_library_for};

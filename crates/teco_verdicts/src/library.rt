@@ -11,7 +11,8 @@ use std::alloc::Global;
 use std::io::Write;
 use teco_base::{LIMIT, Reg};
 use teco_console::{
-    AnswerFault, Console, Edition, Method, Request, Setting, Shelf, Sourced, Written, read_source,
+    AnswerFault, Console, Edition, Method, ReadLibrary, Request, Setting, Shelf, Sourced,
+    read_source,
 };
 use teco_explain::Explained;
 use teco_library::{Library, LibraryFault};
@@ -106,7 +107,7 @@ fn is_better(alloc: Global, fixed: &Sourced, plain: &Sourced, entry: Reg) -> boo
 // A library with the texts that registers are given, if they and it are one.
 fn fixed_library<O: Write + Drop, E: Write + Drop>(
     console: &mut Console<O, E>,
-    written: &Written<'_>,
+    written: &ReadLibrary<'_>,
     settings: &[Setting],
     method: Method,
 ) -> Result<Option<Sourced>, AnswerFault> {
@@ -122,7 +123,7 @@ pub fn read_library_for<R: Shelf, O: Write + Drop, E: Write + Drop>(
     request: Request<'_>,
     setup: Setup<'_>,
 ) -> Result<Option<Sourced>, AnswerFault> {
-    let written = Written::read(rt, console.alloc, request)?;
+    let written = ReadLibrary::read(rt, console.alloc, request)?;
     let source = written.source(console.alloc)?;
     let Some(plain) = library_in(console, source, request.method)? else {
         return Ok(None);

@@ -10,16 +10,18 @@ ghost use Rattle.teco_verify.specs.Refusing.{IsOfCertificate};
 
 use crate::blame::tell_premise;
 use crate::checking::{other_edition, tell_other_edition};
-use crate::claim::Claim;
+use crate::claim::ClaimedCertificate;
 use crate::reasoning::{moved_too_far, reason_of};
 use crate::verifying::refuse;
 use std::alloc::Global;
 use std::io::Write;
 use teco_base::Reg;
 use teco_claimed::{Claimed, LinearRefusal, NodePlace, check_linear, verify_linear};
-use teco_console::{AnswerFault, Console, Edition, Findings, NAMES, Outcome, Sourced, write_bytes};
+use teco_console::{
+    AnswerFault, Console, Edition, NAMES, Outcome, SearchDoubts, Sourced, write_bytes,
+};
 use teco_expansion::ExpandFault;
-use teco_infer::Refusal as Unfound;
+use teco_infer::SearchRefusal as Unfound;
 use teco_library::Library;
 use teco_source::{Shown, Source};
 use teco_verifier::Refusal as Why;
@@ -191,7 +193,11 @@ fn accept<O: Write + Drop, E: Write + Drop>(
         Edition::Second,
     )?;
     let library = claimed.library();
-    Findings::new(console.alloc, source, false).tell(&mut console.voice, library, claimed.entry());
+    SearchDoubts::new(console.alloc, source, false).tell(
+        &mut console.voice,
+        library,
+        claimed.entry(),
+    );
     Ok(Outcome::Done)
 }
 
@@ -273,7 +279,7 @@ pub fn verify_claims<O: Write + Drop, E: Write + Drop>(
 fn refuse_linear<O: Write + Drop, E: Write + Drop>(
     console: &mut Console<O, E>,
     sourced: &Sourced,
-    claim: &Claim<'_>,
+    claim: &ClaimedCertificate<'_>,
     refused: &LinearRefusal,
 ) -> Result<Outcome, AnswerFault>
     ensures outcome { IfOk result (λ outcome. outcome ≡ Refused) }
@@ -298,7 +304,7 @@ pub fn check_claims<O: Write + Drop, E: Write + Drop>(
     console: &mut Console<O, E>,
     sourced: &Sourced,
     entry: Reg,
-    claim: &Claim<'_>,
+    claim: &ClaimedCertificate<'_>,
 ) -> Result<Outcome, AnswerFault>
     ensures { Answers (ChecksByClaims claim.now.bytes.items sourced.now.library entry)
         (O.contents console.old.out) (O.contents console.new.out) result }

@@ -26,7 +26,7 @@ impl Mend {
 
 /// A change: what is put in at a place of a register's text.
 #[derive(Clone, Copy)]
-pub struct Change {
+pub struct MacroChange {
     pub register: Reg,
     pub place: usize,
     pub mend: Mend,
@@ -47,13 +47,13 @@ fn text_with(
 }
 
 // The text of a library with a change; none where the change has no place in it, or memory is refused.
-fn changed_text(alloc: Global, source: &Source, change: Change) -> Option<Vec<u8>> {
+fn changed_text(alloc: Global, source: &Source, change: MacroChange) -> Option<Vec<u8>> {
     let place = place_in(source.text(), Some(change.register), change.place)?;
     text_with(alloc, source.text(), place, change.mend.words()).ok()
 }
 
 /// Is a macro of a source accepted by claims with a change?
-pub fn is_mended(alloc: Global, source: &Source, entry: Reg, change: Change) -> bool {
+pub fn is_mended(alloc: Global, source: &Source, entry: Reg, change: MacroChange) -> bool {
     let Some(text) = changed_text(alloc, source, change) else {
         return false;
     };

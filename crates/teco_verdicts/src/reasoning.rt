@@ -1,7 +1,7 @@
 //! What would show a condition of a macro of which no claims are found, and what is known.
 
 use crate::linear::{register_at, text_at};
-use crate::mending::{Change, Mend, is_mended};
+use crate::mending::{MacroChange, Mend, is_mended};
 use std::alloc::{AllocError, Global};
 use std::fmt;
 use teco_base::Reg;
@@ -10,7 +10,7 @@ use teco_claimed::{NodePlace, Unshown, why_unshown};
 use teco_claims::Claim;
 use teco_console::{Stated, all_stated, element_at};
 use teco_explain::place_in;
-use teco_infer::Reason;
+use teco_infer::Shortfall;
 use teco_library::Library;
 use teco_source::{Shown, Source};
 use teco_verifier::Refusal as Why;
@@ -72,7 +72,7 @@ fn push_line<D: fmt::Display + Drop>(
 fn push_known(
     alloc: Global,
     lines: &mut String,
-    reason: &Reason,
+    reason: &Shortfall,
     point: &str,
 ) -> Result<(), AllocError> {
     let needed = words_if_told(alloc, &reason.needed)?;
@@ -211,7 +211,7 @@ fn push_ways(
 fn is_mended_at(alloc: Global, source: &Source, entry: Reg, at: NodePlace, mend: Mend) -> bool {
     match register_at(at.register) {
         Some(register) => {
-            let change = Change {
+            let change = MacroChange {
                 register,
                 place: at.place,
                 mend,

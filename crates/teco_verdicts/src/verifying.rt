@@ -18,7 +18,7 @@ use std::io::Write;
 use teco_base::Reg;
 use teco_claimed::verify_linear;
 use teco_console::{
-    AnswerFault, Console, Edition, Findings, Method, NAMES, Outcome, Request, Shelf, Sourced,
+    AnswerFault, Console, Edition, Method, NAMES, Outcome, Request, SearchDoubts, Shelf, Sourced,
     macro_named, read_source, tell_dollars, write_bytes,
 };
 use teco_library::Library;
@@ -134,7 +134,11 @@ fn accept<O: Write + Drop, E: Write + Drop>(
     let promise = verified.promise();
     tell_premise(&mut console.voice, source, &promise, Edition::First)?;
     let library = verified.library();
-    Findings::new(console.alloc, source, false).tell(&mut console.voice, library, verified.entry());
+    SearchDoubts::new(console.alloc, source, false).tell(
+        &mut console.voice,
+        library,
+        verified.entry(),
+    );
     Ok(Outcome::Done)
 }
 
@@ -281,7 +285,7 @@ fn tell_refused<O: Write + Drop, E: Write + Drop>(
 fn verify_one<O: Write + Drop, E: Write + Drop>(
     console: &mut Console<O, E>,
     sourced: &Sourced,
-    findings: &mut Findings<'_>,
+    findings: &mut SearchDoubts<'_>,
     entry: Reg,
 ) -> Result<Outcome, AnswerFault> {
     let name = char::from(entry.name());
@@ -302,7 +306,7 @@ fn verify_each<O: Write + Drop, E: Write + Drop>(
     sourced: &Sourced,
 ) -> Result<Outcome, AnswerFault> {
     let mut outcome = Outcome::Done;
-    let mut findings = Findings::new(console.alloc, &sourced.source, false);
+    let mut findings = SearchDoubts::new(console.alloc, &sourced.source, false);
     for name in NAMES {
         if let Some(entry) = macro_named(&sourced.library, *name) {
             outcome = outcome.worse(verify_one(console, sourced, &mut findings, entry)?);

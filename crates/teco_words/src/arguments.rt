@@ -17,16 +17,16 @@ struct Other {
 /// The words that the program was called with. A word that is no UTF-8 can only be the name of a
 /// file; among the texts another text stands for it, with a NUL in it, which no word has.
 #[derive(Drop)]
-pub struct Arguments {
+pub struct CommandLine {
     texts: Vec<String>,
     others: Vec<Other>,
 }
 
-impl Arguments {
+impl CommandLine {
     /// Reads the words.
-    pub fn read<R: Env + AllocGlobal>(rt: &R) -> io::Result<Arguments> {
+    pub fn read<R: Env + AllocGlobal>(rt: &R) -> io::Result<CommandLine> {
         match env::args(rt) {
-            Ok(words) => Ok(Arguments {
+            Ok(words) => Ok(CommandLine {
                 texts: words.collect(rt.alloc())?,
                 others: Vec::new(rt.alloc()),
             }),
@@ -51,7 +51,7 @@ impl Arguments {
     }
 }
 
-impl Arguments {
+impl CommandLine {
     /// The first word that is no text and is not among these, if there is one.
     pub fn other_than<'a>(&'a self, allowed: &[&str]) -> Option<&'a [u8]> {
         for other in &self.others {
@@ -127,8 +127,8 @@ fn word_at<R: Env + AllocGlobal>(rt: &R, number: usize) -> io::Result<Option<Vec
 }
 
 // Reads the words one by one, where some are no text.
-fn read_bytes<R: Env + AllocGlobal>(rt: &R) -> io::Result<Arguments> {
-    let mut arguments = Arguments {
+fn read_bytes<R: Env + AllocGlobal>(rt: &R) -> io::Result<CommandLine> {
+    let mut arguments = CommandLine {
         texts: Vec::new(rt.alloc()),
         others: Vec::new(rt.alloc()),
     };
@@ -136,7 +136,7 @@ fn read_bytes<R: Env + AllocGlobal>(rt: &R) -> io::Result<Arguments> {
     Ok(arguments)
 }
 
-impl Arguments {
+impl CommandLine {
     // Adds all words.
     fn push_all<R: Env + AllocGlobal>(&mut self, rt: &R) -> io::Result<()> {
         for number in 0..usize::MAX {

@@ -1,5 +1,5 @@
 //! The commands of the program and their options.
-use crate::rows::Row;
+use crate::rows::Parameter;
 use crate::tables::{
     APPLY_PAGE, CHECK_PAGE, EDIT_PAGE, EXPLAIN_PAGE, RUN_PAGE, SHOW_PAGE, TEST_PAGE, TRACE_PAGE,
     VERIFY_PAGE,
@@ -10,18 +10,22 @@ use std::convert::AsStr;
 
 /// A command of the program: what its help says, and its arguments.
 #[derive(Clone, Copy)]
-pub struct Page {
+pub struct HelpPage {
     pub name: &'static str,
     pub about: &'static str,
     pub examples: &'static str,
-    pub options: &'static [Row],
+    pub options: &'static [Parameter],
     /// The words that name a library and a macro of it, where no option does.
-    pub library: &'static [Row],
-    pub words: &'static [Row],
+    pub library: &'static [Parameter],
+    pub words: &'static [Parameter],
 }
 
 // Adds the arguments of rows to others.
-fn push_args<'a>(alloc: Global, rows: &[Row], args: &mut Vec<Arg<'a>>) -> Result<(), AllocError> {
+fn push_args<'a>(
+    alloc: Global,
+    rows: &[Parameter],
+    args: &mut Vec<Arg<'a>>,
+) -> Result<(), AllocError> {
     for row in rows {
         args.push(row.arg(alloc))?;
     }
@@ -29,7 +33,7 @@ fn push_args<'a>(alloc: Global, rows: &[Row], args: &mut Vec<Arg<'a>>) -> Result
 }
 
 // A command with no arguments yet.
-fn bare<'a>(alloc: Global, page: &Page) -> Command<'a> {
+fn bare<'a>(alloc: Global, page: &HelpPage) -> Command<'a> {
     Command::new(alloc, page.name)
         .about(page.about)
         .after_help(page.examples)
@@ -38,7 +42,7 @@ fn bare<'a>(alloc: Global, page: &Page) -> Command<'a> {
 // A command with its arguments. Where options name the macro, words do not.
 fn subcommand<'a>(
     alloc: Global,
-    page: &Page,
+    page: &HelpPage,
     is_by_options: bool,
 ) -> Result<Command<'a>, AllocError> {
     let mut args = Vec::new(alloc);
@@ -90,7 +94,7 @@ fn is_among<S: AsStr>(words: &[S], name: &str) -> bool {
 fn command_of<'a, S: AsStr>(
     alloc: Global,
     words: &[S],
-    page: &Page,
+    page: &HelpPage,
 ) -> Result<Command<'a>, AllocError> {
     if is_among(words, page.name) {
         subcommand(alloc, page, is_by_options(words))

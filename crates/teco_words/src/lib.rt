@@ -8,7 +8,7 @@ mod rows;
 mod tables;
 mod words;
 
-pub use arguments::Arguments;
+pub use arguments::CommandLine;
 pub use commands::command;
 pub use fault::WordsFault;
 pub use words::{

@@ -4,15 +4,15 @@ use std::alloc::Global;
 
 /// An argument of a command.
 #[derive(Clone, Copy)]
-pub struct Row {
+pub struct Parameter {
     pub id: &'static str,
-    pub kind: Kind,
+    pub kind: ParameterKind,
     pub help: &'static str,
 }
 
 /// How an argument is given.
 #[derive(Clone, Copy)]
-pub enum Kind {
+pub enum ParameterKind {
     /// By a word at its place.
     Word(Word),
     /// By an option of its name, which has no value.
@@ -20,7 +20,7 @@ pub enum Kind {
     /// By an option of its name or of a letter, which has no value.
     Switch(char),
     /// By an option of its name, whose value is called this.
-    Value(&'static str, Values),
+    Value(&'static str, OptionValues),
     /// By an option of one letter with a text, any number of times.
     Letter(char),
     /// By an option of its name or of a letter, whose value is called this.
@@ -44,7 +44,7 @@ pub enum Word {
 
 /// Which values an option has.
 #[derive(Clone, Copy)]
-pub enum Values {
+pub enum OptionValues {
     /// A text.
     Text,
     /// Any number of texts.
@@ -57,17 +57,23 @@ pub enum Values {
     Bytes(&'static str),
 }
 
-impl Row {
+impl Parameter {
     /// The argument of this row.
     pub fn arg<'a>(&self, alloc: Global) -> Arg<'a> {
         let arg = Arg::new(alloc, self.id).help(self.help);
         match self.kind {
-            Kind::Word(word) => word.asked(arg),
-            Kind::Flag => arg.long(self.id).action(ArgAction::SetTrue),
-            Kind::Switch(letter) => arg.long(self.id).short(letter).action(ArgAction::SetTrue),
-            Kind::Value(name, values) => values.asked(arg.long(self.id).value_name(name)),
-            Kind::Letter(letter) => repeated(arg.short(letter).value_name("TEXT")),
-            Kind::Lettered(letter, name) => arg.long(self.id).short(letter).value_name(name),
+            ParameterKind::Word(word) => word.asked(arg),
+            ParameterKind::Flag => arg.long(self.id).action(ArgAction::SetTrue),
+            ParameterKind::Switch(letter) => arg
+                .long(self.id)
+                .short(letter)
+                .action(ArgAction::SetTrue),
+            ParameterKind::Value(name, values) => values.asked(arg.long(self.id).value_name(name)),
+            ParameterKind::Letter(letter) => repeated(arg.short(letter).value_name("TEXT")),
+            ParameterKind::Lettered(letter, name) => arg
+                .long(self.id)
+                .short(letter)
+                .value_name(name),
         }
     }
 }
@@ -100,15 +106,15 @@ fn from_one<'a>(arg: Arg<'a>) -> Arg<'a> {
     arg.value_parser(value_parser!(u32).range(1..))
 }
 
-impl Values {
+impl OptionValues {
     // An argument that asks for these values.
     fn asked<'a>(self, arg: Arg<'a>) -> Arg<'a> {
         match self {
-            Values::Text => arg,
-            Values::Texts => repeated(arg),
-            Values::Default(value) => arg.default_value(value),
-            Values::Count(value) => from_one(arg).default_value(value),
-            Values::Bytes(value) => arg.value_parser(value_parser!(u64)).default_value(value),
+            OptionValues::Text => arg,
+            OptionValues::Texts => repeated(arg),
+            OptionValues::Default(value) => arg.default_value(value),
+            OptionValues::Count(value) => from_one(arg).default_value(value),
+            OptionValues::Bytes(value) => arg.value_parser(value_parser!(u64)).default_value(value),
         }
     }
 }

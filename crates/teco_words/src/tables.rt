@@ -1,9 +1,9 @@
 //! The tables of commands and options.
-use crate::commands::Page;
-use crate::rows::{Kind, Row, Values, Word};
+use crate::commands::HelpPage;
+use crate::rows::{OptionValues, Parameter, ParameterKind, Word};
 
 /// The command `run`.
-pub const RUN_PAGE: Page = Page {
+pub const RUN_PAGE: HelpPage = HelpPage {
     name: "run",
     about: "Runs command strings on standard input, in files or in words",
     examples: "Examples:\n\
@@ -26,7 +26,7 @@ pub const RUN_PAGE: Page = Page {
 };
 
 /// The command `verify`.
-pub const VERIFY_PAGE: Page = Page {
+pub const VERIFY_PAGE: HelpPage = HelpPage {
     name: "verify",
     about: "Prints the certificate of a macro, or a verdict on each macro of a library",
     examples: "Examples:\n\
@@ -39,7 +39,7 @@ pub const VERIFY_PAGE: Page = Page {
 };
 
 /// The command `check`.
-pub const CHECK_PAGE: Page = Page {
+pub const CHECK_PAGE: HelpPage = HelpPage {
     name: "check",
     about: "Checks a certificate",
     examples: "Example:\n\
@@ -51,7 +51,7 @@ pub const CHECK_PAGE: Page = Page {
 };
 
 /// The command `apply`.
-pub const APPLY_PAGE: Page = Page {
+pub const APPLY_PAGE: HelpPage = HelpPage {
     name: "apply",
     about: "Edits a file by a verified macro",
     examples: "Examples:\n\
@@ -81,7 +81,7 @@ pub const APPLY_PAGE: Page = Page {
 };
 
 /// The command `edit`.
-pub const EDIT_PAGE: Page = Page {
+pub const EDIT_PAGE: HelpPage = HelpPage {
     name: "edit",
     about: "Edits files in place by a verified macro; one that fails is left as it was",
     examples: "Examples:\n\
@@ -129,7 +129,7 @@ pub const EDIT_PAGE: Page = Page {
 };
 
 /// The command `test`.
-pub const TEST_PAGE: Page = Page {
+pub const TEST_PAGE: HelpPage = HelpPage {
     name: "test",
     about: "Tries the examples in the comments of a library, as !EXAMPLE text => text!",
     examples: "Examples:\n  teco test trim.tes\n  teco test lib.tes B",
@@ -141,7 +141,7 @@ pub const TEST_PAGE: Page = Page {
 };
 
 /// The command `trace`.
-pub const TRACE_PAGE: Page = Page {
+pub const TRACE_PAGE: HelpPage = HelpPage {
     name: "trace",
     about: "Lists the steps of a macro on a file, and writes no file",
     examples: "Examples:\n\
@@ -168,7 +168,7 @@ pub const TRACE_PAGE: Page = Page {
 };
 
 /// The command `show`.
-pub const SHOW_PAGE: Page = Page {
+pub const SHOW_PAGE: HelpPage = HelpPage {
     name: "show",
     about: "Prints a file of TECO text as its elements, safe for a terminal",
     examples: "Examples:\n  teco show trim.tec\n  teco show --source trim.tec > trim.tes",
@@ -178,7 +178,7 @@ pub const SHOW_PAGE: Page = Page {
 };
 
 /// The command `explain`.
-pub const EXPLAIN_PAGE: Page = Page {
+pub const EXPLAIN_PAGE: HelpPage = HelpPage {
     name: "explain",
     about: "Says what a code or a refusal means and how to mend what causes it, or what is \
         known at each element of a macro",
@@ -191,339 +191,339 @@ pub const EXPLAIN_PAGE: Page = Page {
     words: &[],
 };
 
-const MACRO: Row = Row {
+const MACRO: Parameter = Parameter {
     id: "text",
-    kind: Kind::Letter('e'),
+    kind: ParameterKind::Letter('e'),
     help: "A line of the macro A, in the readable form, with $ for ESC; LIB and REGISTER are \
         then left out",
 };
 
-const FROM: Row = Row {
+const FROM: Parameter = Parameter {
     id: "library",
-    kind: Kind::Lettered('f', "LIB"),
+    kind: ParameterKind::Lettered('f', "LIB"),
     help: "A file of macros, or of one macro; LIB and REGISTER are then left out",
 };
 
-const CALLED: Row = Row {
+const CALLED: Parameter = Parameter {
     id: "register",
-    kind: Kind::Lettered('r', "REGISTER"),
+    kind: ParameterKind::Lettered('r', "REGISTER"),
     help: "The register of the macro, where -e or -f is given; A where it is left out",
 };
 
-const LIMIT: Row = Row {
+const LIMIT: Parameter = Parameter {
     id: "limit",
-    kind: Kind::Value("N", Values::Count("100000000")),
+    kind: ParameterKind::Value("N", OptionValues::Count("100000000")),
     help: "Steps that each command string may take, 1 to 4294967295",
 };
 
-const STOP: Row = Row {
+const STOP: Parameter = Parameter {
     id: "stop",
-    kind: Kind::Flag,
+    kind: ParameterKind::Flag,
     help: "End with the first code, and drop an output that is open then",
 };
 
-const TEXT: Row = Row {
+const TEXT: Parameter = Parameter {
     id: "text",
-    kind: Kind::Letter('e'),
+    kind: ParameterKind::Letter('e'),
     help: "Command strings in the readable form, with $ for ESC; the two ESC at the end may be \
         left out",
 };
 
-const SCRIPTS: Row = Row {
+const SCRIPTS: Parameter = Parameter {
     id: "FILE",
-    kind: Kind::Word(Word::AtLeast(0)),
+    kind: ParameterKind::Word(Word::AtLeast(0)),
     help: "Files of command strings; standard input where neither a file nor a text is given",
 };
 
-const JSON: Row = Row {
+const JSON: Parameter = Parameter {
     id: "json",
-    kind: Kind::Flag,
+    kind: ParameterKind::Flag,
     help: "Print each verdict as an object of JSON in a line",
 };
 
-const OF_EACH: Row = Row {
+const OF_EACH: Parameter = Parameter {
     id: "REGISTER",
-    kind: Kind::Word(Word::Optional),
+    kind: ParameterKind::Word(Word::Optional),
     help: "The register of the macro; each macro of LIB where it is left out",
 };
 
-const OF_TESTED: Row = Row {
+const OF_TESTED: Parameter = Parameter {
     id: "REGISTER",
-    kind: Kind::Word(Word::Optional),
+    kind: ParameterKind::Word(Word::Optional),
     help: "The register of the macro whose examples are tried; those of all where it is left out",
 };
 
-const FUZZ: Row = Row {
+const FUZZ: Parameter = Parameter {
     id: "fuzz",
-    kind: Kind::Flag,
+    kind: ParameterKind::Flag,
     help: "Run the macro on short texts of what it looks for, and ask about what may not be meant",
 };
 
-const TESTED: Row = Row {
+const TESTED: Parameter = Parameter {
     id: "tested",
-    kind: Kind::Flag,
+    kind: ParameterKind::Flag,
     help: "Try the examples of the library first, and edit nothing where one fails",
 };
 
-const CERTIFICATE: Row = Row {
+const CERTIFICATE: Parameter = Parameter {
     id: "CERT",
-    kind: Kind::Word(Word::Required),
+    kind: ParameterKind::Word(Word::Required),
     help: "A certificate",
 };
 
-const INPUT: Row = Row {
+const INPUT: Parameter = Parameter {
     id: "IN",
-    kind: Kind::Word(Word::Required),
+    kind: ParameterKind::Word(Word::Required),
     help: "The file that is read, or - for standard input",
 };
 
-const OUTPUT: Row = Row {
+const OUTPUT: Parameter = Parameter {
     id: "OUT",
-    kind: Kind::Word(Word::Required),
+    kind: ParameterKind::Word(Word::Required),
     help: "The file that is written, or - for standard output",
 };
 
-const DRY: Row = Row {
+const DRY: Parameter = Parameter {
     id: "dry-run",
-    kind: Kind::Flag,
+    kind: ParameterKind::Flag,
     help: "Print the names of the files that would change, one a line, and change none",
 };
 
-const CHECK: Row = Row {
+const CHECK: Parameter = Parameter {
     id: "check",
-    kind: Kind::Flag,
+    kind: ParameterKind::Flag,
     help: "As --dry-run, and end with status 1 if a file would change",
 };
 
-const NUL: Row = Row {
+const NUL: Parameter = Parameter {
     id: "null",
-    kind: Kind::Switch('0'),
+    kind: ParameterKind::Switch('0'),
     help: "End each name that --dry-run or --check prints, and each of --files-from, with a NUL",
 };
 
-const FORCE: Row = Row {
+const FORCE: Parameter = Parameter {
     id: "force-backup",
-    kind: Kind::Flag,
+    kind: ParameterKind::Flag,
     help: "Let --backup take the place of files that have the names of backups",
 };
 
-const DURABLE: Row = Row {
+const DURABLE: Parameter = Parameter {
     id: "durable",
-    kind: Kind::Flag,
+    kind: ParameterKind::Flag,
     help: "Send each file to the disk before it takes its name, so that no power cut loses it",
 };
 
-const NAMED: Row = Row {
+const NAMED: Parameter = Parameter {
     id: "with-names",
-    kind: Kind::Flag,
+    kind: ParameterKind::Flag,
     help: "Begin each line that is typed over a file with the file's name; so it is anyhow where \
         there are several files",
 };
 
-const UNNAMED: Row = Row {
+const UNNAMED: Parameter = Parameter {
     id: "no-names",
-    kind: Kind::Flag,
+    kind: ParameterKind::Flag,
     help: "Type lines without the names of files",
 };
 
-const BEYOND: Row = Row {
+const BEYOND: Parameter = Parameter {
     id: "beyond-promise",
-    kind: Kind::Flag,
+    kind: ParameterKind::Flag,
     help: "Run the macro also where its promise does not hold",
 };
 
-const STRICTLY: Row = Row {
+const STRICTLY: Parameter = Parameter {
     id: "strict",
-    kind: Kind::Flag,
+    kind: ParameterKind::Flag,
     help: "Leave a file as it was where the promise does not hold for it: so it is anyhow, \
         without --beyond-promise",
 };
 
-const QUIET: Row = Row {
+const QUIET: Parameter = Parameter {
     id: "quiet",
-    kind: Kind::Flag,
+    kind: ParameterKind::Flag,
     help: "Say nothing but what fails, what is left undone and what --stats asks for",
 };
 
-const BACKUP: Row = Row {
+const BACKUP: Parameter = Parameter {
     id: "backup",
-    kind: Kind::Value("SUFFIX", Values::Text),
+    kind: ParameterKind::Value("SUFFIX", OptionValues::Text),
     help: "Keep each file that changes as it was, under its name with SUFFIX behind it; a file \
         whose backup has that name already is left as it was",
 };
 
-const FILES: Row = Row {
+const FILES: Parameter = Parameter {
     id: "FILE",
-    kind: Kind::Word(Word::AtLeast(0)),
+    kind: ParameterKind::Word(Word::AtLeast(0)),
     help: "The files that are edited, and with --recursive folders",
 };
 
-const DIFF: Row = Row {
+const DIFF: Parameter = Parameter {
     id: "diff",
-    kind: Kind::Flag,
+    kind: ParameterKind::Flag,
     help: "Print what changes, as diff -u does",
 };
 
-const COLOR: Row = Row {
+const COLOR: Parameter = Parameter {
     id: "color",
-    kind: Kind::Value("WHEN", Values::Default("auto")),
+    kind: ParameterKind::Value("WHEN", OptionValues::Default("auto")),
     help: "Colours of --diff: always, never, or auto, at a terminal unless NO_COLOR is set",
 };
 
-const LISTED_FILES: Row = Row {
+const LISTED_FILES: Parameter = Parameter {
     id: "files-from",
-    kind: Kind::Value("LIST", Values::Text),
+    kind: ParameterKind::Value("LIST", OptionValues::Text),
     help: "Edit the files that this file names too, one a line, or with -0 each ended by a NUL; - \
         for standard input",
 };
 
-const RECURSIVE: Row = Row {
+const RECURSIVE: Parameter = Parameter {
     id: "recursive",
-    kind: Kind::Flag,
+    kind: ParameterKind::Flag,
     help: "Edit the files of folders and of those in them; hidden ones and links are left out",
 };
 
-const INCLUDED: Row = Row {
+const INCLUDED: Parameter = Parameter {
     id: "include",
-    kind: Kind::Value("PATTERN", Values::Texts),
+    kind: ParameterKind::Value("PATTERN", OptionValues::Texts),
     help: "Of folders, edit the files whose names are of this pattern alone, as *.txt",
 };
 
-const EXCLUDED: Row = Row {
+const EXCLUDED: Parameter = Parameter {
     id: "exclude",
-    kind: Kind::Value("PATTERN", Values::Texts),
+    kind: ParameterKind::Value("PATTERN", OptionValues::Texts),
     help: "Of folders, leave out the files and folders whose names are of this pattern",
 };
 
-const BINARY: Row = Row {
+const BINARY: Parameter = Parameter {
     id: "binary",
-    kind: Kind::Flag,
+    kind: ParameterKind::Flag,
     help: "Of folders and lists, edit files too that have a NUL near their beginning",
 };
 
-const EDITED: Row = Row {
+const EDITED: Parameter = Parameter {
     id: "pages",
-    kind: Kind::Value("WHICH", Values::Default("first")),
+    kind: ParameterKind::Value("WHICH", OptionValues::Default("first")),
     help: "The pages that are edited, which form feeds end: first, and the others are copied; \
         each in turn; or whole, all as one",
 };
 
-const EDITED_WHOLE: Row = Row {
+const EDITED_WHOLE: Parameter = Parameter {
     id: "pages",
-    kind: Kind::Value("WHICH", Values::Default("whole")),
+    kind: ParameterKind::Value("WHICH", OptionValues::Default("whole")),
     help: "The pages that are edited, which form feeds end: whole, all as one; first, and the \
         others are copied; or each in turn",
 };
 
-const STRICT: Row = Row {
+const STRICT: Parameter = Parameter {
     id: "strict",
-    kind: Kind::Flag,
+    kind: ParameterKind::Flag,
     help: "Leave OUT as it was where the promise does not hold, or where pages behind the first \
         would be copied unedited",
 };
 
-const STATS: Row = Row {
+const STATS: Parameter = Parameter {
     id: "stats",
-    kind: Kind::Flag,
+    kind: ParameterKind::Flag,
     help: "Say how many commands the runs took, and how many they may take",
 };
 
-const CHECKED: Row = Row {
+const CHECKED: Parameter = Parameter {
     id: "cert",
-    kind: Kind::Value("CERT", Values::Text),
+    kind: ParameterKind::Value("CERT", OptionValues::Text),
     help: "Check this certificate in place of a search for one",
 };
 
-const LISTED: Row = Row {
+const LISTED: Parameter = Parameter {
     id: "limit",
-    kind: Kind::Value("N", Values::Count("1000")),
+    kind: ParameterKind::Value("N", OptionValues::Count("1000")),
     help: "Steps that are listed at most",
 };
 
-const SOURCE: Row = Row {
+const SOURCE: Parameter = Parameter {
     id: "source",
-    kind: Kind::Flag,
+    kind: ParameterKind::Flag,
     help: "Print a source that reads as the same bytes: readable, or with the character of --esc",
 };
 
-const SHOWN: Row = Row {
+const SHOWN: Parameter = Parameter {
     id: "FILE",
-    kind: Kind::Word(Word::Required),
+    kind: ParameterKind::Word(Word::Required),
     help: "A file of TECO text, or - for standard input",
 };
 
-const EXPLAINED: Row = Row {
+const EXPLAINED: Parameter = Parameter {
     id: "LIB",
-    kind: Kind::Word(Word::Maybe("WORD|LIB")),
+    kind: ParameterKind::Word(Word::Maybe("WORD|LIB")),
     help: "A code, as POP, a refusal, as X7, a command, as FS, or a file of macros; without it \
         all words are listed",
 };
 
-const IN_LIBRARY: Row = Row {
+const IN_LIBRARY: Parameter = Parameter {
     id: "REGISTER",
-    kind: Kind::Word(Word::Optional),
+    kind: ParameterKind::Word(Word::Optional),
     help: "The register of the macro in the file LIB",
 };
 
-const MEMORY: Row = Row {
+const MEMORY: Parameter = Parameter {
     id: "memory",
-    kind: Kind::Value("BYTES", Values::Bytes("1073741824")),
+    kind: ParameterKind::Value("BYTES", OptionValues::Bytes("1073741824")),
     help: "Bytes that each command string may type, and as many that its calls may take; more \
         is ?MEM",
 };
 
-const ARGUMENT: Row = Row {
+const ARGUMENT: Parameter = Parameter {
     id: "arg",
-    kind: Kind::Value("N", Values::Text),
+    kind: ParameterKind::Value("N", OptionValues::Text),
     help: "The argument of the macro, where its library declares one: 0 to 2147483647",
 };
 
-const SETTING: Row = Row {
+const SETTING: Parameter = Parameter {
     id: "set",
-    kind: Kind::Value("Q=TEXT", Values::Texts),
+    kind: ParameterKind::Value("Q=TEXT", OptionValues::Texts),
     help: "Give register Q this text before the run, in the form of -e. A text that the macro does \
         not write is known to the verifier",
 };
 
-const SETTING_FILE: Row = Row {
+const SETTING_FILE: Parameter = Parameter {
     id: "set-file",
-    kind: Kind::Value("Q=PATH", Values::Texts),
+    kind: ParameterKind::Value("Q=PATH", OptionValues::Texts),
     help: "Give register Q the bytes of a file before the run",
 };
 
-const EXACT: Row = Row {
+const EXACT: Parameter = Parameter {
     id: "exact",
-    kind: Kind::Flag,
+    kind: ParameterKind::Flag,
     help: "Begin with 1^X: a letter of a search finds itself alone",
 };
 
-const ANY_CASE: Row = Row {
+const ANY_CASE: Parameter = Parameter {
     id: "any-case",
-    kind: Kind::Flag,
+    kind: ParameterKind::Flag,
     help: "Begin with 0^X, as without it: a letter of a search finds itself in either case",
 };
 
-const RULES: Row = Row {
+const RULES: Parameter = Parameter {
     id: "rules",
-    kind: Kind::Value("N", Values::Text),
+    kind: ParameterKind::Value("N", OptionValues::Text),
     help: "The edition of the rules that macros are verified by: 1 or 2",
 };
 
-const ESCAPE: Row = Row {
+const ESCAPE: Parameter = Parameter {
     id: "esc",
-    kind: Kind::Value("C", Values::Text),
+    kind: ParameterKind::Value("C", OptionValues::Text),
     help: "The character that stands for ESC; none for the byte ESC itself. Without it files \
         whose names end in .tes are readable: $ is ESC and ^$ a dollar",
 };
 
-const REGISTER: Row = Row {
+const REGISTER: Parameter = Parameter {
     id: "REGISTER",
-    kind: Kind::Word(Word::Required),
+    kind: ParameterKind::Word(Word::Required),
     help: "The register of the macro",
 };
 
-const LIBRARY: Row = Row {
+const LIBRARY: Parameter = Parameter {
     id: "LIB",
-    kind: Kind::Word(Word::Required),
+    kind: ParameterKind::Word(Word::Required),
     help: "A file of macros, or of one macro, which is then A; - for standard input",
 };

@@ -2,7 +2,7 @@
 ghost use Rattle.std.specs.Prelude.{◌≤◌, IfOk, length};
 ghost use Rattle.teco_apply.specs.declared.editing.TheConstants.{NAME};
 
-use crate::arguments::Arguments;
+use crate::arguments::CommandLine;
 use crate::fault::WordsFault;
 use clap::ArgMatches;
 use std::alloc::{AllocError, Global};
@@ -10,9 +10,9 @@ use teco_apply::{NAME, Pages};
 use teco_base::Reg;
 use teco_base::bytes::ESC;
 use teco_console::{Edition, Escape, Method, Origin, STREAM, Setting};
-use teco_edits::{Change, Choice, Keeping, Look, Naming};
+use teco_edits::{Change, FileChoice, Keeping, Look, Naming};
 use teco_source::{Form, Shown};
-use teco_tools::{Case, INPUT, OUTPUT, Script};
+use teco_tools::{INPUT, LetterCase, OUTPUT, Script};
 
 /// The register of the macro where an option names the library, and none the register.
 const DEFAULT_ENTRY: &str = "A";
@@ -204,11 +204,11 @@ pub fn setting_files<'m>(words: &'m ArgMatches<'_>) -> &'m [&'m str] {
 }
 
 /// How searches treat case at first.
-pub fn case(words: &ArgMatches<'_>) -> Result<Option<Case>, WordsFault> {
+pub fn case(words: &ArgMatches<'_>) -> Result<Option<LetterCase>, WordsFault> {
     match (words.get_flag("exact"), words.get_flag("any-case")) {
         (true, true) => Err(WordsFault::Case),
-        (true, false) => Ok(Some(Case::Exact)),
-        (false, true) => Ok(Some(Case::Any)),
+        (true, false) => Ok(Some(LetterCase::Exact)),
+        (false, true) => Ok(Some(LetterCase::Any)),
         (false, false) => Ok(None),
     }
 }
@@ -236,7 +236,7 @@ pub fn check_texts(
     alloc: Global,
     command: &str,
     words: &ArgMatches<'_>,
-    arguments: &Arguments,
+    arguments: &CommandLine,
 ) -> Result<(), WordsFault> {
     let mut allowed = Vec::new(alloc);
     for id in ["IN", "OUT"] {
@@ -262,7 +262,7 @@ pub fn check_texts(
 pub fn file_names<'m>(
     alloc: Global,
     words: &'m ArgMatches<'_>,
-    arguments: &'m Arguments,
+    arguments: &'m CommandLine,
 ) -> Result<Vec<&'m [u8]>, WordsFault> {
     Ok(arguments.names(alloc, words.get_strs("FILE").unwrap_or(&[]))?)
 }
@@ -271,7 +271,7 @@ pub fn file_names<'m>(
 pub fn choice<'m>(
     words: &'m ArgMatches<'_>,
     names: &'m [&'m [u8]],
-) -> Result<Choice<'m>, WordsFault> {
+) -> Result<FileChoice<'m>, WordsFault> {
     let list = words.get_str("files-from");
     if names.is_empty() && list.is_none() {
         return Err(WordsFault::NoFile);
@@ -288,7 +288,7 @@ pub fn choice<'m>(
     {
         return Err(WordsFault::Pattern);
     }
-    Ok(Choice {
+    Ok(FileChoice {
         names,
         list,
         ends_by_nul: words.get_flag("null"),
@@ -369,7 +369,7 @@ pub fn check_tested(words: &ArgMatches<'_>) -> Result<(), WordsFault> {
 /// The name of the file that is read, or of standard input.
 pub fn source_name<'a>(
     words: &ArgMatches<'a>,
-    arguments: &'a Arguments,
+    arguments: &'a CommandLine,
 ) -> Result<&'a [u8], WordsFault>
     ensures { IfOk result (λ name. length name.now ≤ NAME) }
 {
@@ -383,7 +383,7 @@ pub fn source_name<'a>(
 /// The name of the file that is written, or of standard output.
 pub fn target_name<'a>(
     words: &ArgMatches<'a>,
-    arguments: &'a Arguments,
+    arguments: &'a CommandLine,
 ) -> Result<&'a [u8], WordsFault>
     ensures { IfOk result (λ name. length name.now ≤ NAME) }
 {
@@ -398,7 +398,7 @@ pub fn target_name<'a>(
 pub fn file_name<'a>(
     words: &ArgMatches<'a>,
     id: &str,
-    arguments: &'a Arguments,
+    arguments: &'a CommandLine,
 ) -> Result<&'a [u8], WordsFault>
     ensures { IfOk result (λ name. length name.now ≤ NAME) }
 {

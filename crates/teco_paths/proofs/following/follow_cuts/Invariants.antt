@@ -1,8 +1,8 @@
 use Rattle.std.proofs.Common.{ℕ, ◌<◌, slice_index_or}
-use Rattle.teco_paths.specs.declared.cut.Cut.{Cut}
+use Rattle.teco_paths.specs.declared.cut.CutState.{CutState}
 use Rattle.teco_paths.specs.Paths.{IsFollowed}
 use Rattle.teco_paths.proofs.following.follow_cuts.Given as goal
 
 -- the cut points before this one are followed
 abbrev pub invariant-loop-cut : goal.invariant-loop-cut
-invariant-loop-cut l = (k : ℕ) (d : Cut) → k < l.cut-index → IsFollowed l.course (slice_index_or l.course.cuts k d)
+invariant-loop-cut l = (k : ℕ) (d : CutState) → k < l.cut-index → IsFollowed l.course (slice_index_or l.course.cuts k d)

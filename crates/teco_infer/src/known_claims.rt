@@ -1,0 +1,92 @@
+//! Claims that are known besides facts.
+use std::alloc::Global;
+use teco_bounds::fault::{SearchRefusal, SearchStop};
+use teco_bounds::rounds::at_forms;
+use teco_linear::Form;
+use teco_rows::applied::copied;
+
+// Claims with coefficients above this are not used to find others.
+const PLAIN: u128 = 100;
+
+// What is claimed at keys besides facts, and what of it is used to find more: forms over the places
+// of measures, by the key.
+#[derive(Drop)]
+pub struct KnownClaims {
+    pub claims: Vec<(usize, Form)>,
+    pub told: Vec<(usize, Form)>,
+    // The places of the turns, numbers and lengths of which a bound was found.
+    pub bounded: Vec<u32>,
+    // How many rows programs may still go through.
+    pub work: usize,
+}
+
+// Whether all coefficients of a form are small.
+pub fn is_plain(form: &Form) -> bool {
+    form.terms().iter().all(|term| term.symbol.is_none()
+        || term.coefficient.unsigned_abs() <= PLAIN)
+}
+
+impl KnownClaims {
+    pub fn new(work: usize, alloc: Global) -> KnownClaims {
+        KnownClaims {
+            claims: Vec::new(alloc),
+            told: Vec::new(alloc),
+            bounded: Vec::new(alloc),
+            work,
+        }
+    }
+
+    // Takes from the work that is left.
+    pub fn spend(&mut self, work: usize) -> Result<(), SearchStop> {
+        self.work = self
+            .work
+            .checked_sub(work)
+            .ok_or(SearchStop::Refused(SearchRefusal::TooMuch))?;
+        Ok(())
+    }
+
+    // Whether this is claimed at a key already.
+    fn has(&self, key: usize, claim: &Form) -> bool {
+        self.claims.iter().any(|(place, known)| *place == key && known.terms() == claim.terms())
+    }
+
+    // What is used at a key, where measures are given by forms.
+    pub fn at(
+        &self,
+        key: usize,
+        forms: &[Option<Form>],
+        alloc: Global,
+    ) -> Result<Vec<Form>, SearchStop> {
+        let mut all = Vec::new(alloc);
+        for (place, claim) in &self.told {
+            if *place == key {
+                all.push(at_forms(claim, forms, alloc)?)?;
+            }
+        }
+        Ok(all)
+    }
+
+    // Takes what is claimed at each key besides. In the stead of a claim that is not plain a bound is
+    // used.
+    pub fn add(
+        &mut self,
+        claims: Vec<Form>,
+        bounds: &[Form],
+        alloc: Global,
+    ) -> Result<(), SearchStop> {
+        for (key, claim) in claims.into_iter().enumerate() {
+            if key == 0 || claim.is_harmless() || self.has(key, &claim) {
+                continue;
+            }
+            if is_plain(&claim) {
+                self.told.push((key, copied(&claim, alloc)?))?;
+            } else if let Some(bound) = bounds.get(key) {
+                if !bound.is_harmless() {
+                    self.told.push((key, copied(bound, alloc)?))?;
+                }
+            }
+            self.claims.push((key, claim))?;
+        }
+        Ok(())
+    }
+}
