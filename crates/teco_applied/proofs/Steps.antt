@@ -7,7 +7,7 @@ use Rattle.teco_applied.specs.Traces.{with_library}
 use Rattle.teco_applied.specs.declared.applying.Task.{Task}
 use Rattle.teco_applied.specs.declared.following.Followed.{Followed}
 use Rattle.teco_apply.specs.Sure.{call_text}
-use Rattle.teco_apply.specs.declared.by_pages.Pages.TheVariants.{First, Each, Whole}
+use Rattle.teco_apply.specs.declared.by_pages.PageChoice.TheVariants.{First, Each, Whole}
 use Rattle.teco_library.specs.Library.{LibraryFile}
 use Rattle.teco_model.specs.Session.{without_typed}
 use Rattle.teco_model.specs.State.{World, State, Next, start}

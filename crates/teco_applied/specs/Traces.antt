@@ -4,8 +4,8 @@ use Rattle.teco_applied.specs.Following.{Follows}
 use Rattle.teco_applied.specs.declared.applying.Task.{Task}
 use Rattle.teco_applied.specs.declared.following.Followed.{Followed}
 use Rattle.teco_apply.specs.Sure.{call_text, kept_loaded}
-use Rattle.teco_apply.specs.declared.by_pages.Pages.{Pages}
-use Rattle.teco_apply.specs.declared.by_pages.Pages.TheVariants.{First, Each, Whole}
+use Rattle.teco_apply.specs.declared.by_pages.PageChoice.{PageChoice}
+use Rattle.teco_apply.specs.declared.by_pages.PageChoice.TheVariants.{First, Each, Whole}
 use Rattle.teco_library.specs.Library.{LibraryFile}
 use Rattle.teco_model.specs.State.{start}
 use Rattle.teco_model.specs.declared.stop.Stop.{Stop}
@@ -55,7 +55,8 @@ FollowsOnce task most old new before after (Ok outcome) = FollowsTo task most ol
 FollowsOnce task most old new before after (Err fault) = ⊤
 
 -- Where the pages are edited each by itself, no more is promised here.
-abbrev pub FollowsPages : Pages → Task → ℕ → Holdings → Holdings → Telling → Telling → Result Outcome ToolFault → Type 0
+abbrev pub FollowsPages : PageChoice → Task → ℕ → Holdings → Holdings → Telling → Telling → Result Outcome ToolFault
+    → Type 0
 FollowsPages First task most old new before after result = FollowsOnce task most old new before after result
 FollowsPages Whole task most old new before after result = FollowsOnce task most old new before after result
 FollowsPages Each task most old new before after result = ⊤

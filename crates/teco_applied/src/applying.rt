@@ -24,7 +24,7 @@ use std::io::{Input, Write};
 use std::os::unix::fs::MetadataExt;
 use std::{fs, str};
 use teco_apply::{
-    Edit, Edited, Ending, Observer, Pages, Rewrite, Rewritten, edit_file, edit_in_place,
+    Edit, Edited, Ending, Observer, PageChoice, Rewrite, Rewritten, edit_file, edit_in_place,
 };
 use teco_base::Reg;
 use teco_console::{Console, Grouped, KnownNumber, Outcome, Request, Voice};
@@ -47,7 +47,7 @@ pub struct Task<'a, 's> {
     /// The argument that the macro is called with, if it is.
     pub argument: Option<i32>,
     /// The pages that it edits.
-    pub pages: Pages,
+    pub pages: PageChoice,
     /// What the machine has before it is run.
     pub start: Start<'s>,
     /// The bytes that each run may type, and that its calls may take.
@@ -119,7 +119,7 @@ impl<'a> Job<'a> {
         ensures premise { IsPremise (promise_of self.entry.accepted.now).size
             (promise_of self.entry.accepted.now).commands result.bound.premise.last }
     {
-        let is_first = matches!(self.task.pages, Pages::First);
+        let is_first = matches!(self.task.pages, PageChoice::First);
         Terms {
             bound: Bound::of(&self.accepted.promise()),
             is_strict: self.task.is_strict,
@@ -438,7 +438,7 @@ fn outcome_of_rest<E: Write + Drop>(
     ensures { IsOutcome task.now.wants_all false false result }
 {
     match (task.pages, seen.unread) {
-        (Pages::First, Some(unread)) if unread > 0 => {
+        (PageChoice::First, Some(unread)) if unread > 0 => {
             tell_unedited(voice, name, unread);
             if task.wants_all {
                 Outcome::Refused

@@ -10,7 +10,7 @@ use teco_console::{Console, element_at};
 use teco_model::Stop;
 use teco_pages::Host;
 use teco_run::{Execution, Machine, Progress, Site, Stopped};
-use teco_source::{Position, Shown};
+use teco_source::{LineAndByte, Shown};
 use teco_text::GapText;
 use teco_tools::{ToolFault, size_of};
 
@@ -28,7 +28,7 @@ fn shown_site(
         None => command,
         Some(register) => machine.regs().text(register),
     };
-    let Position { line, column } = Position::of(text, site.place);
+    let LineAndByte { line, column } = LineAndByte::of(text, site.place);
     let found = Shown(element_at(text, site.place));
     format!(in alloc; "{name}:{line}:{column}\t{found}")
 }

@@ -4,7 +4,7 @@ ghost use Rattle.teco_apply.specs.Sure.{call_text};
 
 use crate::names::Names;
 use std::alloc::{AllocError, Global};
-use teco_apply::Pages;
+use teco_apply::PageChoice;
 use teco_base::bytes::ESC;
 use teco_base::{Reg, decimal};
 use teco_model::Stop;
@@ -114,12 +114,12 @@ pub fn open_pages<T: TextStore, H: Host>(
     machine: &mut Machine<T>,
     host: &mut H,
     names: Names<'_>,
-    pages: Pages,
+    pages: PageChoice,
 ) -> Result<Stopped, ToolFault> {
     let opening = opening(alloc, names)?;
     let stopped = run_text(machine, host, &opening)?;
     match pages {
-        Pages::Whole if code_of(stopped.stop).is_none() => gather(machine, host),
+        PageChoice::Whole if code_of(stopped.stop).is_none() => gather(machine, host),
         _ => Ok(stopped),
     }
 }

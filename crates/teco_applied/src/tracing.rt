@@ -10,7 +10,7 @@ use crate::opening::{PAGES, call_bytes, open_pages, turn};
 use crate::subject::refuse_empty;
 use std::io::{Input, Write};
 use std::rt::Files;
-use teco_apply::Pages;
+use teco_apply::PageChoice;
 use teco_base::{Code, LIMIT};
 use teco_console::{AnswerFault, Console, Outcome, Premise, Sourced, letters};
 use teco_explain::note_of_code;
@@ -203,9 +203,9 @@ fn trace_loaded<H: Host + Reporting, O: Write + Drop, E: Write + Drop>(
     machine.load(library.texts())?;
     console.answer(HEAD)?;
     match task.pages {
-        Pages::Each => follow_pages(console, machine, host, task, most),
-        Pages::First => follow_once(console, machine, host, task, most),
-        Pages::Whole => follow_once(console, machine, host, task, most),
+        PageChoice::Each => follow_pages(console, machine, host, task, most),
+        PageChoice::First => follow_once(console, machine, host, task, most),
+        PageChoice::Whole => follow_once(console, machine, host, task, most),
     }
 }
 

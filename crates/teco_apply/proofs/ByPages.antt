@@ -1,43 +1,39 @@
 -- Edits by pages, run after run.
-use Rattle.std.proofs.Common.{◌≡◌, ◌≢◌, ◌≤◌, ◌+◌, ◌++◌, ◌∷◌, inl, inr, ℕ, List, [], Bool, true, false, not, ◌&&◌}
-use Rattle.std.proofs.Common.{Option, Result, Ok, Err, refl, sym, ◌∙◌, ap, subst, arith}
+use Rattle.teco_apply.proofs.Prelude.{◌≡◌, ◌≢◌, ◌≤◌, ◌+◌, ◌++◌, ◌∷◌, inl, inr, ℕ, List, [], Bool, true, false, not}
+use Rattle.teco_apply.proofs.Prelude.{Option, Result, Ok, Err, refl, sym, ◌∙◌, ap, subst, arith, AnswersText, Lacks}
+use Rattle.teco_apply.proofs.Prelude.{closing, has_esc, opening, stop_of, AdmittedStops, Behind, BehindMacro}
+use Rattle.teco_apply.proofs.Prelude.{BehindPage, Closing, EditsPages, EditsText, EndsInMacro, EndsWith, FileEdited}
+use Rattle.teco_apply.proofs.Prelude.{Gathers, Once, OpensBoth, Order, PagesCount, PagesGathered, PagesTurned}
+use Rattle.teco_apply.proofs.Prelude.{RunsAdmitted, is_dropped, nothing_done, to_start, Call, Calls, TakesArgument}
+use Rattle.teco_apply.proofs.Prelude.{kept_loaded, Edited, PageChoice, First, PAGES, NotReady, Ran, Tally, unread}
+use Rattle.teco_apply.proofs.Prelude.{code_of, is_code, Kept, World, Stop, told-map, Held, IsSameOutput, unread_bytes}
+use Rattle.teco_apply.proofs.Prelude.{HostFiles, Telling, world, Holdings, Joined, Joined-on, Joined-stays}
+use Rattle.teco_apply.proofs.Prelude.{SessionFault}
+use Rattle.std.proofs.Common.{◌&&◌}
 use Rattle.std.specs.Prelude.{IfOk, option_map}
 use Rattle.teco_apply.proofs.Edits.{leaves_open}
-use Rattle.teco_apply.specs.Apply.{AnswersText, Course, DropsIfCoded, Lacks, LineCounts, closing, has_esc, opening}
-use Rattle.teco_apply.specs.Apply.{stop_of}
-use Rattle.teco_apply.specs.ByPages.{AdmittedStops, Behind, BehindMacro, BehindPage, Closing, EachPage, EditCourse}
-use Rattle.teco_apply.specs.ByPages.{EditsPages, EditsText, EndsInMacro, EndsWith, FileEdited, Gathers, IsAskedAt}
-use Rattle.teco_apply.specs.ByPages.{IsRefused, Once, OpensBoth, Order, PagesCount, PagesGathered, PagesTurned, RanBy}
-use Rattle.teco_apply.specs.ByPages.{RanCounts, RunsAdmitted, TooMany, TurnCounts, TurnedBy, Turning, Turns}
-use Rattle.teco_apply.specs.ByPages.{edited_with, gathering, is_dropped, nothing_done, tally_after, to_start, turning}
-use Rattle.teco_apply.specs.Sure.{Answers, Call, Calls, TakesArgument, kept_loaded, loaded as with_library}
-use Rattle.teco_apply.specs.declared.by_pages.Edited.{Edited}
-use Rattle.teco_apply.specs.declared.by_pages.Pages.{Pages}
-use Rattle.teco_apply.specs.declared.by_pages.Pages.TheVariants.{First, Each, Whole}
-use Rattle.teco_apply.specs.declared.by_pages.TheConstants.{PAGES}
-use Rattle.teco_apply.specs.declared.ready.NotReady.{NotReady}
+use Rattle.teco_apply.specs.Apply.{Course, DropsIfCoded, LineCounts}
+use Rattle.teco_apply.specs.ByPages.{EachPage, EditCourse}
+use Rattle.teco_apply.specs.ByPages.{IsAskedAt}
+use Rattle.teco_apply.specs.ByPages.{IsRefused, RanBy}
+use Rattle.teco_apply.specs.ByPages.{RanCounts, TooMany, TurnCounts, TurnedBy, Turning, Turns}
+use Rattle.teco_apply.specs.ByPages.{edited_with, gathering, tally_after, turning}
+use Rattle.teco_apply.specs.Sure.{Answers, loaded as with_library}
+use Rattle.teco_apply.specs.declared.by_pages.PageChoice.TheVariants.{Each, Whole}
 use Rattle.teco_apply.specs.declared.ready.NotReady.TheVariants as not_ready
-use Rattle.teco_apply.specs.declared.stages.Ran.{Ran}
 use Rattle.teco_apply.specs.declared.stages.Ran.TheVariants as ran
-use Rattle.teco_apply.specs.declared.stages.Tally.{Tally}
 use Rattle.teco_apply.specs.declared.stages.Turned.{Turned}
 use Rattle.teco_apply.specs.declared.stages.Turned.TheVariants as turned
-use Rattle.teco_model.specs.Paging.{unread}
-use Rattle.teco_model.specs.Session.{code_line, code_of, is_code, lines_of, without_typed}
-use Rattle.teco_model.specs.State.{Kept, World}
-use Rattle.teco_model.specs.declared.stop.Stop.{Stop}
+use Rattle.teco_model.specs.Session.{code_line, lines_of, without_typed}
 use Rattle.teco_model.specs.declared.stop.Stop.TheVariants as kind
-use Rattle.teco_pages.proofs.Told.{told-map, told-same}
-use Rattle.teco_pages.specs.Held.{Held, IsSameOutput, files_of, unread_bytes}
-use Rattle.teco_pages.specs.HostFiles.{HostFiles, Telling}
-use Rattle.teco_filing.specs.Worlds.{is_some_byte, world}
+use Rattle.teco_pages.proofs.Told.{told-same}
+use Rattle.teco_pages.specs.Held.{files_of}
+use Rattle.teco_filing.specs.Worlds.{is_some_byte}
 use Rattle.teco_run.proofs.Together.{none-open}
 use Rattle.teco_model.specs.Run.{StopCounts}
-use Rattle.teco_run.specs.Holdings.{Holdings, Joined}
 use Rattle.teco_run.specs.Unread.{TellsIfUnread}
-use Rattle.teco_session.proofs.Together.{Joined-on, Joined-stays, Joined-then, Joined-typed}
+use Rattle.teco_session.proofs.Together.{Joined-then, Joined-typed}
 use Rattle.teco_session.specs.Output.{Writes}
-use Rattle.teco_session.specs.declared.fault.SessionFault.{SessionFault}
 use Rattle.teco_session.specs.declared.fault.SessionFault.TheVariants as fault
 
 -- ---- counts
@@ -569,14 +565,14 @@ behind_writing Front More first more old new f g sink sunk cannot (Behind.stops 
 behind_writing Front More first more old new f g sink sunk cannot (Behind.goes_on mid count written answers rest) =
     more mid new count g written sunk cannot rest
 
-pages_writing : (pages : Pages) (order : Order) → IsWriting (EditsPages pages order)
+pages_writing : (pages : PageChoice) (order : Order) → IsWriting (EditsPages pages order)
 pages_writing First order = macro_writing order nothing_done Closing closing_writing
 pages_writing Each order = each_writing order
 pages_writing Whole order = behind_writing Gathers _ gathers_writing
     (behind_writing (AnswersText to_start) (Once order) (text_writing to_start)
     (macro_writing order nothing_done Closing closing_writing))
 
-text_edits_writing : (pages : Pages) (order : Order) (text : List ℕ) → IsWriting (EditsText pages order text)
+text_edits_writing : (pages : PageChoice) (order : Order) (text : List ℕ) → IsWriting (EditsText pages order text)
 text_edits_writing pages order text = behind_writing (AnswersText text) (EditsPages pages order) (text_writing text)
     (pages_writing pages order)
 
@@ -590,7 +586,7 @@ opens source target old new f g sink sunk plain answers =
     let names = both_false (has_esc source) (has_esc target) plain in
     leaves_open source target names.0 names.1 old new f g sink sunk answers
 
-file_edited : (pages : Pages) (order : Order) (source target : List ℕ) (old edited new : World) (f m g : ℕ)
+file_edited : (pages : PageChoice) (order : Order) (source target : List ℕ) (old edited new : World) (f m g : ℕ)
     (sink sunk : Option (List ℕ)) (result : Result Edited SessionFault)
     → EditsText pages order (opening source target) old edited f m sink sunk result
     → DropsIfCoded (is_dropped result) edited new m g
@@ -609,7 +605,7 @@ file_edited pages order source target old edited new f m g sink sunk (Err fault.
     let no : fault.Read ≡ fault.Write =
     text_edits_writing pages order (opening source target) old edited f m sink sunk fault.Read edits in cc
 
-pub Joined-file : (pages : Pages) (order : Order) (source target : List ℕ) (a b c : Holdings) (f g h : Telling)
+pub Joined-file : (pages : PageChoice) (order : Order) (source target : List ℕ) (a b c : Holdings) (f g h : Telling)
     (k m n : ℕ) (sink sunk : Option (List ℕ)) (line : Result Bool SessionFault) (result : Result Edited SessionFault)
     → line ≡ is_dropped result → Joined
     (λ old new. EditsText pages order (opening source target) old new k m sink sunk result) a b f g

@@ -1,13 +1,10 @@
 -- An edit, where both files are open.
-use Rattle.std.proofs.Common.{◌≡◌, ℕ, List, true, false, Option, Ok, inl, inr, sym, subst}
+use Rattle.teco_apply.proofs.Prelude.{◌≡◌, ℕ, List, true, false, Option, Ok, inl, inr, sym, subst, AnswersText}
+use Rattle.teco_apply.proofs.Prelude.{BothOpen, Lacks, MacroStops, has_esc, opening, stop_of, Call, NotReady, World}
+use Rattle.teco_apply.proofs.Prelude.{Stop}
 use Rattle.teco_apply.proofs.Opening.{opens_both}
-use Rattle.teco_apply.specs.Apply.{AnswersText, BothOpen, IsNotRun, Lacks, MacroStops, WantsMemory, has_esc, opening}
-use Rattle.teco_apply.specs.Apply.{stop_of}
-use Rattle.teco_apply.specs.Sure.{Call}
-use Rattle.teco_apply.specs.declared.ready.NotReady.{NotReady}
+use Rattle.teco_apply.specs.Apply.{IsNotRun, WantsMemory}
 use Rattle.teco_apply.specs.declared.ready.NotReady.TheVariants.{NoInput, NoOutput, Argument, Memory}
-use Rattle.teco_model.specs.State.{World}
-use Rattle.teco_model.specs.declared.stop.Stop.{Stop}
 
 -- where both are open, only memory is lacked
 lacks_memory : (call : Call) (old : World) (stop : Stop) (new : World) → BothOpen old.files

@@ -1,28 +1,18 @@
 -- The edit of a first page that no guard refuses.
-use Rattle.std.proofs.Common.{◌≡◌, ◌≢◌, ℕ, List, Bool, true, false, Option, Result, Ok, Err, inl, inr, refl, sym, ap}
-use Rattle.std.proofs.Common.{subst, ◌∙◌}
+use Rattle.teco_apply.proofs.Prelude.{◌≡◌, ◌≢◌, ℕ, List, Bool, true, false, Option, Result, Ok, Err, inl, inr, refl}
+use Rattle.teco_apply.proofs.Prelude.{sym, ap, subst, ◌∙◌, AnswersText, BothOpen, MacroStops, closing, opening}
+use Rattle.teco_apply.proofs.Prelude.{AdmittedStops, Behind, BehindMacro, EditsText, EndsInMacro, EndsWith, FileEdited}
+use Rattle.teco_apply.proofs.Prelude.{Once, OpensBoth, Order, RunsAdmitted, is_dropped, nothing_done, order_by, Call}
+use Rattle.teco_apply.proofs.Prelude.{Edited, First, Ran, Tally, World, Stop, Telling, Holdings, Joined, Joined-on}
+use Rattle.teco_apply.proofs.Prelude.{Said, SessionFault, Done}
 use Rattle.std.proofs.lemmas.Bool.{false≢true}
 use Rattle.teco_apply.proofs.Edits.{macro_stops}
-use Rattle.teco_apply.specs.Apply.{AnswersMacro, AnswersText, Applied, BothOpen, EditCounts, Edits, Finishes}
-use Rattle.teco_apply.specs.Apply.{MacroStops, Then, are_plain, closing, opening}
-use Rattle.teco_apply.specs.ByPages.{AdmittedStops, AnswersAdmitted, Behind, BehindMacro, EditsText, EndsInMacro}
-use Rattle.teco_apply.specs.ByPages.{EndsWith, FileCounts, FileEdited, Once, OpensBoth, Order, RunsAdmitted}
-use Rattle.teco_apply.specs.ByPages.{is_dropped, nothing_done, order_by}
-use Rattle.teco_apply.specs.Sure.{Call}
-use Rattle.teco_apply.specs.declared.by_pages.Edited.{Edited}
-use Rattle.teco_apply.specs.declared.by_pages.Pages.TheVariants.{First}
-use Rattle.teco_apply.specs.declared.stages.Ran.{Ran}
+use Rattle.teco_apply.specs.Apply.{AnswersMacro, Applied, EditCounts, Edits, Finishes}
+use Rattle.teco_apply.specs.Apply.{Then, are_plain}
+use Rattle.teco_apply.specs.ByPages.{AnswersAdmitted}
+use Rattle.teco_apply.specs.ByPages.{FileCounts}
 use Rattle.teco_apply.specs.declared.stages.Ran.TheVariants as ran
-use Rattle.teco_apply.specs.declared.stages.Tally.{Tally}
-use Rattle.teco_model.specs.State.{World}
-use Rattle.teco_model.specs.declared.stop.Stop.{Stop}
-use Rattle.teco_pages.specs.HostFiles.{Telling}
-use Rattle.teco_run.specs.Holdings.{Holdings, Joined}
-use Rattle.teco_session.proofs.Together.{Joined-on}
-use Rattle.teco_session.specs.Answers.{Said}
-use Rattle.teco_session.specs.declared.fault.SessionFault.{SessionFault}
 use Rattle.teco_session.specs.declared.fault.SessionFault.TheVariants as fault
-use Rattle.teco_session.specs.declared.sessions.Done.{Done}
 
 -- what ends with a line is dropped as that says
 by_line : (done : Tally) (line : Result Bool SessionFault) (result : Result Edited SessionFault)

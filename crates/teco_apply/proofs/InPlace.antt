@@ -1,22 +1,13 @@
 -- The edit of a file in place, from the edit of the file into another.
-use Rattle.std.proofs.Common.{◌≡◌, ℕ, List, [], Bool, false, Option, Result, Ok, Err, refl, sym, subst}
+use Rattle.teco_apply.proofs.Prelude.{◌≡◌, ℕ, List, [], Bool, false, Option, Result, Ok, Err, refl, sym, subst}
+use Rattle.teco_apply.proofs.Prelude.{FileEdited, Order, Call, EditTouches, Edited, PageChoice, world, World, Event}
+use Rattle.teco_apply.proofs.Prelude.{Telling, Tells, Notes, Touches, NotesFit, Holdings, Joined, SessionFault}
 use Rattle.std.specs.List.{AllByRecursion}
-use Rattle.teco_apply.specs.ByPages.{FileEdited, Order}
 use Rattle.teco_apply.specs.InPlace.{IsRewritten}
-use Rattle.teco_apply.specs.Sure.{Call}
-use Rattle.teco_apply.specs.Touched.{EditTouches}
-use Rattle.teco_apply.specs.declared.by_pages.Edited.{Edited}
-use Rattle.teco_apply.specs.declared.by_pages.Pages.{Pages}
-use Rattle.teco_filing.specs.Worlds.{world}
 use Rattle.teco_in_place.proofs.Fitting.{fits-beneath}
 use Rattle.teco_in_place.specs.InPlace.{FilesAreReplaced, IsPassedOn, all_beneath, new_text}
-use Rattle.teco_model.specs.State.{World}
-use Rattle.teco_pages.specs.Events.{Event, Happened, IsOfBytes}
-use Rattle.teco_pages.specs.HostFiles.{Telling, Tells, Notes}
-use Rattle.teco_pages.specs.Noting.{EndsAtEnd, Touches}
-use Rattle.teco_pages.specs.Possible.{NotesFit}
-use Rattle.teco_run.specs.Holdings.{Holdings, Joined}
-use Rattle.teco_session.specs.declared.fault.SessionFault.{SessionFault}
+use Rattle.teco_pages.specs.Events.{Happened, IsOfBytes}
+use Rattle.teco_pages.specs.Noting.{EndsAtEnd}
 use Rattle.teco_session.specs.declared.fault.SessionFault.TheVariants as fault
 
 -- ---- what was noted
@@ -50,7 +41,7 @@ edit_in_order call source target (Err fault.Argument) a b events t = none_in_ord
 edit_in_order call source target (Err fault.Read) a b events t = none_in_order events t.1
 
 -- ---- the edit
-module _ (fit : NotesFit) (replaced : FilesAreReplaced) (pages : Pages) (order : Order) (name : List ℕ)
+module _ (fit : NotesFit) (replaced : FilesAreReplaced) (pages : PageChoice) (order : Order) (name : List ℕ)
     (replaces : Bool) where
   abbrev Edits : ℕ → ℕ → Option (List ℕ) → Option (List ℕ) → Result Edited SessionFault → Holdings → Holdings → Telling
       → Telling → Type 0

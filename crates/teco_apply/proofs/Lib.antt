@@ -1,4 +1,5 @@
 -- Lemmas of runs.
+mod Prelude
 mod ByPages
 mod Edits
 mod FirstPage

@@ -1,37 +1,36 @@
 -- What opens the files leaves both open, where it comes to its end and no name has an ESC.
-use Rattle.std.proofs.Common.{◌≡◌, ◌<◌, ◌+◌, ◌-◌, ℕ, zero, suc, List, [], ◌∷◌, ◌++◌, length, take, drop, Bool, true}
-use Rattle.std.proofs.Common.{false, ◌||◌, not, ◌==◌, nat_le, position, Option, Some, None, IsSome, Result, Ok, Err}
-use Rattle.std.proofs.Common.{refl, ap, sym, ◌∙◌, subst, arith, length-append, option_map, append_assoc}
+use Rattle.teco_apply.proofs.Prelude.{◌≡◌, ◌<◌, ◌+◌, ◌-◌, ℕ, zero, suc, List, [], ◌∷◌, ◌++◌, length, take, Bool, true}
+use Rattle.teco_apply.proofs.Prelude.{false, not, nat_le, Option, Some, None, IsSome, Result, Ok, Err, refl, ap, sym}
+use Rattle.teco_apply.proofs.Prelude.{◌∙◌, subst, arith, option_map, BothOpen, has_esc, opening, MOST, Element}
+use Rattle.teco_apply.proofs.Prelude.{element_at, Input, Output, unread, Stops, go_on, run, code_of, is_code, Kept}
+use Rattle.teco_apply.proofs.Prelude.{Next, End, State, World, start, step, Kind, Stop}
+use Rattle.std.proofs.Common.{drop}
+use Rattle.std.proofs.Common.{◌||◌, ◌==◌, position}
+use Rattle.std.proofs.Common.{length-append, append_assoc}
 use Rattle.std.proofs.Math.Seq.{take-append_seam, drop-append_seam, drop-append-add}
 use Rattle.std.proofs.lemmas.Bool.{le-leb, lt-leb, lt-ltb}
 use Rattle.std.specs.Bool.{⊤}
 use Rattle.std.specs.List.{prefix_len, position_or_len}
 use Rattle.std.specs.Option.{ok_or}
-use Rattle.teco_apply.specs.Apply.{BothOpen, has_esc, opening}
-use Rattle.teco_apply.specs.Sure.{MOST}
 use Rattle.teco_base.specs.declared.bytes.TheConstants.{ESC}
 use Rattle.teco_base.specs.declared.code.Code.{Code}
 use Rattle.teco_base.specs.declared.code.Code.TheVariants as code
 use Rattle.teco_model.specs.Arguments.{arguments_of, levels_after_taking}
 use Rattle.teco_model.specs.Checked.{◌>>=◌}
-use Rattle.teco_model.specs.Element.{Element, blank_len, blank_end, element_from, element_at, text_up_to}
-use Rattle.teco_model.specs.Files.{Input, Output, file_named, output_of}
+use Rattle.teco_model.specs.Element.{blank_len, blank_end, element_from, text_up_to}
+use Rattle.teco_model.specs.Files.{file_named, output_of}
 use Rattle.teco_model.specs.Filing.{name_apart_from, no_output, open_input, open_output, with_input}
 use Rattle.teco_model.specs.Going.{frames_at, settle}
 use Rattle.teco_model.specs.Letters.{letters}
 use Rattle.teco_model.specs.Outside.{file_reply, going_on, opened, page_reply}
 use Rattle.teco_model.specs.Pages.{first_page}
-use Rattle.teco_model.specs.Paging.{files_behind_page, nothing_lost, page_taken, unread, world_with_next_page, yank}
-use Rattle.teco_model.specs.Run.{Stops, go_on, run}
-use Rattle.teco_model.specs.Session.{code_of, is_code}
-use Rattle.teco_model.specs.State.{Frames, Kept, Outcome, Next, End, Exit, Fail, Absent, State, World, start}
-use Rattle.teco_model.specs.Step.{end_of_text, end_outcome, outcome_at, reply_of, step}
+use Rattle.teco_model.specs.Paging.{files_behind_page, nothing_lost, page_taken, world_with_next_page, yank}
+use Rattle.teco_model.specs.State.{Frames, Outcome, Exit, Fail, Absent}
+use Rattle.teco_model.specs.Step.{end_of_text, end_outcome, outcome_at, reply_of}
 use Rattle.teco_model.specs.declared.arguments.Taken.{Taken}
 use Rattle.teco_model.specs.declared.kind.File.TheVariants as file
-use Rattle.teco_model.specs.declared.kind.Kind.{Kind}
 use Rattle.teco_model.specs.declared.kind.Kind.TheVariants as kind
 use Rattle.teco_model.specs.declared.kind.Page.TheVariants as page
-use Rattle.teco_model.specs.declared.stop.Stop.{Stop}
 use Rattle.teco_model.specs.declared.stop.Stop.TheVariants as stop
 
 -- ---- reading

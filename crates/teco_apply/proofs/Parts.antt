@@ -1,27 +1,19 @@
 -- What the parts of an edit touch, one behind another.
-use Rattle.std.proofs.Common.{◌≡◌, ℕ, List, [], ◌++◌, Bool, false, Option, Result, Ok, Err, inl, inr, refl, sym, ap}
+use Rattle.teco_apply.proofs.Prelude.{◌≡◌, ℕ, List, [], ◌++◌, Bool, false, Option, Result, Ok, Err, inl, inr, refl, sym}
+use Rattle.teco_apply.proofs.Prelude.{ap, opening, is_dropped, Call, IsReady, MOST, kept_loaded, EditTouches}
+use Rattle.teco_apply.proofs.Prelude.{IsReadyLoaded, TouchesByParts, TouchesNone, by_none, by_string, by_dropping}
+use Rattle.teco_apply.proofs.Prelude.{in_turn, Edited, Event, Held, Telling, Tells, Notes, Touches, NotesFit, Holdings}
+use Rattle.teco_apply.proofs.Prelude.{Said, SessionFault, Done}
 use Rattle.teco_apply.proofs.Touched.{touches-none-loaded}
-use Rattle.teco_apply.specs.Apply.{opening}
-use Rattle.teco_apply.specs.ByPages.{is_dropped}
-use Rattle.teco_apply.specs.Sure.{Call, IsReady, MOST, kept_loaded}
-use Rattle.teco_apply.specs.Touched.{AreMeasuredAnew, EditTouches, IsReadyLoaded, Measures, TouchesByParts}
-use Rattle.teco_apply.specs.Touched.{TouchesInEdit, TouchesNone, TouchesOpening, by_none, by_measure, by_string}
-use Rattle.teco_apply.specs.Touched.{by_dropping}
-use Rattle.teco_apply.specs.Touched.{by_macro, in_turn}
-use Rattle.teco_apply.specs.declared.by_pages.Edited.{Edited}
+use Rattle.teco_apply.specs.Touched.{AreMeasuredAnew, Measures}
+use Rattle.teco_apply.specs.Touched.{TouchesInEdit, TouchesOpening, by_measure}
+use Rattle.teco_apply.specs.Touched.{by_macro}
 use Rattle.teco_pages.proofs.Touching.{touches-none, touches-on}
-use Rattle.teco_pages.specs.Events.{Event}
-use Rattle.teco_pages.specs.Held.{Held}
-use Rattle.teco_pages.specs.HostFiles.{Telling, Tells, Notes}
-use Rattle.teco_pages.specs.Noting.{Touches, noted_left}
-use Rattle.teco_pages.specs.Possible.{FitWhere, NotesFit}
-use Rattle.teco_run.specs.Holdings.{Holdings}
+use Rattle.teco_pages.specs.Noting.{noted_left}
+use Rattle.teco_pages.specs.Possible.{FitWhere}
 use Rattle.teco_run.specs.Touched.{TouchesBetween}
-use Rattle.teco_session.specs.Answers.{Said}
 use Rattle.teco_session.specs.Touched.{TouchesByString}
-use Rattle.teco_session.specs.declared.fault.SessionFault.{SessionFault}
 use Rattle.teco_session.specs.declared.fault.SessionFault.TheVariants as fault
-use Rattle.teco_session.specs.declared.sessions.Done.{Done}
 
 -- where no call is made
 pub parts-same : (call : Call) (a b : Holdings) (x : Telling) → b.held ≡ a.held → TouchesByParts call a b x x

@@ -1,33 +1,28 @@
 -- A verified macro is sure to end.
-use Rattle.std.proofs.Common.{◌≡◌, ℕ, zero, suc, ◌<◌, ◌≤◌, ℤ, pos, negsuc, List, [], ◌∷◌, length, Option, Some, None}
-use Rattle.std.proofs.Common.{option_map, IsSome, refl, subst, sym, arith, get_or}
-use Rattle.std.proofs.lemmas.Bool.Decides.{nat_tests}
+use Rattle.teco_apply.proofs.Prelude.{◌≡◌, ℕ, zero, suc, ◌<◌, ◌≤◌, List, [], ◌∷◌, length, Option, Some, None}
+use Rattle.teco_apply.proofs.Prelude.{option_map, IsSome, refl, subst, sym, arith, nat_tests, Call, Calls, HasFiles}
+use Rattle.teco_apply.proofs.Prelude.{IsReady, MOST, TakesArgument, call_text, kept_loaded, REGISTERS, IsLoaded, Stops}
+use Rattle.teco_apply.proofs.Prelude.{Kept, World, start, Stop, Input, Output, Held, IsSameOutput, unread_bytes}
+use Rattle.teco_apply.proofs.Prelude.{told-map, told-whole, HostFiles, AreOfBytes, Telling, world, Holdings, Joined}
+use Rattle.std.proofs.Common.{ℤ, pos, negsuc}
+use Rattle.std.proofs.Common.{get_or}
 use Rattle.std.specs.List.{sum_by}
 use Rattle.std.proofs.lemmas.List.Sums.{sum_by-cons}
-use Rattle.teco_apply.specs.Sure.{Call, Calls, HasFiles, IsReady, IsTaken, IsThere, MOST, Runs}
-use Rattle.teco_apply.specs.Sure.{TakesArgument, TypesWithin}
-use Rattle.teco_apply.specs.Sure.{call_text, kept_loaded}
+use Rattle.teco_apply.specs.Sure.{IsTaken, IsThere, Runs}
+use Rattle.teco_apply.specs.Sure.{TypesWithin}
 use Rattle.teco_base.specs.Register.{register_name}
-use Rattle.teco_base.specs.declared.TheConstants.{REGISTERS}
 use Rattle.teco_law_expansion.specs.Given.{call_given}
-use Rattle.teco_model.specs.Macros.{IsLoaded, IsAsked, Needs}
+use Rattle.teco_model.specs.Macros.{IsAsked, Needs}
 use Rattle.teco_poly.specs.Polynomial.{value}
 use Rattle.teco_model.specs.Registers.{Pair, empty_pair, held_length_of_pair}
-use Rattle.teco_model.specs.Run.{Stops, IsSure}
-use Rattle.teco_model.specs.State.{Kept, World, start}
+use Rattle.teco_model.specs.Run.{IsSure}
 use Rattle.teco_model.specs.laws.Whole.{IsWhole}
-use Rattle.teco_model.specs.declared.stop.Stop.{Stop}
 use Rattle.teco_model.specs.declared.stop.Stop.TheVariants as stop
-use Rattle.teco_model.specs.Files.{Input, Output}
-use Rattle.teco_pages.specs.Held.{Held, HoldsBytes, IsSameOutput, input_of, unread_bytes}
+use Rattle.teco_pages.specs.Held.{HoldsBytes, input_of}
 use Rattle.teco_pages.proofs.Bytes.{files_whole}
-use Rattle.teco_pages.proofs.Told.{told-map, told-whole}
-use Rattle.teco_pages.specs.HostFiles.{HostFiles, AreOfBytes, Telling}
-use Rattle.teco_filing.specs.Worlds.{world}
 use Rattle.teco_law_facts.specs.Laws.{IsEntry}
 use Rattle.teco_model.specs.Paging.{unread_of}
 use Rattle.teco_law_facts.specs.SoundSteps.{AreOpen}
-use Rattle.teco_run.specs.Holdings.{Holdings, Joined}
 use Rattle.teco_law_tables.specs.Keeping.{LeavesOpen, RunsLeaveOpen}
 use Rattle.teco_law_tables.specs.Sure.{ComesTo, RunsAreSure, RunsEndOnce}
 use Rattle.teco_law_tables.specs.Verified as tables

@@ -1,33 +1,26 @@
 -- The run of a verified macro opens, names and drops no file, and some files fit what was noted of it.
-use Rattle.std.proofs.Common.{◌≡◌, ℕ, zero, suc, ◌+◌, ◌-◌, ◌<◌, ◌≤◌, List, [], ◌∷◌, Bool, true, false, Option, Some}
-use Rattle.std.proofs.Common.{None, Result, Ok, Err, inl, inr, refl, sym, ap, subst, ◌∙◌, arith, nat_le, nat_lt}
+use Rattle.teco_apply.proofs.Prelude.{◌≡◌, ℕ, zero, suc, ◌+◌, ◌-◌, ◌<◌, ◌≤◌, List, [], ◌∷◌, Bool, true, false, Option}
+use Rattle.teco_apply.proofs.Prelude.{Some, None, Result, Ok, Err, inl, inr, refl, sym, ap, subst, ◌∙◌, arith, nat_le}
+use Rattle.teco_apply.proofs.Prelude.{nat_tests, Call, IsReady, call_text, kept_loaded, IsReadyLoaded, TouchesNone}
+use Rattle.teco_apply.proofs.Prelude.{world, Element, element_at, go_on, run, State, World, Next, End, start, step}
+use Rattle.teco_apply.proofs.Prelude.{Kind, told-whole, Event, IsSameOutput, AreOfBytes, HostFiles, Telling, Tells}
+use Rattle.teco_apply.proofs.Prelude.{Notes, Touches, NotesFit, Holdings, TouchesBySteps, touched_in_run}
+use Rattle.std.proofs.Common.{nat_lt}
 use Rattle.std.proofs.lemmas.Bool.{true≢false}
-use Rattle.std.proofs.lemmas.Bool.Decides.{nat_tests}
 use Rattle.std.specs.Prelude.{IfSome}
 use Rattle.teco_apply.proofs.Sure.{IsCalled, Laws, ends_with}
-use Rattle.teco_apply.specs.Sure.{Call, IsReady, call_text, kept_loaded}
-use Rattle.teco_apply.specs.Touched.{IsReadyLoaded, TouchesNone, WasNotReady}
+use Rattle.teco_apply.specs.Touched.{WasNotReady}
 use Rattle.teco_base.specs.declared.code.Code as base
-use Rattle.teco_filing.specs.Worlds.{world}
 use Rattle.teco_filing.specs.declared.halt.Halt.{Halt}
 use Rattle.teco_law_tables.specs.Staying.{NoFileCommands, ReadsNoFileCommand, is_of_files}
-use Rattle.teco_model.specs.Element.{Element, element_at}
-use Rattle.teco_model.specs.Run.{Ends, Reaches, go_on, run}
-use Rattle.teco_model.specs.State.{State, World, Next, End, start}
-use Rattle.teco_model.specs.Step.{step}
-use Rattle.teco_model.specs.declared.kind.Kind.{Kind}
+use Rattle.teco_model.specs.Run.{Ends, Reaches}
 use Rattle.teco_model.specs.declared.kind.Kind.TheVariants as kind
-use Rattle.teco_pages.proofs.Told.{told-whole}
-use Rattle.teco_pages.specs.Events.{Event, opened_input, gave, ended, opened_output, wrote, closed, dropped, measured}
-use Rattle.teco_pages.specs.Held.{IsSameOutput}
-use Rattle.teco_pages.specs.HostFiles.{AreOfBytes, HostFiles, Telling, Tells, Notes}
-use Rattle.teco_pages.specs.Noting.{Touches, openings}
-use Rattle.teco_pages.specs.Possible.{GivesMeasured, IsUnopened, NotesFit, OpensAnew, SomeFit}
+use Rattle.teco_pages.specs.Events.{opened_input, gave, ended, opened_output, wrote, closed, dropped, measured}
+use Rattle.teco_pages.specs.Noting.{openings}
+use Rattle.teco_pages.specs.Possible.{GivesMeasured, IsUnopened, OpensAnew, SomeFit}
 use Rattle.teco_run.proofs.Quiet.{quiet-end}
 use Rattle.teco_run.proofs.Runs.{run-on}
-use Rattle.teco_run.specs.Holdings.{Holdings}
-use Rattle.teco_run.specs.Touched.{ComesTo, IsDue, TouchesBySteps, file_of, output_named, touched_by_read}
-use Rattle.teco_run.specs.Touched.{touched_in_run}
+use Rattle.teco_run.specs.Touched.{ComesTo, IsDue, file_of, output_named, touched_by_read}
 use Rattle.teco_run.specs.declared.site.Stopped.{Stopped}
 
 -- ---- no command of files is read

@@ -6,8 +6,8 @@ use Rattle.teco_apply.specs.Apply.{AnswersText, BothOpen, Course, DropsIfCoded, 
 use Rattle.teco_apply.specs.Apply.{are_plain, closing, opening}
 use Rattle.teco_apply.specs.Sure.{Call, MOST, Runs, loaded}
 use Rattle.teco_apply.specs.declared.by_pages.Edited.{Edited}
-use Rattle.teco_apply.specs.declared.by_pages.Pages.{Pages}
-use Rattle.teco_apply.specs.declared.by_pages.Pages.TheVariants.{First, Each, Whole}
+use Rattle.teco_apply.specs.declared.by_pages.PageChoice.{PageChoice}
+use Rattle.teco_apply.specs.declared.by_pages.PageChoice.TheVariants.{First, Each, Whole}
 use Rattle.teco_apply.specs.declared.by_pages.TheConstants.{PAGES}
 use Rattle.teco_apply.specs.declared.stages.Ran.{Ran}
 use Rattle.teco_apply.specs.declared.stages.Ran.TheVariants as ran
@@ -275,12 +275,12 @@ abbrev pub AllPages : Order → EditCourse
 AllPages order = Behind Gathers (FromStart order)
 
 -- what is done once the first page is read
-abbrev pub EditsPages : Pages → Order → EditCourse
+abbrev pub EditsPages : PageChoice → Order → EditCourse
 EditsPages First order = Once order
 EditsPages Each order = EachPage order
 EditsPages Whole order = AllPages order
 
-abbrev pub EditsText : Pages → Order → List ℕ → EditCourse
+abbrev pub EditsText : PageChoice → Order → List ℕ → EditCourse
 EditsText pages order text = Behind (AnswersText text) (EditsPages pages order)
 
 -- the output is dropped behind a code, and where the guard refused a run
@@ -295,7 +295,7 @@ OpensBoth source target old =
     AnswersText (opening source target) old new f g sink sunk (Ok false) → BothOpen new.files
 
 -- the edit of one file into another
-pub record EditsFile (pages : Pages) (order : Order) (source target : List ℕ) (old new : World) (f g : ℕ)
+pub record EditsFile (pages : PageChoice) (order : Order) (source target : List ℕ) (old new : World) (f g : ℕ)
     (sink sunk : Option (List ℕ)) (result : Result Edited SessionFault) : Type 0 where
   pub edited : World
   pub count : ℕ
@@ -305,7 +305,7 @@ pub record EditsFile (pages : Pages) (order : Order) (source target : List ℕ) 
 
 -- What comes of it. With an argument that the macro does not take, or without memory for the first command string,
 -- nothing is done.
-abbrev pub FileEdited : Pages → Order → List ℕ → List ℕ → EditCourse
+abbrev pub FileEdited : PageChoice → Order → List ℕ → List ℕ → EditCourse
 FileEdited pages order source target old new f g sink sunk (Ok edited) =
     EditsFile pages order source target old new f g sink sunk (Ok edited)
 FileEdited pages order source target old new f g sink sunk (Err fault.Write) =

@@ -2,7 +2,7 @@
 use Rattle.std.specs.Prelude.{ℕ, ◌≡◌, List, Bool, Option, Result}
 use Rattle.teco_apply.specs.ByPages.{FileEdited, Order}
 use Rattle.teco_apply.specs.declared.by_pages.Edited.{Edited}
-use Rattle.teco_apply.specs.declared.by_pages.Pages.{Pages}
+use Rattle.teco_apply.specs.declared.by_pages.PageChoice.{PageChoice}
 use Rattle.teco_filing.specs.Worlds.{world}
 use Rattle.teco_in_place.specs.InPlace.{AreFittedInPlace, AreInPlace, AreReady, new_text}
 use Rattle.teco_pages.specs.Events.{Event, Happened}
@@ -15,7 +15,7 @@ use Rattle.teco_session.specs.declared.fault.SessionFault.{SessionFault}
 -- The host has noted these events, which some files fit if no more was given of one than was measured. Whatever
 -- files fit them, the edit of the file into a new one leaves some by the definition, and each file has its new text,
 -- if there is one; else it is as it was.
-pub record IsRewritten (pages : Pages) (order : Order) (name : List ℕ) (replaces : Bool) (old new : Holdings)
+pub record IsRewritten (pages : PageChoice) (order : Order) (name : List ℕ) (replaces : Bool) (old new : Holdings)
     (after : Telling) (f : ℕ) (sink sunk : Option (List ℕ)) (result : Result Edited SessionFault) : Type 0 where
   pub events : List Event
   pub noted : after ≡ Notes events

@@ -29,7 +29,7 @@ pub const PAGES: u64 = 4_294_967_296;
 
 /// Which pages of a file a macro edits.
 #[derive(Clone, Copy)]
-pub enum Pages {
+pub enum PageChoice {
     /// The first; the others are copied.
     First,
     /// Each in turn, as long as bytes are unread.
@@ -52,7 +52,7 @@ pub struct Edit<'a, G: Guard> {
     /// The macro's argument.
     pub given: Option<i32>,
     /// The pages that are edited.
-    pub pages: Pages,
+    pub pages: PageChoice,
     /// What is asked before each run.
     pub guard: &'a G,
 }
@@ -224,7 +224,7 @@ fn edit_whole<T: TextStore, H: Host, W: Write, G: Guard, O: Observer<H>>(
 #[derive(Drop)]
 struct Plan<'a, G: Guard> {
     order: &'a Order<'a, G>,
-    pages: Pages,
+    pages: PageChoice,
     opening: &'a [u8],
 }
 
@@ -247,9 +247,9 @@ fn edit_pages<T: TextStore, H: Host, W: Write, G: Guard, O: Observer<H>>(
     ensures counted { PagesCount result (H.failures host.old) (H.failures host.new) }
 {
     match plan.pages {
-        Pages::First => edit_once(machine, plan.order, host, writer, observer),
-        Pages::Each => edit_each(machine, plan.order, host, writer, observer),
-        Pages::Whole => edit_whole(machine, plan.order, host, writer, observer),
+        PageChoice::First => edit_once(machine, plan.order, host, writer, observer),
+        PageChoice::Each => edit_each(machine, plan.order, host, writer, observer),
+        PageChoice::Whole => edit_whole(machine, plan.order, host, writer, observer),
     }
 }
 
@@ -298,6 +298,26 @@ pub fn dropped(edited: Result<Edited, SessionFault>) -> Result<bool, SessionFaul
 /// dropped.
 ///
 /// An argument, the first command string's memory, and a fault of writing are as with `apply`.
+///
+/// # Errors
+///
+/// A fault of the writer, or `Memory` for the first command string.
+///
+/// # Examples
+///
+/// ```
+/// let promise = verified.promise();
+/// let edit = Edit {
+///     alloc,
+///     promise: &promise,
+///     source: b"in",
+///     target: b"out",
+///     given: None,
+///     pages,
+///     guard: &Refusing(refused),
+/// };
+/// match edit_file(&mut machine, &edit, host, written, &mut seen) {
+/// ```
 pub fn edit_file<T: TextStore, H: Host, W: Write, G: Guard, O: Observer<H>>(
     machine: &mut Machine<T>,
     edit: &Edit<'_, G>,

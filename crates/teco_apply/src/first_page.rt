@@ -8,7 +8,7 @@ ghost use Rattle.teco_session.specs.Answers.{Said};
 ghost use Rattle.teco_session.specs.declared.fault.SessionFault.TheVariants as fault;
 ghost use Rattle.teco_verify.specs.Promised.{promise_of};
 
-use crate::by_pages::{Edit, Pages, dropped, edit_file};
+use crate::by_pages::{Edit, PageChoice, dropped, edit_file};
 use crate::editing::NAME;
 use crate::guard::Willing;
 use std::alloc::Global;
@@ -39,6 +39,10 @@ fn said(line: Result<bool, SessionFault>) -> Result<Done, SessionFault>
 ///
 /// Without memory for the first command string nothing is done. With a fault of writing, the run
 /// whose bytes were being written is the last: a part of what it writes is written.
+///
+/// # Errors
+///
+/// A fault of the writer, or `Memory` for the first command string.
 pub fn apply<T: TextStore, H: Host, W: Write>(
     alloc: Global,
     machine: &mut Machine<T>,
@@ -70,7 +74,7 @@ pub fn apply<T: TextStore, H: Host, W: Write>(
         source,
         target,
         given,
-        pages: Pages::First,
+        pages: PageChoice::First,
         guard: &Willing,
     };
     // as no run is refused, the output is dropped behind a code alone

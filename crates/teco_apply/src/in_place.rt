@@ -6,7 +6,7 @@ ghost use Rattle.teco_apply.specs.Sure.{IsTaken};
 ghost use Rattle.teco_pages.specs.HostFiles.{Notes};
 ghost use Rattle.teco_session.specs.declared.fault.SessionFault.TheVariants as fault;
 
-use crate::by_pages::{Edit, Edited, Pages, edit_file};
+use crate::by_pages::{Edit, Edited, PageChoice, edit_file};
 use crate::editing::NAME;
 use crate::guard::{Asked, Guard, Observer};
 use crate::run::takes;
@@ -34,7 +34,7 @@ pub struct Rewrite<'a, G: Guard, E: Ending> {
     /// The macro's argument.
     pub given: Option<i32>,
     /// The pages that are edited.
-    pub pages: Pages,
+    pub pages: PageChoice,
     /// What is asked before each run.
     pub guard: &'a G,
     /// Does the new text take the place of the file?

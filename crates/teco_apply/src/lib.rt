@@ -10,7 +10,7 @@ mod ready;
 mod run;
 mod stages;
 
-pub use by_pages::{Edit, Edited, PAGES, Pages, edit_file};
+pub use by_pages::{Edit, Edited, PAGES, PageChoice, edit_file};
 pub use editing::NAME;
 pub use first_page::apply;
 pub use guard::{Asked, Guard, Observer, Willing};

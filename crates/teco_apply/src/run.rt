@@ -120,6 +120,11 @@ pub fn make_ready<T: TextStore>(machine: &mut Machine<T>, call: &Call<'_>) -> Re
 }
 
 /// Runs a macro of which a promise is given, with an argument, or with none, as `run_verified` does.
+///
+/// # Errors
+///
+/// `NotReady`, and nothing is done: an argument is missing or one that the macro does not take; the
+/// input or the output that it needs is not open; memory for the library's texts is refused.
 pub fn run_promised<T: TextStore, H: Host>(
     machine: &mut Machine<T>,
     call: &Call<'_>,
@@ -149,6 +154,23 @@ pub fn run_promised<T: TextStore, H: Host>(
 /// Where the printed size at N fits, and the printed number of commands is one of 64 bits, it comes
 /// to its end within that number of commands, and never to a code; or want of memory stops it, or
 /// the host. N is what is held and what is unread once the library is loaded.
+///
+/// # Errors
+///
+/// `NotReady`, as at `run_promised`.
+///
+/// # Examples
+///
+/// ```
+/// let library = Library::read(alloc, b"@^UA/J<:Sa\x1b;-D>HT/").ok()?;
+/// let verified = verify(alloc, &library, Reg::of(b'A')?).ok()?;
+/// let mut machine = Machine::new(alloc, GapText::new(alloc));
+/// let mut host = MemHost::new(alloc);
+/// machine.run(b"Ibanana\x1b", 100, &mut host);
+/// let stop = run_verified(&mut machine, &verified, &mut host).ok()?;
+/// let typed = machine.take_typed();
+/// Some(matches!(stop, Stop::Ended { .. }) && typed.as_slice() == b"bnn".as_slice())
+/// ```
 pub fn run_verified<T: TextStore, H: Host>(
     machine: &mut Machine<T>,
     verified: &Verified<'_>,
@@ -177,6 +199,10 @@ pub fn run_verified<T: TextStore, H: Host>(
 
 /// Runs a verified macro that takes an argument, which stands before the call. Any argument will do
 /// that is in the range for which the macro was verified.
+///
+/// # Errors
+///
+/// `NotReady`, as at `run_promised`.
 pub fn run_verified_with<T: TextStore, H: Host>(
     machine: &mut Machine<T>,
     verified: &Verified<'_>,

@@ -1,2 +1,3 @@
 mod Digits
 mod Quotient
+pub mod Results

@@ -3,7 +3,9 @@ pub mod Arithmetic
 pub mod Bytes
 pub mod Code
 pub mod Constants
+pub mod Does
 pub mod Lines
 pub mod NumberText
 pub mod Register
+pub mod Results
 pub mod Text

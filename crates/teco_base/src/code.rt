@@ -1,3 +1,4 @@
+//! The codes.
 ghost use Rattle.std.specs.Prelude.{◌≡◌};
 ghost use Rattle.teco_base.specs.Code.{code_name};
 

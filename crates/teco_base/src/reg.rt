@@ -1,3 +1,4 @@
+//! The names of registers.
 ghost use Rattle.std.specs.Prelude.{◌≡◌, ◌<◌};
 ghost use Rattle.teco_base.specs.Register.{register_of, register_name};
 ghost use Rattle.teco_base.specs.declared.TheConstants.{REGISTERS};

@@ -2,7 +2,7 @@
 use std::alloc::{AllocError, AllocFailed};
 use teco_linear::LinearFault;
 use teco_paths::fault::PathFault;
-use teco_rows::fault::Fault;
+use teco_rows::fault::RowFault;
 use teco_simplex::SimplexFault;
 use thiserror::Error;
 
@@ -85,10 +85,10 @@ impl From<LinearFault> for SearchStop {
     }
 }
 
-impl From<Fault> for SearchStop {
-    fn from(refused: Fault) -> SearchStop {
+impl From<RowFault> for SearchStop {
+    fn from(refused: RowFault) -> SearchStop {
         match refused {
-            Fault::Linear(refused) => SearchStop::from(refused),
+            RowFault::Linear(refused) => SearchStop::from(refused),
             _ => SearchStop::Refused(SearchRefusal::TooMuch),
         }
     }

@@ -5,7 +5,7 @@ use crate::findings::Findings;
 use crate::running::{CaseRun, CaseRunner, FilesLeft, buffer_of, run_over_each};
 use crate::settings::{IN_FOLDER, IN_MEMORY};
 use std::alloc::{AllocError, Global};
-use teco_apply::{Edit, Edited, Pages, Willing, edit_file};
+use teco_apply::{Edit, Edited, PageChoice, Willing, edit_file};
 use teco_base::bytes::FF;
 use teco_console::Premise;
 use teco_pages::Host;
@@ -28,7 +28,7 @@ const NOT_TAKEN: u64 = 2;
 pub struct EditTask<'a> {
     pub promise: &'a Promise<'a>,
     pub argument: Option<i32>,
-    pub pages: Pages,
+    pub pages: PageChoice,
     pub input: &'a [u8],
 }
 
@@ -55,7 +55,7 @@ fn status_of(edited: Result<Edited, SessionFault>) -> Result<(u64, u64), Session
 impl EditTask<'_> {
     // What a promised polynomial is at the N of its only run.
     fn most(&self, promised: Poly) -> Option<u64> {
-        let Pages::First = self.pages else {
+        let PageChoice::First = self.pages else {
             return None;
         };
         let n = self.held();

@@ -5,7 +5,7 @@ use crate::fault::CaseFault;
 use crate::findings::Findings;
 use crate::subject::{MacroSubject, library_of};
 use std::alloc::Global;
-use teco_apply::Pages;
+use teco_apply::PageChoice;
 use teco_verdicts::{Verdict, verified_by};
 use teco_verify::Refusal;
 
@@ -25,11 +25,11 @@ fn argument_of(case: &NamedCase<'_>) -> Result<Option<i32>, CaseFault> {
 }
 
 // The pages that are edited: the first where the case names none.
-fn pages_of(case: &NamedCase<'_>) -> Result<Pages, CaseFault> {
+fn pages_of(case: &NamedCase<'_>) -> Result<PageChoice, CaseFault> {
     match case.word_if_any("pages")? {
-        None | Some("first") => Ok(Pages::First),
-        Some("each") => Ok(Pages::Each),
-        Some("whole") => Ok(Pages::Whole),
+        None | Some("first") => Ok(PageChoice::First),
+        Some("each") => Ok(PageChoice::Each),
+        Some("whole") => Ok(PageChoice::Whole),
         Some(_) => Err(case.wrong("pages")),
     }
 }

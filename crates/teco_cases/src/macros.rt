@@ -8,7 +8,7 @@ use crate::subject::{METHODS, MacroSubject, library_of};
 use crate::verdicts::accepted_by;
 use std::alloc::Global;
 use std::str;
-use teco_apply::Pages;
+use teco_apply::PageChoice;
 use teco_base::Reg;
 use teco_library::Library;
 use teco_poly::Poly;
@@ -172,7 +172,7 @@ fn run_task(
     let task = EditTask {
         promise,
         argument: None,
-        pages: Pages::First,
+        pages: PageChoice::First,
         input: case.text("in")?,
     };
     let mut findings = Findings::new(rt.alloc());

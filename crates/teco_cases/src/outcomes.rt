@@ -13,7 +13,7 @@ use teco_model::Kind;
 use teco_model::kind::{Flow, Page};
 use teco_outcomes::elements::outcomes_of;
 use teco_rows::case::{self, Shape};
-use teco_rows::fault::Fault;
+use teco_rows::fault::RowFault;
 use teco_rows::measure::{Family, Measure, Single};
 use teco_rows::outcomes::Outcomes;
 use teco_search_outcomes::pages::{read_pages, write_pages};
@@ -60,7 +60,7 @@ const OF_LEVELS: &[(&str, Family)] = &[
 ];
 
 // Adds the forms of a register's number and length, and no others of its place.
-fn add_register(forms: &mut Vec<Option<Form>>, alloc: Global) -> Result<(), Fault> {
+fn add_register(forms: &mut Vec<Option<Form>>, alloc: Global) -> Result<(), RowFault> {
     forms.push(Some(Form::zero(alloc)))?;
     forms.push(Some(Form::zero(alloc)))?;
     for _ in 0..5 {
@@ -72,7 +72,7 @@ fn add_register(forms: &mut Vec<Option<Form>>, alloc: Global) -> Result<(), Faul
 // The forms of a state at the start of a run: the pointer, the size, what is held, and the line's
 // end and start are the symbols 0 to 4, the characters at the pointer and before it 5 and 6, and all
 // else is 0.
-fn start_forms(alloc: Global) -> Result<Vec<Option<Form>>, Fault> {
+fn start_forms(alloc: Global) -> Result<Vec<Option<Form>>, RowFault> {
     let mut forms = Vec::new(alloc);
     forms.push(Some(Form::zero(alloc)))?;
     for symbol in 0..5 {
@@ -90,7 +90,7 @@ fn start_forms(alloc: Global) -> Result<Vec<Option<Form>>, Fault> {
 }
 
 // A state at the start of a run.
-fn start(alloc: Global) -> Result<case::Case, Fault> {
+fn start(alloc: Global) -> Result<case::Case, RowFault> {
     let mut operators = Vec::new(alloc);
     operators.push(None)?;
     Ok(case::Case {
@@ -127,9 +127,9 @@ fn of_page(
     element: &Element<'_>,
     page: Page,
     alloc: Global,
-) -> Result<Outcomes, Fault> {
+) -> Result<Outcomes, RowFault> {
     match outcomes_of(case, element, false, alloc) {
-        Err(Fault::NotTold) => {}
+        Err(RowFault::NotTold) => {}
         told => return told,
     }
     match page {
@@ -144,7 +144,7 @@ fn of_element(
     element: &Element<'_>,
     behind: &Option<Element<'_>>,
     alloc: Global,
-) -> Result<Outcomes, Fault> {
+) -> Result<Outcomes, RowFault> {
     match element.kind {
         Kind::Search(kind) => {
             let answers = element.colons > 0 || is_leave(behind);
@@ -156,7 +156,7 @@ fn of_element(
 }
 
 // The first case behind an element.
-fn first_of(all: Outcomes) -> Result<case::Case, Fault> {
+fn first_of(all: Outcomes) -> Result<case::Case, RowFault> {
     let Outcomes {
         conditions: _conditions,
         guarded: _guarded,
@@ -165,18 +165,18 @@ fn first_of(all: Outcomes) -> Result<case::Case, Fault> {
     } = all;
     match cases.into_iter().next() {
         Some(case) => Ok(case),
-        None => Err(Fault::NotTold),
+        None => Err(RowFault::NotTold),
     }
 }
 
 // What may come of the last element, behind the first case of each before it.
-fn performed(commands: &[u8], alloc: Global) -> Result<Outcomes, Fault> {
+fn performed(commands: &[u8], alloc: Global) -> Result<Outcomes, RowFault> {
     let mut readings = Readings::from(commands, 0);
     let mut behind = next_of(&mut readings);
     let mut case = start(alloc)?;
     for _ in 0..commands.len() {
         let Some(element) = behind else {
-            return Err(Fault::NotTold);
+            return Err(RowFault::NotTold);
         };
         behind = next_of(&mut readings);
         let all = of_element(&case, &element, &behind, alloc)?;
@@ -185,7 +185,7 @@ fn performed(commands: &[u8], alloc: Global) -> Result<Outcomes, Fault> {
         }
         case = first_of(all)?;
     }
-    Err(Fault::NotTold)
+    Err(RowFault::NotTold)
 }
 
 // The measure that a state has once of this name.

@@ -1,11 +1,10 @@
 -- Texts whose registers rise.
-use Rattle.std.proofs.Common.{◌≡◌, ℕ, zero, suc, ◌+◌, ◌<◌, ◌≤◌, List, [], ◌∷◌, ◌++◌, length, get_or, arith}
+use Rattle.teco_certificate.proofs.Prelude.{◌≡◌, ℕ, zero, suc, ◌+◌, ◌<◌, ◌≤◌, List, [], ◌∷◌, ◌++◌, length, arith}
+use Rattle.teco_certificate.proofs.Prelude.{REGISTERS, TextsRise, AreOfRegisters, LongerText}
+use Rattle.std.proofs.Common.{get_or}
 use Rattle.std.proofs.Common.{length-append}
 use Rattle.std.proofs.lemmas.List.{get_or_append_left}
 use Rattle.std.proofs.lemmas.List.Elements.{All-from_recursion}
-use Rattle.teco_base.specs.declared.TheConstants.{REGISTERS}
-use Rattle.teco_certificate.specs.WellFormed.{TextsRise, AreOfRegisters}
-use Rattle.teco_verifier.specs.table.Choices.{LongerText}
 
 -- the front of such texts
 pub front_rises : (xs ys : List LongerText) → TextsRise (xs ++ ys) → TextsRise xs

@@ -1,25 +1,17 @@
 -- What is read of texts that have words, registers and files.
-use Rattle.std.proofs.Common.{◌≡◌, ℕ, ◌+◌, ◌-◌, Bool, true, false, Option, Some, None, List, [], ◌∷◌, ◌++◌, length}
-use Rattle.std.proofs.Common.{drop, flat_map, sym, ap, ◌∙◌, refl, arith, append_assoc, ltb, cond, Bor}
-use Rattle.std.proofs.lemmas.Bool.Decides.{Decides-eqb}
-use Rattle.std.proofs.lemmas.List.{append_cancel_right}
+use Rattle.teco_certificate.proofs.Prelude.{◌≡◌, ℕ, ◌+◌, ◌-◌, Bool, true, false, Option, Some, None, List, [], ◌∷◌}
+use Rattle.teco_certificate.proofs.Prelude.{◌++◌, length, drop, flat_map, sym, ap, ◌∙◌, refl, arith, append_assoc, ltb}
+use Rattle.teco_certificate.proofs.Prelude.{cond, Decides-eqb, append_cancel_right, decimal, AllByRecursion, codes, ◌≢◌}
+use Rattle.teco_certificate.proofs.Prelude.{register_name, LF, Fields, EndsPolynomial, line, version_text, letters_of}
+use Rattle.teco_certificate.proofs.Prelude.{kept_text, longer_text, longer_texts, behind_comma, chosen_text}
+use Rattle.teco_certificate.proofs.Prelude.{IsLongerText, Polynomial, ArgumentRange, Needs, LongerText, Chosen}
+use Rattle.std.proofs.Common.{Bor}
 use Rattle.std.proofs.lemmas.Slice.Eq.{strip_suffix_is}
 use Rattle.std.specs.Cmp.Lexicographic.{pointwise}
-use Rattle.std.specs.Fmt.{decimal}
-use Rattle.std.specs.List.{AllByRecursion}
 use Rattle.std.specs.Option.{MatchOption}
-use Rattle.std.specs.Prelude.{codes, ◌≢◌, take, nat_eq, unwrap_or}
-use Rattle.teco_base.specs.Register.{register_name}
-use Rattle.teco_base.specs.declared.bytes.TheConstants.{LF}
-use Rattle.teco_verifier.specs.certificate.Fields.{Fields}
-use Rattle.teco_certificate.specs.Front.{EndsPolynomial, LooksFor, LacksWord}
-use Rattle.teco_certificate.specs.Text.{line, version_text, letters_of, kept_text, longer_text, longer_texts}
-use Rattle.teco_certificate.specs.Text.{behind_comma, chosen_text}
-use Rattle.teco_certificate.specs.WellFormed.{IsLongerText}
-use Rattle.teco_poly.specs.Polynomial.{Polynomial}
+use Rattle.std.specs.Prelude.{take, nat_eq, unwrap_or}
+use Rattle.teco_certificate.specs.Front.{LooksFor, LacksWord}
 use Rattle.teco_poly.specs.Text.{text as poly_text}
-use Rattle.teco_model.specs.Macros.{ArgumentRange, Needs}
-use Rattle.teco_verifier.specs.table.Choices.{LongerText, Chosen}
 
 -- a text that begins with another byte than a word does not begin with the word
 pub other_byte : (text word rest : List ℕ) (c d : ℕ) → text ≡ c ∷ rest → (c ≡ d → ⊥) → (behind : List ℕ)

@@ -1,22 +1,18 @@
 -- A text is that of one certificate: each part of it ends where it has to, and is the text of one value.
-use Rattle.std.proofs.Common.{◌≡◌, ℕ, ◌+◌, ◌-◌, ◌^◌, ◌<◌, Bool, true, false, cond, Option, Some, None, List, [], ◌∷◌}
-use Rattle.std.proofs.Common.{◌++◌, sym, ap, ◌∙◌, refl, arith, append_assoc, ltb, flat_map, ◌||◌}
+use Rattle.teco_certificate.proofs.Prelude.{◌≡◌, ℕ, ◌+◌, ◌-◌, ◌^◌, ◌<◌, Bool, true, false, cond, Option, Some, None}
+use Rattle.teco_certificate.proofs.Prelude.{List, [], ◌∷◌, ◌++◌, sym, ap, ◌∙◌, refl, arith, append_assoc, ltb, flat_map}
+use Rattle.teco_certificate.proofs.Prelude.{append_cancel_left, append_cancel_right, is_ascii_digit, decimal}
+use Rattle.teco_certificate.proofs.Prelude.{AllByRecursion, codes, ◌==◌, ◌≢◌, register_name, REGISTERS, LF, Fields}
+use Rattle.teco_certificate.proofs.Prelude.{is_of_polynomial, EndsPolynomial, line, version_text, argument_line}
+use Rattle.teco_certificate.proofs.Prelude.{letters_of, needs_text, longer_text, longer_texts, behind_comma, kept_text}
+use Rattle.teco_certificate.proofs.Prelude.{chosen_text, loop_line, IsLongerText, IsChosen, Polynomial, IsPoly}
+use Rattle.teco_certificate.proofs.Prelude.{EndsNumber, text, ArgumentRange, Needs, LongerText, Chosen}
+use Rattle.std.proofs.Common.{◌||◌}
 use Rattle.std.proofs.lemmas.Bool.{ltb-false}
 use Rattle.std.proofs.lemmas.Fmt.{decimal_injective}
-use Rattle.std.proofs.lemmas.List.{append_cancel_left, append_cancel_right}
-use Rattle.std.specs.Char.{is_ascii_digit}
-use Rattle.std.specs.Fmt.{decimal}
-use Rattle.std.specs.List.{AllByRecursion}
-use Rattle.std.specs.Prelude.{IfSome, codes, ◌==◌, ◌≢◌}
-use Rattle.teco_base.specs.Register.{register_name}
-use Rattle.teco_base.specs.declared.TheConstants.{REGISTERS}
-use Rattle.teco_base.specs.declared.bytes.TheConstants.{LF}
-use Rattle.teco_verifier.specs.certificate.Fields.{Fields}
-use Rattle.teco_certificate.specs.Front.{is_of_polynomial, EndsPolynomial}
-use Rattle.teco_certificate.specs.Text.{line, version_text, argument_line, letters_of, needs_text, longer_text}
-use Rattle.teco_certificate.specs.Text.{longer_texts, behind_comma, kept_text, chosen_text, loop_line}
+use Rattle.std.specs.Prelude.{IfSome}
 use Rattle.teco_certificate.specs.Text.{certificate_text}
-use Rattle.teco_certificate.specs.WellFormed.{IsLongerText, IsChosen, HasText}
+use Rattle.teco_certificate.specs.WellFormed.{HasText}
 use Rattle.teco_certificate.proofs.Fronts.{one_front, decimal_digits, ends_number, ends_polynomial, polynomial_passes}
 use Rattle.teco_certificate.proofs.Fronts.{passes_append}
 use Rattle.teco_certificate.proofs.Items.{one_list}
@@ -24,11 +20,7 @@ use Rattle.teco_certificate.proofs.Spelling.{other_byte, no_dash, ends_longer, e
 use Rattle.teco_certificate.proofs.Spelling.{same_fields}
 use Rattle.teco_poly.specs.Laws.{OneText}
 use Rattle.teco_verifier.specs.certificate.ArgumentText.{range_text}
-use Rattle.teco_poly.specs.Polynomial.{Polynomial}
-use Rattle.teco_poly.specs.Reading.{IsPoly, EndsNumber}
-use Rattle.teco_poly.specs.Text.{text}
-use Rattle.teco_model.specs.Macros.{ArgumentRange, IsArgumentRange, Needs}
-use Rattle.teco_verifier.specs.table.Choices.{LongerText, Chosen}
+use Rattle.teco_model.specs.Macros.{IsArgumentRange}
 
 first_byte : {c d : ℕ} {x y : List ℕ} → c ∷ x ≡ d ∷ y → c ≡ d
 first_byte e = cc

@@ -1,4 +1,4 @@
-// Why no certificate is read.
+//! Why no certificate is read.
 ghost use Rattle.std.specs.Prelude.{◌≡◌};
 ghost use Rattle.teco_certificate.specs.declared.fault.CertificateFault.TheVariants.{Memory};
 

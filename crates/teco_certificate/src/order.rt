@@ -1,4 +1,4 @@
-// The order in which a certificate has its loops.
+//! The order in which a certificate has its loops.
 ghost use Rattle.std.specs.Prelude.{IsTrue, ◌↔◌};
 ghost use Rattle.teco_certificate.specs.WellFormed.{NumbersRise};
 

@@ -1,4 +1,4 @@
-// The parts of a certificate's text.
+//! The parts of a certificate's text.
 ghost use Rattle.std.specs.Prelude.{◌≡◌, ◌++◌, OnOk, flat_map};
 ghost use Rattle.std.specs.List.{AllByRecursion};
 ghost use Rattle.teco_certificate.specs.Text.{longer_text, longer_texts, behind_comma, kept_text, loop_line};

@@ -1,6 +1,6 @@
-// What a text says if it is that of a certificate. These functions judge nothing but that the
-// registers of a line rise: of another text they read anything at all, and who calls them has to
-// see whether what was read has this text.
+//! What a text says if it is that of a certificate. These functions judge nothing but that the
+//! registers of a line rise: of another text they read anything at all, and who calls them has to
+//! see whether what was read has this text.
 ghost use Rattle.std.specs.Prelude.{◌≡◌, ◌++◌, ◌∷◌, [], ◌≤◌, ◌<◌, ◌↔◌, ℕ, Bool, true, IsTrue, List, length, flat_map};
 ghost use Rattle.std.specs.Prelude.{codes, IfOk, OnOk};
 ghost use Rattle.std.specs.List.{AllByRecursion, list_all, prefix_len};

@@ -1,27 +1,22 @@
 -- What has arrived at each node, and a table that is derived row by row.
-use Rattle.std.proofs.Common.{◌≡◌, ◌⊎◌, inl, inr, subst, refl, sym, ◌∙◌, ap, ℕ, zero, suc, ◌+◌, ◌-◌, ◌<◌, ◌≤◌, ◌==◌}
-use Rattle.std.proofs.Common.{Bool, true, false, List, [], ◌∷◌, ◌++◌, append_assoc, length, set, get_or, take, drop}
-use Rattle.std.proofs.Common.{replicate, Option, Some, None, Result, Ok, Err, if◌then◌else◌, slice_get, length-append}
-use Rattle.std.proofs.Common.{add-one, arith}
-use Rattle.std.proofs.lemmas.List.{drop_all, append-nil, length-set, length-replicate, take-append-drop}
+use Rattle.teco_check.proofs.Prelude.{◌≡◌, subst, refl, sym, ◌∙◌, ap, ℕ, zero, suc, ◌+◌, ◌-◌, ◌<◌, ◌≤◌, ◌==◌, Bool}
+use Rattle.teco_check.proofs.Prelude.{true, false, List, [], ◌∷◌, ◌++◌, append_assoc, length, set, get_or, take, drop}
+use Rattle.teco_check.proofs.Prelude.{replicate, Option, Some, None, Result, Ok, Err, if◌then◌else◌, slice_get, add-one}
+use Rattle.teco_check.proofs.Prelude.{arith, drop_all, nat_tests, Node, Refusal, ◌>>=◌, ArgumentRange, facts_given}
+use Rattle.teco_check.proofs.Prelude.{Facts, Chosen, Arrival, met, met_with, derived_at, Row, Table, facts_at}
+use Rattle.teco_check.proofs.Prelude.{NotDerived, AreLarge, Slots, arrived_at, arrived_all, arrivals_of, node_at}
+use Rattle.std.proofs.Common.{◌⊎◌, inl, inr}
+use Rattle.std.proofs.Common.{length-append}
+use Rattle.std.proofs.lemmas.List.{append-nil, length-set, length-replicate, take-append-drop}
 use Rattle.std.proofs.lemmas.Bool.{cases_eq}
-use Rattle.std.proofs.lemmas.Bool.Decides.{nat_tests}
 use Rattle.std.specs.Option.{option_and_then}
-use Rattle.teco_verifier.specs.expansion.Node.{Node}
-use Rattle.teco_verifier.specs.declared.refusal.Refusal.{Refusal}
-use Rattle.teco_verifier.specs.facts.Attempt.{◌>>=◌}
-use Rattle.teco_model.specs.Macros.{ArgumentRange}
-use Rattle.teco_verifier.specs.facts.Argument.{facts_given}
-use Rattle.teco_verifier.specs.facts.Facts.{Facts}
-use Rattle.teco_verifier.specs.table.Choices.{Chosen}
-use Rattle.teco_verifier.specs.table.Deriving.{Arrival, met, met_with, derived_at, derive, derive_from}
-use Rattle.teco_verifier.specs.table.Table.{Row, Table, facts_in, facts_at}
-use Rattle.teco_check.specs.declared.derivation.NotDerived.{NotDerived}
+use Rattle.teco_verifier.specs.table.Deriving.{derive, derive_from}
+use Rattle.teco_verifier.specs.table.Table.{facts_in}
 use Rattle.teco_check.specs.declared.derivation.NotDerived.TheVariants as fault
-use Rattle.teco_check.specs.Derived.{AreLarge, HasLarge, Derives, DerivesFrom, DerivesUpTo, IsRefusedAt, Slots}
-use Rattle.teco_check.specs.Derived.{met_more, arrived_at, arrived_all, arrivals_of, derived_from, table_up_to}
+use Rattle.teco_check.specs.Derived.{HasLarge, Derives, DerivesFrom, DerivesUpTo, IsRefusedAt}
+use Rattle.teco_check.specs.Derived.{met_more, derived_from, table_up_to}
 use Rattle.teco_check.specs.Derived.{DerivesTo}
-use Rattle.teco_check.specs.Here.{IsNumberOf, node_at}
+use Rattle.teco_check.specs.Here.{IsNumberOf}
 use Rattle.teco_check.proofs.Further.{nodes_from}
 
 -- steps one after another

@@ -1,13 +1,7 @@
 -- A deletion is silent behind its shift.
-use Rattle.std.proofs.Common.{◌≡◌, refl, Option, Some, None, Result}
-use Rattle.teco_model.specs.declared.kind.Unit.{Unit as Counted}
+use Rattle.teco_check.proofs.Prelude.{◌≡◌, refl, Option, Some, None, Result, Counted, Refusal, Value, ◌>>=◌}
+use Rattle.teco_check.proofs.Prelude.{deletion_of, Facts, Foreseen, Shift, ending, silent_behind}
 use Rattle.teco_model.specs.declared.kind.Unit.TheVariants.{Characters, Lines}
-use Rattle.teco_verifier.specs.declared.refusal.Refusal.{Refusal}
-use Rattle.teco_verifier.specs.declared.values.Value.{Value}
-use Rattle.teco_verifier.specs.facts.Attempt.{◌>>=◌}
-use Rattle.teco_verifier.specs.facts.Deletions.{deletion_of}
-use Rattle.teco_verifier.specs.facts.Facts.{Facts}
-use Rattle.teco_verifier.specs.facts.Shifts.{Foreseen, Shift, ending, silent_behind}
 use Rattle.teco_check.specs.Shifts.{deleting}
 
 -- what is left behind a shift, if it is not refused

@@ -1,29 +1,19 @@
 -- Definitions that go through the nodes, or through a node's ways and iterations, one step further.
-use Rattle.std.proofs.Common.{◌≡◌, refl, sym, ◌∙◌, ap, ℕ, zero, suc, ◌+◌, ◌-◌, ◌<◌, ◌≤◌, Bool, true, false, ◌||◌}
-use Rattle.std.proofs.Common.{List, [], ◌∷◌, length, drop, slice_get, Option, Some, None, unwrap_or, Ok, Err, add-one}
-use Rattle.std.proofs.Common.{arith, if◌then◌else◌}
-use Rattle.std.specs.Option.{option_map_or}
-use Rattle.std.proofs.lemmas.List.{drop_all}
-use Rattle.teco_model.specs.Element.{Element}
-use Rattle.teco_verifier.specs.expansion.Ends.{ends, first_end}
-use Rattle.teco_verifier.specs.expansion.Node.{Node}
-use Rattle.teco_poly.specs.Polynomial.{Polynomial}
-use Rattle.teco_verifier.specs.declared.refusal.Refusal.{Refusal}
-use Rattle.teco_model.specs.Macros.{ArgumentRange, Needs}
-use Rattle.teco_verifier.specs.facts.Facts.{Facts}
-use Rattle.teco_verifier.specs.facts.Flows.{Edges}
+use Rattle.teco_check.proofs.Prelude.{◌≡◌, refl, sym, ◌∙◌, ap, ℕ, zero, suc, ◌+◌, ◌-◌, ◌<◌, ◌≤◌, Bool, true, false}
+use Rattle.teco_check.proofs.Prelude.{◌||◌, List, [], ◌∷◌, length, drop, slice_get, Option, Some, None, unwrap_or, Ok}
+use Rattle.teco_check.proofs.Prelude.{Err, add-one, arith, if◌then◌else◌, option_map_or, drop_all, Element, first_end}
+use Rattle.teco_check.proofs.Prelude.{Node, Polynomial, Refusal, ArgumentRange, Facts, Edges, along, begins_turn}
+use Rattle.teco_check.proofs.Prelude.{arrive, check, check_from, count_from, size_from, turns_round, needs_from, Table}
+use Rattle.teco_check.proofs.Prelude.{facts_at, Choice, Changes, arriving, arrivals_behind, Slots, arrived_at}
+use Rattle.teco_check.proofs.Prelude.{arrived_all, no_node, node_at}
+use Rattle.teco_verifier.specs.expansion.Ends.{ends}
+use Rattle.teco_model.specs.Macros.{Needs}
 use Rattle.teco_verifier.specs.facts.Printed.{no_needs}
-use Rattle.teco_verifier.specs.table.Behind.{along, begins_turn}
-use Rattle.teco_verifier.specs.table.Closed.{arrive, arrives, closed_at, check, check_from}
-use Rattle.teco_verifier.specs.table.Printed.{count_from, counted_with, size_from, sized_with, turns_round, turns_at}
-use Rattle.teco_verifier.specs.table.Printed.{product_of, needs_from, needs_of, both_needs}
-use Rattle.teco_verifier.specs.table.Table.{Table, facts_at}
+use Rattle.teco_verifier.specs.table.Closed.{arrives, closed_at}
+use Rattle.teco_verifier.specs.table.Printed.{counted_with, sized_with, turns_at}
+use Rattle.teco_verifier.specs.table.Printed.{product_of, needs_of, both_needs}
 use Rattle.teco_check.specs.declared.bad.Bad.{Bad}
 use Rattle.teco_check.specs.declared.bad.Bad.TheVariants as bad
-use Rattle.teco_verifier.specs.facts.Bodies.{Choice, Changes}
-use Rattle.teco_verifier.specs.table.Deriving.{arriving, arrivals_behind}
-use Rattle.teco_check.specs.Derived.{Slots, arrived_at, arrived_all}
-use Rattle.teco_check.specs.Here.{no_node, node_at}
 use Rattle.teco_check.specs.Onward.{onward}
 use Rattle.teco_check.specs.Says.{Says, SaysAt}
 
@@ -41,18 +31,18 @@ nodes_from nodes k h = front nodes k no_node h
 
 -- the end of an iteration
 module _ (nodes : List Node) (begin k : ℕ) where
-  pub first_end_more : k < length nodes → ends begin (node_at nodes (k + 1)) ≡ false
+  pub ends_on : k < length nodes → ends begin (node_at nodes (k + 1)) ≡ false
       → first_end begin (suc k) (drop k nodes) ≡ first_end begin (suc (k + 1)) (drop (k + 1) nodes)
-  first_end_more h e = let here : ends begin (node_at nodes (suc k)) ≡ false = rw add-one at e in
+  ends_on h e = let here : ends begin (node_at nodes (suc k)) ≡ false = rw add-one at e in
       rw (nodes_from nodes k h, here, add-one) refl
 
-  pub first_end_here : k < length nodes → ends begin (node_at nodes (k + 1)) ≡ true
+  pub ends_at : k < length nodes → ends begin (node_at nodes (k + 1)) ≡ true
       → first_end begin (suc k) (drop k nodes) ≡ k + 1
-  first_end_here h e = let here : ends begin (node_at nodes (suc k)) ≡ true = rw add-one at e in
+  ends_at h e = let here : ends begin (node_at nodes (suc k)) ≡ true = rw add-one at e in
       rw (nodes_from nodes k h, here, add-one) refl
 
-  pub first_end_none : length nodes ≤ k → first_end begin (suc k) (drop k nodes) ≡ begin
-  first_end_none h = rw (drop_all k nodes h) refl
+  pub no_end : length nodes ≤ k → first_end begin (suc k) (drop k nodes) ≡ begin
+  no_end h = rw (drop_all k nodes h) refl
 
 -- what is behind a place of a list
 behind : {X : Type 0} (xs : List X) (k : ℕ) (x : X) → slice_get xs k ≡ Some x → drop k xs ≡ x ∷ drop (suc k) xs

@@ -1,8 +1,5 @@
 -- Rows none of which has facts that are too large.
-use Rattle.std.proofs.Common.{[], ◌∷◌, ◌++◌}
-use Rattle.std.specs.List.{AllByRecursion}
-use Rattle.teco_check.specs.Kept.{RowIsKept}
-use Rattle.teco_verifier.specs.table.Table.{Row, Table}
+use Rattle.teco_check.proofs.Prelude.{[], ◌∷◌, ◌++◌, AllByRecursion, RowIsKept, Row, Table}
 
 pub one_more : (table : Table) (row : Row) → AllByRecursion RowIsKept table → RowIsKept row
     → AllByRecursion RowIsKept (table ++ row ∷ [])

@@ -1,13 +1,9 @@
 -- The lines of the nodes, one node further.
-use Rattle.std.proofs.Common.{◌≡◌, refl, sym, ap, ◌∙◌, ℕ, zero, suc, ◌+◌, ◌<◌, ◌≤◌, List, [], ◌∷◌, ◌++◌, length, drop}
-use Rattle.std.proofs.Common.{slice_get, unwrap_or, append_assoc, append-nil, true, false, ◌||◌, Option, arith}
-use Rattle.std.proofs.lemmas.List.{drop_all}
-use Rattle.std.specs.List.{list_any}
-use Rattle.teco_verifier.specs.expansion.Node.{Node}
-use Rattle.teco_check.specs.Here.{no_node, node_at}
-use Rattle.teco_verifier.specs.table.Choices.{Chosen}
-use Rattle.teco_verifier.specs.table.Table.{Table}
-use Rattle.teco_verifier.specs.table.Loops.{begins, lines_at, lines_in, loops_from, loops_of}
+use Rattle.teco_check.proofs.Prelude.{◌≡◌, refl, sym, ap, ◌∙◌, ℕ, zero, suc, ◌+◌, ◌<◌, ◌≤◌, List, [], ◌∷◌, ◌++◌, length}
+use Rattle.teco_check.proofs.Prelude.{drop, slice_get, unwrap_or, append_assoc, true, false, ◌||◌, Option, arith}
+use Rattle.teco_check.proofs.Prelude.{drop_all, list_any, Node, no_node, node_at, Chosen, Table, begins, loops_of}
+use Rattle.std.proofs.Common.{append-nil}
+use Rattle.teco_verifier.specs.table.Loops.{lines_at, lines_in, loops_from}
 
 front : (nodes : List Node) (k : ℕ) → k < length nodes
     → drop k nodes ≡ unwrap_or (slice_get nodes k) no_node ∷ drop (suc k) nodes

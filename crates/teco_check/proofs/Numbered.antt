@@ -1,15 +1,13 @@
 -- Nodes and rows by their numbers.
-use Rattle.std.proofs.Common.{◌≡◌, refl, sym, ℕ, zero, suc, ◌<◌, ◌≤◌, true, false, List, [], ◌∷◌, length, nat_lt}
-use Rattle.std.proofs.Common.{slice_get, Some, None, unwrap_or, get_or, ◌==◌, arith}
-use Rattle.teco_verifier.specs.expansion.Node.{Node, numbered}
-use Rattle.std.specs.Option.{option_map_or}
-use Rattle.std.proofs.lemmas.Bool.Decides.{nat_tests}
+use Rattle.teco_check.proofs.Prelude.{◌≡◌, refl, sym, ℕ, zero, suc, ◌<◌, ◌≤◌, true, false, List, [], ◌∷◌, length}
+use Rattle.teco_check.proofs.Prelude.{slice_get, Some, None, unwrap_or, get_or, ◌==◌, arith, Node, option_map_or}
+use Rattle.teco_check.proofs.Prelude.{nat_tests, Facts, Table, no_node, node_at}
+use Rattle.std.proofs.Common.{nat_lt}
+use Rattle.teco_verifier.specs.expansion.Node.{numbered}
 use Rattle.teco_verifier.specs.expansion.Ends.{is_innermost}
-use Rattle.teco_verifier.specs.facts.Facts.{Iteration, Facts}
+use Rattle.teco_verifier.specs.facts.Facts.{Iteration}
 use Rattle.teco_verifier.specs.table.Behind.{is_inside, open_at}
 use Rattle.teco_verifier.specs.table.Closed.{has_none, is_known_in}
-use Rattle.teco_verifier.specs.table.Table.{Table}
-use Rattle.teco_check.specs.Here.{no_node, node_at}
 use Rattle.teco_check.specs.Known.{known_since}
 
 some_of : {X : Type 0} (xs : List X) (k : ℕ) (x : X) → k < length xs

@@ -1,17 +1,21 @@
 -- Where no iteration begins, none is open in what is known, and nothing falls: no facts are too large.
-use Rattle.std.proofs.Common.{◌≡◌, refl, sym, ap, ◌∙◌, subst, ℕ, zero, suc, ◌+◌, ◌-◌, ◌<◌, true, false, Bool, List}
-use Rattle.std.proofs.Common.{[], ◌∷◌, ◌++◌, length, map, drop, Option, Some, None, option_map, Result, Ok, Err, IfOk}
-use Rattle.std.proofs.Common.{slice_get, slice_index_or, unwrap_or, if◌then◌else◌, ◌==◌, ◌||◌, arith, pos}
+use Rattle.teco_check.proofs.Prelude.{◌≡◌, refl, sym, ap, ◌∙◌, subst, ℕ, zero, suc, ◌+◌, ◌-◌, ◌<◌, true, false, Bool}
+use Rattle.teco_check.proofs.Prelude.{List, [], ◌∷◌, ◌++◌, length, drop, Option, Some, None, option_map, Result, Ok}
+use Rattle.teco_check.proofs.Prelude.{Err, slice_get, unwrap_or, if◌then◌else◌, ◌==◌, ◌||◌, arith, list_any, Flow, Kind}
+use Rattle.teco_check.proofs.Prelude.{Counted, Element, Node, Polynomial, Refusal, Value, ArgumentRange, facts_given}
+use Rattle.teco_check.proofs.Prelude.{changes_in, ◌>>=◌, Choice, Changes, deletion_of, Facts, Edges, Shift, Foreseen}
+use Rattle.teco_check.proofs.Prelude.{silent_behind, ending, along, begins_turn, begins_iteration, begins_by_kind}
+use Rattle.teco_check.proofs.Prelude.{Chosen, Arrival, met, met_with, arriving, arrivals_behind, derived_at, chosen_for}
+use Rattle.teco_check.proofs.Prelude.{NotDerived, AreLarge, Slots, arrivals_of, Table, no_node, node_at, begins}
+use Rattle.std.proofs.Common.{map, IfOk}
+use Rattle.std.proofs.Common.{slice_index_or, pos}
 use Rattle.std.proofs.Math.Seq.{drop-nil}
 use Rattle.std.proofs.lemmas.List.Elements.{All-nil}
-use Rattle.std.specs.List.{list_any}
 use Rattle.teco_model.specs.declared.kind.Command.{Command}
 use Rattle.teco_model.specs.declared.kind.Command.TheVariants as command
-use Rattle.teco_model.specs.declared.kind.Flow.{Flow}
 use Rattle.teco_model.specs.declared.kind.Flow.TheVariants as flow
 use Rattle.teco_model.specs.declared.kind.Insertion.{Insertion}
 use Rattle.teco_model.specs.declared.kind.Insertion.TheVariants as insert
-use Rattle.teco_model.specs.declared.kind.Kind.{Kind}
 use Rattle.teco_model.specs.declared.kind.Kind.TheVariants as kind
 use Rattle.teco_model.specs.declared.kind.Motion.{Motion}
 use Rattle.teco_model.specs.declared.kind.Motion.TheVariants as move
@@ -27,31 +31,21 @@ use Rattle.teco_model.specs.declared.kind.Storage.{Storage}
 use Rattle.teco_model.specs.declared.kind.Storage.TheVariants as store
 use Rattle.teco_model.specs.declared.kind.Typing.{Typing}
 use Rattle.teco_model.specs.declared.kind.Typing.TheVariants as type_
-use Rattle.teco_model.specs.declared.kind.Unit.{Unit as Counted}
 use Rattle.teco_model.specs.declared.kind.Unit.TheVariants as counted
-use Rattle.teco_model.specs.Element.{Element}
-use Rattle.teco_verifier.specs.expansion.Node.{Node}
 use Rattle.teco_facts.specs.Numbers.{AreSmall, IsSmallFall}
 use Rattle.teco_facts.specs.declared.few.TheConstants.{DEPTH}
-use Rattle.teco_poly.specs.Polynomial.{Polynomial, number}
-use Rattle.teco_verifier.specs.declared.refusal.Refusal.{Refusal}
+use Rattle.teco_poly.specs.Polynomial.{number}
 use Rattle.teco_verifier.specs.declared.refusal.Refusal.TheVariants as refusal
 use Rattle.teco_verifier.specs.declared.values.Distances.{Distances}
 use Rattle.teco_verifier.specs.declared.values.Interval.{Interval}
-use Rattle.teco_verifier.specs.declared.values.Value.{Value}
-use Rattle.teco_model.specs.Macros.{ArgumentRange}
-use Rattle.teco_verifier.specs.facts.Argument.{facts_given}
 use Rattle.teco_verifier.specs.facts.Arguments.{KnownArguments, KnownTaken, needed_value, with_level, level_with}
 use Rattle.teco_verifier.specs.facts.Arguments.{levels_after_taking, arguments_of}
 use Rattle.teco_base.specs.declared.bytes.TheConstants.{TAB}
 use Rattle.teco_verifier.specs.facts.Values.{interval_of}
-use Rattle.teco_verifier.specs.table.Written.{changes_in}
-use Rattle.teco_verifier.specs.facts.Attempt.{◌>>=◌}
-use Rattle.teco_verifier.specs.facts.Bodies.{Choice, Changes}
-use Rattle.teco_verifier.specs.facts.Deletions.{deletion_of, part_deletion, range_deletion, character_deletion}
-use Rattle.teco_verifier.specs.facts.Facts.{Position, Answer, Pushed, Facts, with_arguments, sum_of, join_of, text_of}
+use Rattle.teco_verifier.specs.facts.Deletions.{part_deletion, range_deletion, character_deletion}
+use Rattle.teco_verifier.specs.facts.Facts.{Position, Answer, Pushed, with_arguments, sum_of, join_of, text_of}
 use Rattle.teco_verifier.specs.facts.Facts.{nowhere}
-use Rattle.teco_verifier.specs.facts.Flows.{Edges, leaving, turn_end, flow_edges, needed_taken, facts_taken}
+use Rattle.teco_verifier.specs.facts.Flows.{leaving, turn_end, flow_edges, needed_taken, facts_taken}
 use Rattle.teco_verifier.specs.facts.Flows.{leaving_numbers, without_value}
 use Rattle.teco_verifier.specs.facts.Insertions.{insertion_with, insertion_of}
 use Rattle.teco_verifier.specs.facts.Joins.{joined, joined_position, smaller_falls, none_pending, joined_pushes}
@@ -64,8 +58,8 @@ use Rattle.teco_verifier.specs.facts.Queries.{query}
 use Rattle.teco_verifier.specs.facts.Searches.{facts_found, facts_failed, facts_of_answer, position_failed}
 use Rattle.teco_verifier.specs.facts.Searches.{position_failed_in, shift_to_begin, minimum_of, shift_found}
 use Rattle.teco_verifier.specs.facts.Searches.{facts_at_search, count_checked}
-use Rattle.teco_verifier.specs.facts.Shifts.{Shift, Foreseen, shifted, silent_behind, facts_answered, position_after}
-use Rattle.teco_verifier.specs.facts.Shifts.{fall_after, shift_to, ending, moving}
+use Rattle.teco_verifier.specs.facts.Shifts.{shifted, facts_answered, position_after}
+use Rattle.teco_verifier.specs.facts.Shifts.{fall_after, shift_to, moving}
 use Rattle.teco_verifier.specs.facts.Storages.{storage, stack, with_popped, text_storage, own_text_storage, retrieval}
 use Rattle.teco_verifier.specs.facts.Storages.{not_of_library, is_above}
 use Rattle.teco_verifier.specs.facts.Transfer.{Placed, edges_of, search_edges, transfer, on, answer_for}
@@ -75,18 +69,12 @@ use Rattle.teco_verifier.specs.facts.Transfer.{level_with_value, facts_after_com
 use Rattle.teco_verifier.specs.facts.Typings.{typing, part_named}
 use Rattle.teco_verifier.specs.facts.Ways.{Numbers, Zero, NotZero, Negative, NotNegative, Positive, NotPositive, All}
 use Rattle.teco_verifier.specs.facts.Ways.{way, position_of, position_by, may_take, raised, other, holding}
-use Rattle.teco_verifier.specs.table.Behind.{edges_at, edges_behind, along, placed, begins_turn}
-use Rattle.teco_verifier.specs.table.Closed.{begins_iteration, begins_by_kind}
-use Rattle.teco_verifier.specs.table.Choices.{Chosen}
-use Rattle.teco_verifier.specs.table.Deriving.{Arrival, Derived, met, met_with, arriving, arrivals_at}
-use Rattle.teco_verifier.specs.table.Deriving.{arrivals_behind, derived_at, choice_of, chosen_for}
-use Rattle.teco_check.specs.declared.derivation.NotDerived.{NotDerived}
+use Rattle.teco_verifier.specs.table.Behind.{edges_at, edges_behind, placed}
+use Rattle.teco_verifier.specs.table.Deriving.{Derived, arrivals_at}
+use Rattle.teco_verifier.specs.table.Deriving.{choice_of}
 use Rattle.teco_check.specs.declared.derivation.NotDerived.TheVariants as fault
-use Rattle.teco_check.specs.Derived.{AreLarge, IsLargeBy, IsNotLarge, Slots, arrivals_of, known_of}
-use Rattle.teco_verifier.specs.table.Table.{Table}
-use Rattle.teco_check.specs.Here.{no_node, node_at}
+use Rattle.teco_check.specs.Derived.{IsLargeBy, IsNotLarge, known_of}
 use Rattle.teco_check.specs.Kept.{AreKept}
-use Rattle.teco_verifier.specs.table.Loops.{begins}
 use Rattle.teco_check.specs.Ways.{goes_on as goes_on_at}
 use Rattle.teco_check.proofs.Arriving.{AreDerived, arrivals_before}
 use Rattle.teco_check.proofs.Ways.{along_is, arriving_is}

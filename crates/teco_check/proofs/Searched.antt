@@ -1,6 +1,6 @@
 -- A minimum is no longer than its text.
-use Rattle.std.proofs.Common.{◌≡◌, refl, ℕ, zero, suc, ◌+◌, ◌≤◌, List, [], ◌∷◌, length, Some, None, Result, Ok, Err}
-use Rattle.std.proofs.Common.{arith}
+use Rattle.teco_check.proofs.Prelude.{◌≡◌, refl, ℕ, zero, suc, ◌+◌, ◌≤◌, List, [], ◌∷◌, length, Some, None, Result, Ok}
+use Rattle.teco_check.proofs.Prelude.{Err, arith}
 use Rattle.std.specs.Prelude.{fold}
 use Rattle.teco_base.specs.declared.code.Code.{Code}
 use Rattle.teco_model.specs.Checked.{◌>>=◌}

@@ -1,16 +1,12 @@
 -- Ways by whether they are the first.
-use Rattle.std.proofs.Common.{◌≡◌, refl, ℕ, zero, suc, ◌==◌, ◌&&◌, false, if◌then◌else◌, Option, Some, None, arith}
-use Rattle.std.proofs.lemmas.Bool.Decides.{nat_tests}
-use Rattle.teco_model.specs.declared.kind.Kind.{Kind}
+use Rattle.teco_check.proofs.Prelude.{◌≡◌, refl, ℕ, zero, suc, ◌==◌, false, if◌then◌else◌, Option, Some, None, arith}
+use Rattle.teco_check.proofs.Prelude.{nat_tests, Kind, Flow, Element, Edges, along, begins_turn, Choice, Changes}
+use Rattle.teco_check.proofs.Prelude.{begins_iteration, begins_by_kind, arriving}
+use Rattle.std.proofs.Common.{◌&&◌}
 use Rattle.teco_model.specs.declared.kind.Kind.TheVariants as kind
-use Rattle.teco_model.specs.declared.kind.Flow.{Flow}
 use Rattle.teco_model.specs.declared.kind.Flow.TheVariants as flow
-use Rattle.teco_model.specs.Element.{Element}
-use Rattle.teco_verifier.specs.facts.Flows.{Edges}
-use Rattle.teco_verifier.specs.table.Behind.{along, along_kind, along_flow, begins_turn, turns_by_kind, turns_by_flow}
-use Rattle.teco_verifier.specs.facts.Bodies.{Choice, Changes}
-use Rattle.teco_verifier.specs.table.Closed.{begins_iteration, begins_by_kind}
-use Rattle.teco_verifier.specs.table.Deriving.{arriving, arriving_by_flow, start_of_body}
+use Rattle.teco_verifier.specs.table.Behind.{along_kind, along_flow, turns_by_kind, turns_by_flow}
+use Rattle.teco_verifier.specs.table.Deriving.{arriving_by_flow, start_of_body}
 use Rattle.teco_check.specs.Ways.{goes_on, goes_on_by_flow, turns, turns_of_flow, is_first}
 
 zero_is_first : (way : ℕ) → (way == 0) ≡ is_first way

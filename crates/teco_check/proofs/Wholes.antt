@@ -1,10 +1,6 @@
 -- The product of the turns round a node, where it is known, and a loop over the nodes.
-use Rattle.std.proofs.Common.{◌≡◌, sym, ap, ◌∙◌, ℕ, ◌+◌, ◌<◌, List, length, arith}
-use Rattle.teco_verifier.specs.expansion.Node.{Node}
-use Rattle.teco_verifier.specs.table.Printed.{turns_round}
-use Rattle.teco_verifier.specs.table.Table.{Table}
-use Rattle.teco_check.specs.Here.{node_at}
-use Rattle.teco_check.specs.Rounds.{AreRounds}
+use Rattle.teco_check.proofs.Prelude.{◌≡◌, sym, ap, ◌∙◌, ℕ, ◌+◌, ◌<◌, List, length, arith, Node, turns_round, Table}
+use Rattle.teco_check.proofs.Prelude.{node_at, AreRounds}
 use Rattle.teco_check.specs.declared.printed.Rounds.{Rounds}
 
 module _ (nodes : List Node) (table : Table) where

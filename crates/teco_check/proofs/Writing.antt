@@ -1,14 +1,11 @@
 -- What a body changes, node after node.
-use Rattle.std.proofs.Common.{◌≡◌, refl, sym, ◌∙◌, ap, ℕ, zero, suc, ◌+◌, ◌-◌, ◌<◌, ◌≤◌, Bool, true, false, ◌==◌}
-use Rattle.std.proofs.Common.{◌||◌, List, [], ◌∷◌, ◌++◌, length, take, drop, set, Option, Some, None, unwrap_or}
-use Rattle.std.proofs.Common.{slice_get, length-drop, replicate, add-one, add-zero, zero-add, arith}
-use Rattle.std.specs.List.{list_any}
+use Rattle.teco_check.proofs.Prelude.{◌≡◌, refl, sym, ◌∙◌, ap, ℕ, zero, suc, ◌+◌, ◌-◌, ◌<◌, ◌≤◌, Bool, true, false}
+use Rattle.teco_check.proofs.Prelude.{◌==◌, ◌||◌, List, [], ◌∷◌, ◌++◌, length, take, drop, set, Option, Some, None}
+use Rattle.teco_check.proofs.Prelude.{unwrap_or, slice_get, replicate, add-one, arith, list_any, nat_tests, Element}
+use Rattle.teco_check.proofs.Prelude.{Node, ends_saved, written_in, no_node, node_at}
+use Rattle.std.proofs.Common.{length-drop, add-zero, zero-add}
 use Rattle.std.proofs.lemmas.List.Folds.{list_any-append}
-use Rattle.std.proofs.lemmas.Bool.Decides.{nat_tests}
-use Rattle.teco_model.specs.Element.{Element}
-use Rattle.teco_verifier.specs.expansion.Node.{Node}
-use Rattle.teco_verifier.specs.table.Written.{sets, ends_saved, written_in}
-use Rattle.teco_check.specs.Here.{no_node, node_at}
+use Rattle.teco_verifier.specs.table.Written.{sets}
 use Rattle.teco_check.specs.Writes.{set_at}
 
 sets_is : (r s : ℕ) (read : Option Element) → set_at read ≡ Some s → sets r read ≡ (s == r)

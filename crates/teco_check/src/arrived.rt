@@ -6,7 +6,7 @@ ghost use Rattle.teco_check.specs.Derived as derived;
 use std::alloc::{AllocError, Global};
 use std::marker::Model;
 use std::mem;
-use teco_facts::{Facts, Fault};
+use teco_facts::{FactFault, Facts};
 use teco_verifier::Refusal;
 
 /// For each node in the order of their numbers, what is known of all edges that arrived there, or
@@ -38,8 +38,8 @@ fn met_more(
     };
     match others.joined(&facts) {
         Ok(join) => Ok(Ok(Some(join))),
-        Err(Fault::Refused(why)) => Ok(Err(why)),
-        Err(Fault::Memory) => Err(AllocError),
+        Err(FactFault::Refused(why)) => Ok(Err(why)),
+        Err(FactFault::Memory) => Err(AllocError),
     }
 }
 

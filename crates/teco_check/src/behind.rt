@@ -12,7 +12,7 @@ use crate::here::Here;
 use crate::node::{depth, way};
 use crate::transfer::Edges;
 use teco_expansion::Nodes;
-use teco_facts::{Facts, Fault};
+use teco_facts::{FactFault, Facts};
 use teco_model::Element;
 use teco_model::kind::{Flow, Kind};
 
@@ -49,13 +49,13 @@ pub fn left_by(nodes: &Nodes<'_>, number: usize) -> usize
 }
 
 /// What is known behind it, if there is memory.
-pub fn edges_at(nodes: &Nodes<'_>, number: usize, facts: &Facts) -> Result<Edges, Fault>
+pub fn edges_at(nodes: &Nodes<'_>, number: usize, facts: &Facts) -> Result<Edges, FactFault>
     requires one { 0 < number }
     requires last { number ≤ length nodes.now }
     requires kept { AreKept facts.now }
     ensures { Gives (rules.edges_at nodes.now (node_at nodes.now number) facts.now) result }
 {
-    let known = facts.copied().map_err(|_| Fault::Memory)?;
+    let known = facts.copied().map_err(|_| FactFault::Memory)?;
     Here::at(nodes, number).edges(known)
 }
 

@@ -27,7 +27,7 @@ pub fn begins_iteration(read: &Option<Element<'_>>) -> bool
 
 // What an iteration's body changes, and what is known at its end.
 #[derive(Clone, Copy)]
-struct Body<'a> {
+struct BodyChanges<'a> {
     changes: &'a Changes,
     end: Option<&'a Facts>,
 }
@@ -35,7 +35,7 @@ struct Body<'a> {
 // Whether the start of a body is what a choice makes of what enters it, and the choice stands; told
 // if there is memory.
 fn start_stands(
-    body: &Body<'_>,
+    body: &BodyChanges<'_>,
     entering: Facts,
     start: &Facts,
     choice: &Choice,
@@ -52,7 +52,7 @@ fn start_stands(
 // Whether the body stands, where the choice or one of the facts may be absent; told if there is
 // memory.
 fn body_stands(
-    body: &Body<'_>,
+    body: &BodyChanges<'_>,
     entering: Facts,
     start: Option<&Facts>,
     choice: &Option<Choice>,
@@ -87,7 +87,7 @@ pub fn is_entered(
         Some(entering) => {
             let end = table.facts(end_of(nodes, number));
             let changes = changes_in(nodes, number);
-            let body = Body {
+            let body = BodyChanges {
                 changes: &changes,
                 end,
             };

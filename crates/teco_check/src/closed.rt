@@ -18,7 +18,7 @@ use crate::table::Table;
 use crate::transfer::Edges;
 use std::alloc::{AllocError, Global};
 use teco_expansion::Nodes;
-use teco_facts::{Facts, Fault};
+use teco_facts::{FactFault, Facts};
 use teco_model::{ArgumentRange, Element};
 
 // Whether an edge is covered where it leads. Behind all nodes nothing is known; the return of the
@@ -139,8 +139,8 @@ fn check_reached(nodes: &Nodes<'_>, table: &Table, number: usize, facts: &Facts)
             Ok(false) => Err(Bad::Edge { node: number }),
             Err(_) => Err(Bad::Memory),
         },
-        Err(Fault::Refused(_)) => Err(Bad::Edge { node: number }),
-        Err(Fault::Memory) => Err(Bad::Memory),
+        Err(FactFault::Refused(_)) => Err(Bad::Edge { node: number }),
+        Err(FactFault::Memory) => Err(Bad::Memory),
     }
 }
 

@@ -23,7 +23,7 @@ use crate::table::{Row, Table, are_kept};
 use crate::transfer::Edges;
 use std::alloc::{AllocError, Global};
 use teco_expansion::Nodes;
-use teco_facts::{Choice, Facts, Fault, body_start};
+use teco_facts::{Choice, FactFault, Facts, body_start};
 use teco_model::{ArgumentRange, Element};
 use teco_verifier::{LoopLine, Refusal};
 
@@ -170,8 +170,8 @@ fn row_reached(
     }
     let edges = match edges_at(nodes, number, &facts) {
         Ok(edges) => edges,
-        Err(Fault::Refused(why)) => return Err(NotDerived::Refused { why, node: number }),
-        Err(Fault::Memory) => return Err(NotDerived::Memory),
+        Err(FactFault::Refused(why)) => return Err(NotDerived::Refused { why, node: number }),
+        Err(FactFault::Memory) => return Err(NotDerived::Memory),
     };
     let choice = choice_for(number, lines, &facts);
     let chosen = Chosen { number, choice };

@@ -12,7 +12,7 @@ use crate::node::{colon, element, inside, names_macro};
 use crate::transfer::{Edges, Placed, return_from, transfer_from};
 use std::marker::Model;
 use teco_expansion::Nodes;
-use teco_facts::{Facts, Fault};
+use teco_facts::{FactFault, Facts};
 use teco_model::kind::{Flow, Kind};
 
 /// What is read at a node, where it stands. Nothing but the nodes decides that, so that one who
@@ -103,7 +103,7 @@ impl<'a> Here<'a> {
     }
 
     /// What is known behind it, from what is known there, which is taken; if there is memory.
-    pub fn edges(&self, facts: Facts) -> Result<Edges, Fault>
+    pub fn edges(&self, facts: Facts) -> Result<Edges, FactFault>
         requires { AreKept facts }
         ensures { Gives (edges_placed self.now facts) result }
     {

@@ -40,7 +40,7 @@ fn ends(nodes: &Nodes<'_>, number: usize, begin: usize) -> bool
 }
 
 /// The number of the > of an iteration, from the number of its <; where none ends it, that.
-#[tactic(auto, using(crate::proofs::Further::first_end_more, crate::proofs::Further::first_end_here, crate::proofs::Further::first_end_none))]
+#[tactic(auto, using(crate::proofs::Further::ends_on, crate::proofs::Further::ends_at, crate::proofs::Further::no_end))]
 pub fn end_of(nodes: &Nodes<'_>, begin: usize) -> usize
     ensures value { result ≡ ends.end_of nodes.now begin }
     ensures from { begin ≤ result }

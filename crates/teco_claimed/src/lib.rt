@@ -8,10 +8,12 @@ mod claimed;
 pub mod laws;
 mod reading;
 mod refusal;
+mod unverified;
 mod verify;
 
 pub use certificate::LinearCertificate;
 pub use check::check_linear;
 pub use claimed::Claimed;
 pub use refusal::{LinearRefusal, NodePlace};
-pub use verify::{Unshown, verify_linear, why_unshown};
+pub use unverified::{Unshown, Unverified};
+pub use verify::{verify_linear, verify_quickly};

@@ -7,7 +7,7 @@ ghost use Rattle.teco_claimed.specs.declared.refusal.LinearRefusal.TheVariants.{
 use std::alloc::AllocError;
 use std::fmt;
 use teco_certificate::CertificateFault;
-use teco_expansion::{ExpandFault, Nodes, Reason, Refusal};
+use teco_expansion::{ExpandFault, ExpandReason, Nodes, PlacedReason};
 use teco_infer::SearchRefusal as Unfound;
 use teco_paths::fault::PathFault;
 use thiserror::Error;
@@ -32,7 +32,7 @@ pub enum LinearRefusal {
     OtherArgument,
     /// The macro has no expansion.
     #[error("the macro has no expansion: {}", reason_text(.0.reason))]
-    NotExpanded(Refusal),
+    NotExpanded(PlacedReason),
     /// The claims do not hang together.
     #[error("{fault}")]
     NotCertain {
@@ -55,13 +55,13 @@ pub enum LinearRefusal {
 }
 
 // Why a macro has no expansion.
-fn reason_text(reason: Reason) -> &'static str {
+fn reason_text(reason: ExpandReason) -> &'static str {
     match reason {
-        Reason::Fault => "an element or a search text has a fault",
-        Reason::Unpaired => "a bracket, a pipe or a tag has no partner, or pairs overlap",
-        Reason::NoMacro => "what is called is no macro of the library",
-        Reason::Recursion => "a macro calls itself, or one that calls it",
-        Reason::TooLarge => "there are too many elements, open calls or open iterations",
+        ExpandReason::Fault => "an element or a search text has a fault",
+        ExpandReason::Unpaired => "a bracket, a pipe or a tag has no partner, or pairs overlap",
+        ExpandReason::NoMacro => "what is called is no macro of the library",
+        ExpandReason::Recursion => "a macro calls itself, or one that calls it",
+        ExpandReason::TooLarge => "there are too many elements, open calls or open iterations",
     }
 }
 

@@ -6,13 +6,12 @@ use crate::certificate::LinearCertificate;
 use crate::check::{check_linear, lengths_of};
 use crate::claimed::Claimed;
 use crate::refusal::{LinearRefusal, NodePlace, place_at};
+use crate::unverified::Unverified;
 use std::alloc::Global;
 use teco_base::Reg;
-use teco_claims::{Claim, Claims, Measure, Single};
+use teco_claims::{Claim, ClaimMeasure, ClaimSingle, Claims};
 use teco_expansion::{Nodes, expand};
-use teco_infer::{
-    ATTEMPTS, SearchRefusal as Unfound, Shortfall, infer_by, next_attempt, why_unfound,
-};
+use teco_infer::{ATTEMPTS, SearchRefusal as Unfound, infer_by, next_attempt};
 use teco_library::Library;
 use teco_model::kind::{Page, Search};
 use teco_model::{Kind, Needs};
@@ -48,7 +47,10 @@ fn needs_of(nodes: &Nodes<'_>) -> Needs {
 
 // Whether a claim speaks of the bytes that were typed.
 fn is_of_typed(claim: &Claim) -> bool {
-    claim.terms.iter().any(|term| matches!(term.measure, Some(Measure::One(Single::Typed))))
+    claim.terms.iter().any(|term| matches!(
+        term.measure,
+        Some(ClaimMeasure::One(ClaimSingle::Typed))
+    ))
 }
 
 // Claims without those of the bytes that were typed.
@@ -98,14 +100,14 @@ fn attempt<'l>(
     called: &Called<'_>,
     attempt: usize,
     alloc: Global,
-) -> Result<Claimed<'l>, LinearRefusal>
+) -> Result<Claimed<'l>, Unverified>
     ensures library { IfOk result (λ found. found.library ≡ library.now) }
     ensures declared { IfOk result (λ found. TakesDeclared library.now found.certificate) }
     ensures entry { IfOk result (λ found. found.certificate.entry ≡ entry) }
 {
     let claims = match infer_by(called, attempt, alloc) {
         Ok(claims) => claims,
-        Err(refused) => return Err(LinearRefusal::of_search(called.nodes, refused)),
+        Err(failure) => return Err(Unverified::of_search(called.nodes, failure, alloc)),
     };
     let certificate = LinearCertificate {
         entry,
@@ -121,9 +123,9 @@ fn attempt<'l>(
                 needs: called.needs,
                 claims: without_typed(certificate.claims),
             };
-            by_claims(library, entry, &certificate, alloc)
+            Ok(by_claims(library, entry, &certificate, alloc)?)
         }
-        answer => answer,
+        answer => Ok(answer?),
     }
 }
 
@@ -146,41 +148,52 @@ fn next_behind(first: LinearRefusal, refused: LinearRefusal, attempt: usize) -> 
     next_attempt(unfound(first).unwrap_or(why), why, attempt)
 }
 
-// The macro by claims that are looked for where these files are open. A refusal is that of the first way
-// of looking for them.
+// How much is looked for.
+#[derive(Clone, Copy)]
+struct Effort {
+    // The files that are open.
+    needs: Needs,
+    // The most ways of looking.
+    ways: usize,
+}
+
+// The macro by claims that are looked for with an effort. A refusal is that of the first way of looking
+// for them.
 fn attempts<'l>(
     library: &'l Library,
     entry: Reg,
     nodes: &Nodes<'_>,
-    needs: Needs,
+    effort: Effort,
     alloc: Global,
-) -> Result<Claimed<'l>, LinearRefusal>
+) -> Result<Claimed<'l>, Unverified>
     ensures library { IfOk result (λ found. found.library ≡ library.now) }
     ensures declared { IfOk result (λ found. TakesDeclared library.now found.certificate) }
     ensures entry { IfOk result (λ found. found.certificate.entry ≡ entry) }
 {
-    let lengths = lengths_of(alloc, library)?;
+    let lengths = lengths_of(alloc, library).map_err(LinearRefusal::from)?;
     let called = Called {
         nodes,
         lengths: &lengths,
         argument: library.argument(entry),
-        needs,
+        needs: effort.needs,
     };
-    let mut first = None;
+    let mut first: Option<Unverified> = None;
     let mut next = Some(0);
-    for _ in 0..ATTEMPTS {
+    for _ in 0..effort.ways {
         let Some(at) = next else {
             break;
         };
         match attempt(library, entry, &called, at, alloc) {
             Ok(claimed) => return Ok(claimed),
-            Err(refused) => {
-                first = first.or(Some(refused));
-                next = next_behind(first.unwrap_or(refused), refused, at);
+            Err(unverified) => {
+                let refusal = unverified.refusal;
+                let of_first = first.as_ref().map_or(refusal, |first| first.refusal);
+                next = next_behind(of_first, refusal, at);
+                first = first.or(Some(unverified));
             }
         }
     }
-    Err(first.unwrap_or(LinearRefusal::NotACertificate))
+    Err(first.unwrap_or(Unverified::from(LinearRefusal::NotACertificate)))
 }
 
 // Is it a file that was not open?
@@ -194,71 +207,71 @@ fn wants_file(refused: LinearRefusal) -> bool {
     )
 }
 
-/// A macro of a library, by claims that are looked for and checked. `A` alone wants an input, and `nA`
-/// none: so where no input is known to be wanted, claims are looked for without one first.
-pub fn verify_linear<'l>(
+// The nodes of a macro.
+fn nodes_of<'l>(
     library: &'l Library,
     entry: Reg,
     alloc: Global,
-) -> Result<Claimed<'l>, LinearRefusal>
+) -> Result<Nodes<'l>, LinearRefusal> {
+    Ok(expand(alloc, library, entry)?)
+}
+
+// A macro of a library, by claims that are looked for in a number of ways. `A` alone wants an input, and
+// `nA` none: so where no input is known to be wanted, claims are looked for without one first.
+fn verify_in<'l>(
+    library: &'l Library,
+    entry: Reg,
+    ways: usize,
+    alloc: Global,
+) -> Result<Claimed<'l>, Unverified>
     ensures library { IfOk result (λ found. found.library ≡ library.now) }
     ensures declared { IfOk result (λ found. TakesDeclared library.now found.certificate) }
     ensures entry { IfOk result (λ found. found.certificate.entry ≡ entry) }
 {
-    let nodes = expand(alloc, library, entry)?;
+    let nodes = nodes_of(library, entry, alloc)?;
     let needs = needs_of(&nodes);
-    match attempts(library, entry, &nodes, needs, alloc) {
-        Err(refused) if wants_file(refused) && !needs.input => {
+    match attempts(library, entry, &nodes, Effort { needs, ways }, alloc) {
+        Err(unverified) if wants_file(unverified.refusal) && !needs.input => {
             let needs = Needs {
                 input: true,
                 output: needs.output,
             };
-            attempts(library, entry, &nodes, needs, alloc)
+            attempts(library, entry, &nodes, Effort { needs, ways }, alloc)
         }
         answer => answer,
     }
 }
 
-/// Why no claims of a macro are found, and where.
-#[derive(Drop)]
-pub struct Unshown {
-    /// Where the element stands at which that is told.
-    pub at: NodePlace,
-    pub reason: Shortfall,
-    /// Where the elements of each of its ways stand.
-    pub ways: Vec<Vec<NodePlace>>,
+/// A macro of a library, by claims that are looked for and checked.
+///
+/// # Errors
+///
+/// Why none are found, and what more would do, where that can be told. There may be some all the same.
+pub fn verify_linear<'l>(
+    library: &'l Library,
+    entry: Reg,
+    alloc: Global,
+) -> Result<Claimed<'l>, Unverified>
+    ensures library { IfOk result (λ found. found.library ≡ library.now) }
+    ensures declared { IfOk result (λ found. TakesDeclared library.now found.certificate) }
+    ensures entry { IfOk result (λ found. found.certificate.entry ≡ entry) }
+{
+    verify_in(library, entry, ATTEMPTS, alloc)
 }
 
-// Where the elements of some numbers stand.
-fn places_of(nodes: &Nodes<'_>, numbers: &[usize], alloc: Global) -> Vec<NodePlace> {
-    let mut places = Vec::new(alloc);
-    for number in numbers {
-        let is_kept = match place_at(nodes, Some(*number)) {
-            Some(place) => places.push(place).is_ok(),
-            None => true,
-        };
-        if !is_kept {
-            break;
-        }
-    }
-    places
-}
-
-/// Why no claims of a macro of a library are found; `None` where that can't be told, or there are some.
-pub fn why_unshown(library: &Library, entry: Reg, alloc: Global) -> Option<Unshown> {
-    let nodes = expand(alloc, library, entry).ok()?;
-    let lengths = lengths_of(alloc, library).ok()?;
-    let called = Called {
-        nodes: &nodes,
-        lengths: &lengths,
-        argument: library.argument(entry),
-        needs: needs_of(&nodes),
-    };
-    let reason = why_unfound(&called, alloc)?;
-    let at = place_at(&nodes, Some(reason.point))?;
-    let mut ways = Vec::new(alloc);
-    for way in &reason.ways {
-        ways.push(places_of(&nodes, way, alloc)).ok()?;
-    }
-    Some(Unshown { at, reason, ways })
+/// A macro of a library, by claims that are looked for in the quickest way alone.
+///
+/// # Errors
+///
+/// As of [`verify_linear`]; another way may find some.
+pub fn verify_quickly<'l>(
+    library: &'l Library,
+    entry: Reg,
+    alloc: Global,
+) -> Result<Claimed<'l>, Unverified>
+    ensures library { IfOk result (λ found. found.library ≡ library.now) }
+    ensures declared { IfOk result (λ found. TakesDeclared library.now found.certificate) }
+    ensures entry { IfOk result (λ found. found.certificate.entry ≡ entry) }
+{
+    verify_in(library, entry, 1, alloc)
 }

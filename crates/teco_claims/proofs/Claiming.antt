@@ -1,15 +1,9 @@
 -- Terms, claims and cut points in a text, one behind the other.
-use Rattle.std.proofs.Common.{◌≡◌, ℕ, List, [], ◌∷◌, ◌++◌, flat_map, sym, ◌∙◌, refl, arith}
-use Rattle.std.proofs.Common.{append_assoc, Option}
-use Rattle.std.specs.Fmt.{decimal}
-use Rattle.std.specs.Prelude.{codes, ◌≢◌}
-use Rattle.teco_base.specs.declared.bytes.TheConstants.{LF}
-use Rattle.teco_claims.specs.declared.term.Term.{Term}
-use Rattle.teco_claims.specs.Front.{EndsTerm, EndsClaims}
-use Rattle.teco_claims.specs.Text.{line, first_sign, body_text, next_text, terms_text, claim_line, cut_words, cut_text}
-use Rattle.teco_claims.specs.Values.{AtCut, Claimed}
+use Rattle.teco_claims.proofs.Prelude.{◌≡◌, ℕ, List, [], ◌∷◌, ◌++◌, flat_map, sym, ◌∙◌, refl, arith, append_assoc}
+use Rattle.teco_claims.proofs.Prelude.{Option, decimal, codes, ◌≢◌, LF, ClaimTerm, EndsTerm, EndsClaims, line}
+use Rattle.teco_claims.proofs.Prelude.{first_sign, body_text, next_text, terms_text, claim_line, cut_words, cut_text}
+use Rattle.teco_claims.proofs.Prelude.{AtCut, Claimed, Polynomial}
 use Rattle.teco_claims.proofs.Parts.{first_byte}
-use Rattle.teco_poly.specs.Polynomial.{Polynomial}
 
 -- a text that begins with another byte than a word does not begin with the word
 pub other_byte : (text word rest : List ℕ) (c d : ℕ) → text ≡ c ∷ rest → (c ≡ d → ⊥) → (behind : List ℕ)
@@ -17,7 +11,7 @@ pub other_byte : (text word rest : List ℕ) (c d : ℕ) → text ≡ c ∷ rest
 other_byte text word rest c d e other behind f = other (first_byte (sym e ∙ f))
 
 -- a space or the line's end stands behind a term
-pub ends_next : (ts : List Term) (rest : List ℕ) → EndsTerm (flat_map next_text ts ++ LF ∷ rest)
+pub ends_next : (ts : List ClaimTerm) (rest : List ℕ) → EndsTerm (flat_map next_text ts ++ LF ∷ rest)
 ends_next [] rest = refl
 ends_next (t ∷ ts) rest = refl
 
@@ -30,7 +24,7 @@ ends_cuts [] = λ (same : 101 ≡ 48). omega arith
 ends_cuts (c ∷ cs) = λ (same : 99 ≡ 48). omega arith
 
 -- the parts of a claim and of a cut point one after another
-pub parts_of_claim : (t : Term) (ts : List Term) (rest : List ℕ)
+pub parts_of_claim : (t : ClaimTerm) (ts : List ClaimTerm) (rest : List ℕ)
     → line (terms_text (t ∷ ts)) ++ rest
     ≡ codes " " ++ (first_sign t.is_negative ++ (body_text t ++ (flat_map next_text ts ++ LF ∷ rest)))
 parts_of_claim t ts rest = simp append_assoc
@@ -39,7 +33,7 @@ pub parts_of_cut : (cut : AtCut) (rest : List ℕ)
     → cut_words cut ++ rest ≡ decimal cut.point ++ (LF ∷ (flat_map claim_line cut.claims ++ rest))
 parts_of_cut cut rest = simp append_assoc
 
-pub same_cut : (cut : AtCut) {point : ℕ} {claims : List (List Term)} → point ≡ cut.point → claims ≡ cut.claims
+pub same_cut : (cut : AtCut) {point : ℕ} {claims : List (List ClaimTerm)} → point ≡ cut.point → claims ≡ cut.claims
     → record { point = point; claims = claims } ≡ cut
 same_cut cut p q = rw (p, q) refl
 

@@ -1,21 +1,20 @@
 -- What stands at the front of a text, up to where it ends.
-use Rattle.std.proofs.Common.{◌≡◌, ℕ, zero, suc, ◌+◌, ◌^◌, ◌<◌, ◌≤◌, Bool, true, false, cond, List, [], ◌∷◌, ◌++◌}
-use Rattle.std.proofs.Common.{length, take, drop, sym, ap, ◌∙◌, refl, arith, ◌&&◌, rules}
+use Rattle.teco_claims.proofs.Prelude.{◌≡◌, ℕ, zero, suc, ◌+◌, ◌^◌, ◌<◌, ◌≤◌, Bool, true, false, cond, List, [], ◌∷◌}
+use Rattle.teco_claims.proofs.Prelude.{◌++◌, length, take, sym, ap, ◌∙◌, refl, arith, ◌&&◌, decimal_is_IsNumeral_wide}
+use Rattle.teco_claims.proofs.Prelude.{is_ascii_digit, decimal, list_all, codes, ◌==◌, is_of_polynomial, Polynomial}
+use Rattle.teco_claims.proofs.Prelude.{IsPoly, EndsNumber, power_text, text}
+use Rattle.std.proofs.Common.{drop, rules}
 use Rattle.std.specs.Bool.{⊤}
 use Rattle.std.proofs.lemmas.List.{take_at, drop_at}
 use Rattle.std.proofs.lemmas.List.Folds.{list_all-append}
-use Rattle.std.proofs.lemmas.Fmt.{digits_decimal, decimal_is_IsNumeral_wide}
+use Rattle.std.proofs.lemmas.Fmt.{digits_decimal}
 use Rattle.std.proofs.lemmas.Str.Parse.{IsNumeralModel, numerals_by_value}
-use Rattle.std.specs.Char.{is_ascii_digit}
-use Rattle.std.specs.Fmt.{decimal}
-use Rattle.std.specs.List.{list_all, prefix_len}
-use Rattle.std.specs.Prelude.{codes, ◌==◌}
+use Rattle.std.specs.List.{prefix_len}
 use Rattle.std.specs.Str.{all_ascii_digits}
 use Rattle.std.specs.Str.Parse.{digits_value}
-use Rattle.teco_claims.specs.Front.{is_of_polynomial, EndsPolynomial}
-use Rattle.teco_poly.specs.Polynomial.{Polynomial}
-use Rattle.teco_poly.specs.Reading.{AreSmall, IsPoly, EndsNumber}
-use Rattle.teco_poly.specs.Text.{power_text, coefficient_text, term_text, terms_from, joined, joined_or_zero, text}
+use Rattle.teco_claims.specs.Front.{EndsPolynomial}
+use Rattle.teco_poly.specs.Reading.{AreSmall}
+use Rattle.teco_poly.specs.Text.{coefficient_text, term_text, terms_from, joined, joined_or_zero}
 
 -- a test fails where a text begins
 abbrev pub Ends : (ℕ → Bool) → List ℕ → Type 0

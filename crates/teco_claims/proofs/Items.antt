@@ -1,8 +1,7 @@
 -- Items that stand behind a word each, and then an end that does not begin with the word: how they are read one by one.
-use Rattle.std.proofs.Common.{◌≡◌, ℕ, List, [], ◌∷◌, ◌++◌, sym, ap, ◌∙◌, append_assoc, flat_map}
-use Rattle.std.proofs.lemmas.List.{append_cancel_left, append-nil}
-use Rattle.std.specs.List.{AllByRecursion}
-use Rattle.std.specs.Prelude.{◌≢◌}
+use Rattle.teco_claims.proofs.Prelude.{◌≡◌, ℕ, List, [], ◌∷◌, ◌++◌, sym, ap, ◌∙◌, append_assoc, flat_map}
+use Rattle.teco_claims.proofs.Prelude.{append_cancel_left, AllByRecursion, ◌≢◌}
+use Rattle.std.proofs.lemmas.List.{append-nil}
 
 module _ {X : Type 0} (word : List ℕ) (item : X → List ℕ) where
   -- the item with its word

@@ -1,3 +1,4 @@
+mod Prelude
 pub mod Claiming
 pub mod Fronts
 pub mod Items

@@ -1,25 +1,15 @@
 -- What the parts of a term begin with.
-use Rattle.std.proofs.Common.{◌≡◌, ℕ, zero, suc, ◌^◌, ◌<◌, Bool, true, false, cond, Option, Some, None, List, []}
-use Rattle.std.proofs.Common.{◌∷◌, ◌++◌, length, sym, subst, ◌∙◌, refl, arith, append_assoc, ◌||◌, ◌&&◌}
-use Rattle.std.proofs.lemmas.Bool.{eqb-true}
-use Rattle.std.proofs.lemmas.Fmt.{decimal_is_IsNumeral_wide}
-use Rattle.std.specs.Char.{is_ascii_digit}
-use Rattle.std.specs.Fmt.{decimal}
-use Rattle.std.specs.List.{list_all}
-use Rattle.std.specs.Prelude.{codes, ◌≢◌, ◌==◌}
+use Rattle.teco_claims.proofs.Prelude.{◌≡◌, ℕ, zero, suc, ◌^◌, ◌<◌, Bool, true, false, cond, Option, Some, None, List}
+use Rattle.teco_claims.proofs.Prelude.{[], ◌∷◌, ◌++◌, length, sym, subst, ◌∙◌, refl, arith, append_assoc, ◌&&◌}
+use Rattle.teco_claims.proofs.Prelude.{eqb-true, decimal_is_IsNumeral_wide, is_ascii_digit, decimal, list_all, codes}
+use Rattle.teco_claims.proofs.Prelude.{◌≢◌, ◌==◌, ClaimMeasure, One, Number, Length, Turns, PushedNumber, PushedLength}
+use Rattle.teco_claims.proofs.Prelude.{Steps, Pointer, Size, Held, LineEnd, LineStart, LastLength, Typed, Fraction}
+use Rattle.teco_claims.proofs.Prelude.{ClaimTerm, begins, EndsPart, EndsTerm, IsTerm, name_text, divisor_text}
+use Rattle.teco_claims.proofs.Prelude.{fraction_text, is_one, factor_text, has_unit, unit_text, body_text, EndsNumber}
+use Rattle.std.proofs.Common.{◌||◌}
 use Rattle.teco_base.specs.Bytes.{is_among}
-use Rattle.teco_claims.specs.declared.term.Measure.{Measure}
-use Rattle.teco_claims.specs.declared.term.Measure.TheVariants.{One, Number, Length, Turns, PushedNumber, PushedLength}
-use Rattle.teco_claims.specs.declared.term.Single.TheVariants.{Steps, Pointer, Size, Held, LineEnd, LineStart}
-use Rattle.teco_claims.specs.declared.term.Single.TheVariants.{LastLength, Typed}
-use Rattle.teco_claims.specs.declared.term.Fraction.{Fraction}
-use Rattle.teco_claims.specs.declared.term.Term.{Term}
-use Rattle.teco_claims.specs.Front.{begins, goes_on, EndsPart, EndsTerm}
-use Rattle.teco_claims.specs.Spelled.{IsTerm}
-use Rattle.teco_claims.specs.Text.{name_text, divisor_text, fraction_text, is_one, factor_text, has_unit}
-use Rattle.teco_claims.specs.Text.{unit_text, body_text}
+use Rattle.teco_claims.specs.Front.{goes_on}
 use Rattle.teco_claims.proofs.Fronts.{wide_digits}
-use Rattle.teco_poly.specs.Reading.{EndsNumber}
 
 pub first_byte : {c d : ℕ} {x y : List ℕ} → c ∷ x ≡ d ∷ y → c ≡ d
 first_byte e = cc
@@ -67,7 +57,7 @@ term_apart (c ∷ rest) ends = by_tests (c == 32) (c == 10) refl refl ends
     by_tests false false is other e = absurd (cc)
 
 -- the name of a measure, or what stands behind a term
-pub name_apart : (measure : Option Measure) (rest : List ℕ) → EndsTerm rest → IsApart (name_text measure ++ rest)
+pub name_apart : (measure : Option ClaimMeasure) (rest : List ℕ) → EndsTerm rest → IsApart (name_text measure ++ rest)
 name_apart None rest ends = term_apart rest ends
 name_apart (Some (One Steps)) rest ends = refl
 name_apart (Some (One Pointer)) rest ends = refl
@@ -83,7 +73,7 @@ name_apart (Some (Turns begin)) rest ends = refl
 name_apart (Some (PushedNumber pair)) rest ends = refl
 name_apart (Some (PushedLength pair)) rest ends = refl
 
-pub unit_number : (power : ℕ) (measure : Option Measure) (rest : List ℕ) → EndsTerm rest
+pub unit_number : (power : ℕ) (measure : Option ClaimMeasure) (rest : List ℕ) → EndsTerm rest
     → EndsNumber (unit_text power measure ++ rest)
 unit_number zero measure rest ends =
     part_number (name_text measure ++ rest) (apart_part (name_text measure ++ rest) (name_apart measure rest ends))
@@ -94,7 +84,7 @@ unit_number (suc (suc power)) measure rest ends = refl
 abbrev IsSign : ℕ → Type 0
 IsSign d = (stops d ≡ true) × (d < 48)
 
-unit_sign : (d power : ℕ) (measure : Option Measure) (rest words : List ℕ) → IsSign d → EndsTerm rest
+unit_sign : (d power : ℕ) (measure : Option ClaimMeasure) (rest words : List ℕ) → IsSign d → EndsTerm rest
     → unit_text power measure ++ rest ≢ d ∷ words
 unit_sign d zero measure rest words sign ends same =
     apart_byte (name_text measure ++ rest) d (name_apart measure rest ends) sign.0 words same
@@ -130,7 +120,7 @@ factor_sign d f true unit words sign small other = by_test (is_one f)
         fraction_sign d f (codes "*" ++ unit) words sign small
         (sym (append_assoc (fraction_text f) (codes "*") unit) ∙ same)
 
-body_sign : (d : ℕ) (term : Term) (rest words : List ℕ) → is_ascii_digit d ≡ false → IsSign d → IsTerm term
+body_sign : (d : ℕ) (term : ClaimTerm) (rest words : List ℕ) → is_ascii_digit d ≡ false → IsSign d → IsTerm term
     → EndsTerm rest → body_text term ++ rest ≢ d ∷ words
 body_sign d term rest words other sign is ends same =
     let unit = unit_text term.power term.measure in
@@ -139,8 +129,10 @@ body_sign d term rest words other sign is ends same =
     (sym (append_assoc (factor_text term.coefficient (has_unit term)) unit rest) ∙ same)
 
 -- no term begins with a sign
-pub body_minus : (term : Term) (rest words : List ℕ) → IsTerm term → EndsTerm rest → body_text term ++ rest ≢ 45 ∷ words
+pub body_minus : (term : ClaimTerm) (rest words : List ℕ) → IsTerm term → EndsTerm rest
+    → body_text term ++ rest ≢ 45 ∷ words
 body_minus term rest words = body_sign 45 term rest words refl (refl, omega arith)
 
-pub body_plus : (term : Term) (rest words : List ℕ) → IsTerm term → EndsTerm rest → body_text term ++ rest ≢ 43 ∷ words
+pub body_plus : (term : ClaimTerm) (rest words : List ℕ) → IsTerm term → EndsTerm rest
+    → body_text term ++ rest ≢ 43 ∷ words
 body_plus term rest words = body_sign 43 term rest words refl (refl, omega arith)

@@ -1,10 +1,10 @@
 -- Terms that stand in order, and one more.
-use Rattle.std.proofs.Common.{◌≡◌, ◌+◌, ◌<◌, List, [], ◌∷◌, ◌++◌, length, get_or, arith, length-append}
+use Rattle.teco_claims.proofs.Prelude.{◌≡◌, ◌+◌, ◌<◌, List, [], ◌∷◌, ◌++◌, length, arith, AllByRecursion, ClaimTerm}
+use Rattle.teco_claims.proofs.Prelude.{IsTerm, AreTerms}
+use Rattle.std.proofs.Common.{get_or, length-append}
 use Rattle.std.proofs.lemmas.List.{get_or_append_left}
-use Rattle.std.specs.List.{AllByRecursion}
-use Rattle.teco_claims.specs.declared.term.Term.{Term}
 use Rattle.teco_claims.specs.declared.term.TheConstants.{MAX_TERMS}
-use Rattle.teco_claims.specs.Spelled.{IsTerm, TermsRise, AreTerms}
+use Rattle.teco_claims.specs.Spelled.{TermsRise}
 
 module _ {X : Type 0} (P : X → Type 0) where
   pub all_and : (xs : List X) (x : X) → AllByRecursion P xs → P x → AllByRecursion P (xs ++ x ∷ [])
@@ -19,7 +19,7 @@ module _ {X : Type 0} (P : X → Type 0) where
   all_behind [] ys are = are
   all_behind (x ∷ xs) ys are = all_behind xs ys are.1
 
-front_rises : (xs ys : List Term) → TermsRise (xs ++ ys) → TermsRise xs
+front_rises : (xs ys : List ClaimTerm) → TermsRise (xs ++ ys) → TermsRise xs
 front_rises xs ys rise = λ k d h.
     let at = rise k d (omega (arith, length-append xs ys)) in
     let here : get_or (xs ++ ys) k d ≡ get_or xs k d = get_or_append_left xs ys d k (omega arith) in
@@ -27,7 +27,7 @@ front_rises xs ys rise = λ k d h.
     rw (here, next) at at
 
 -- the front of terms
-pub terms_front : (xs ys : List Term) → AreTerms (xs ++ ys) → AreTerms xs
+pub terms_front : (xs ys : List ClaimTerm) → AreTerms (xs ++ ys) → AreTerms xs
 terms_front xs ys are = record {
   few = omega (arith, length-append xs ys, are.few);
   each = all_front IsTerm xs ys are.each;
@@ -42,7 +42,7 @@ no_terms = record {
 }
 
 -- one more
-module _ (xs : List Term) (x : Term) where
+module _ (xs : List ClaimTerm) (x : ClaimTerm) where
   pub terms_and : AreTerms xs → length xs < MAX_TERMS → IsTerm x → TermsRise (xs ++ x ∷ []) → AreTerms (xs ++ x ∷ [])
   terms_and are few is rise = record {
     few = omega (arith, length-append xs (x ∷ []), few);

@@ -1,28 +1,22 @@
 -- What is read of the parts of a term.
-use Rattle.std.proofs.Common.{◌≡◌, ℕ, zero, suc, Bool, true, false, cond, Option, Some, None, List, [], ◌∷◌}
-use Rattle.std.proofs.Common.{◌++◌, sym, ◌∙◌, refl, arith, append_assoc, subst, ◌&&◌}
-use Rattle.std.proofs.lemmas.Bool.{eqb-true, lt-ltb}
-use Rattle.std.specs.Char.{is_ascii_digit}
-use Rattle.std.specs.Fmt.{decimal}
-use Rattle.std.specs.Prelude.{codes, ◌≢◌, ◌==◌, ◌||◌, nat_lt}
+use Rattle.teco_claims.proofs.Prelude.{◌≡◌, ℕ, zero, suc, Bool, true, false, cond, Option, Some, None, List, [], ◌∷◌}
+use Rattle.teco_claims.proofs.Prelude.{◌++◌, sym, ◌∙◌, refl, arith, append_assoc, subst, ◌&&◌, eqb-true, is_ascii_digit}
+use Rattle.teco_claims.proofs.Prelude.{decimal, codes, ◌≢◌, ◌==◌, ClaimMeasure, One, Number, Length, Turns}
+use Rattle.teco_claims.proofs.Prelude.{PushedNumber, PushedLength, Steps, Pointer, Size, Held, LineEnd, LineStart}
+use Rattle.teco_claims.proofs.Prelude.{LastLength, Typed, Fraction, ClaimTerm, begins, EndsPart, EndsTerm, LooksFor}
+use Rattle.teco_claims.proofs.Prelude.{IsTerm, name_text, divisor_text, fraction_text, is_one, factor_text, star_text}
+use Rattle.teco_claims.proofs.Prelude.{unit_text, body_text, first_sign, signed_text, EndsNumber, power_text}
+use Rattle.std.proofs.lemmas.Bool.{lt-ltb}
+use Rattle.std.specs.Prelude.{◌||◌, nat_lt}
 use Rattle.std.specs.Option.{is_some}
-use Rattle.teco_claims.specs.declared.term.Measure.{Measure}
-use Rattle.teco_claims.specs.declared.term.Measure.TheVariants.{One, Number, Length, Turns, PushedNumber, PushedLength}
-use Rattle.teco_claims.specs.declared.term.Single.TheVariants.{Steps, Pointer, Size, Held, LineEnd, LineStart}
-use Rattle.teco_claims.specs.declared.term.Single.TheVariants.{LastLength, Typed}
-use Rattle.teco_claims.specs.declared.term.Fraction.{Fraction}
-use Rattle.teco_claims.specs.declared.term.Term.{Term}
-use Rattle.teco_claims.specs.Front.{begins, EndsPart, EndsTerm, EndsFactor, LooksFor}
-use Rattle.teco_claims.specs.Spelled.{IsLowest, IsTerm}
-use Rattle.teco_claims.specs.Text.{name_text, divisor_text, fraction_text, is_one, factor_text, star_text, unit_text}
-use Rattle.teco_claims.specs.Text.{body_text, first_sign, next_sign, signed_text}
+use Rattle.teco_claims.specs.Front.{EndsFactor}
+use Rattle.teco_claims.specs.Spelled.{IsLowest}
+use Rattle.teco_claims.specs.Text.{next_sign}
 use Rattle.teco_claims.proofs.Claiming.{other_byte}
 use Rattle.teco_claims.proofs.Parts.{clash, digit_first, apart_part, apart_byte, part_byte, term_apart}
 use Rattle.teco_claims.proofs.Parts.{name_apart, unit_number, body_minus, body_plus}
-use Rattle.teco_poly.specs.Reading.{EndsNumber}
-use Rattle.teco_poly.specs.Text.{power_text}
 
-pub ends_factor : (power : ℕ) (measure : Option Measure) (rest : List ℕ) → EndsTerm rest
+pub ends_factor : (power : ℕ) (measure : Option ClaimMeasure) (rest : List ℕ) → EndsTerm rest
     → EndsFactor (nat_lt 0 power || is_some measure) (unit_text power measure ++ rest)
 ends_factor zero None rest ends = ends
 ends_factor zero (Some measure) rest ends = unit_number zero (Some measure) rest ends
@@ -30,22 +24,23 @@ ends_factor (suc zero) measure rest ends = unit_number (suc zero) measure rest e
 ends_factor (suc (suc power)) measure rest ends =
     rw (lt-ltb 0 (suc (suc power)) (omega arith)) (unit_number (suc (suc power)) measure rest ends)
 
-pub same_term : (t : Term) {is_negative : Bool} {coefficient : Fraction} {power : ℕ} {measure : Option Measure}
+pub same_term : (t : ClaimTerm) {is_negative : Bool} {coefficient : Fraction} {power : ℕ}
+    {measure : Option ClaimMeasure}
     → is_negative ≡ t.is_negative → coefficient ≡ t.coefficient → power ≡ t.power → measure ≡ t.measure
     → record { is_negative = is_negative; coefficient = coefficient; power = power; measure = measure } ≡ t
 same_term t s c p m = rw (s, c, p, m) refl
 
-pub parts_of_unit : (power : ℕ) (measure : Option Measure) (rest : List ℕ)
+pub parts_of_unit : (power : ℕ) (measure : Option ClaimMeasure) (rest : List ℕ)
     → unit_text power measure ++ rest ≡ power_text power ++ (star_text power measure ++ (name_text measure ++ rest))
 parts_of_unit power measure rest = simp append_assoc
 
-pub ends_power : (power : ℕ) (measure : Option Measure) (rest : List ℕ) → EndsTerm rest
+pub ends_power : (power : ℕ) (measure : Option ClaimMeasure) (rest : List ℕ) → EndsTerm rest
     → EndsPart (star_text power measure ++ (name_text measure ++ rest))
 ends_power zero measure rest ends = apart_part (name_text measure ++ rest) (name_apart measure rest ends)
 ends_power (suc power) None rest ends = apart_part rest (term_apart rest ends)
 ends_power (suc power) (Some measure) rest ends = refl
 
-pub star_read : (power : ℕ) (measure : Option Measure) (rest text behind : List ℕ) (found : Bool)
+pub star_read : (power : ℕ) (measure : Option ClaimMeasure) (rest text behind : List ℕ) (found : Bool)
     → LooksFor text (codes "*") found behind → EndsTerm rest
     → text ≡ star_text power measure ++ (name_text measure ++ rest) → behind ≡ name_text measure ++ rest
 star_read zero measure rest text behind found looks ends e =
@@ -58,7 +53,7 @@ star_read (suc power) (Some measure) rest text behind found looks ends e =
     (looks.there (name_text (Some measure) ++ rest) e).1
 
 -- the sign of the first term
-pub first_read : (t : Term) (rest text behind : List ℕ) (found : Bool) → LooksFor text (codes "- ") found behind
+pub first_read : (t : ClaimTerm) (rest text behind : List ℕ) (found : Bool) → LooksFor text (codes "- ") found behind
     → IsTerm t → EndsTerm rest
     → text ≡ first_sign t.is_negative ++ (body_text t ++ rest)
     → (found ≡ t.is_negative) × (behind ≡ body_text t ++ rest)
@@ -70,7 +65,7 @@ first_read t rest text behind found looks is ends e = by_sign t.is_negative e
         let none = looks.not_there (λ words same. body_minus t rest (32 ∷ words) is ends (sym f ∙ same)) in
         (none.0, none.1 ∙ f)
 
-pub next_read : (t : Term) (rest text one two : List ℕ) (found plus : Bool) → LooksFor text (codes "- ") found one
+pub next_read : (t : ClaimTerm) (rest text one two : List ℕ) (found plus : Bool) → LooksFor text (codes "- ") found one
     → LooksFor one (codes "+ ") plus two → IsTerm t → EndsTerm rest
     → text ≡ signed_text t ++ rest → (found ≡ t.is_negative) × (two ≡ body_text t ++ rest)
 next_read t rest text one two found plus looks more is ends e = by_sign t.is_negative e
@@ -100,7 +95,7 @@ divisor_read n rest text behind found looks ends e = by_test (n == 1) refl e
     by_test false is f = let slash = looks.there (decimal n ++ rest) f in rw slash.0 slash.1
 
 -- what has no byte has no name and no end of a term
-pub name_some : (measure : Option Measure) (rest : List ℕ) → EndsTerm rest → [] ≢ name_text measure ++ rest
+pub name_some : (measure : Option ClaimMeasure) (rest : List ℕ) → EndsTerm rest → [] ≢ name_text measure ++ rest
 name_some None [] ends same = absurd ends
 name_some None (c ∷ rest) ends same = absurd (cc)
 name_some (Some (One Steps)) rest ends same = absurd (cc)

@@ -1,19 +1,12 @@
 -- A `-` in place of a bound, and up to where a text is that of claims.
-use Rattle.std.proofs.Common.{◌≡◌, ◌≤◌, ℕ, length, take, ap, Bool, true, false, Option, Some, None, List, [], ◌∷◌, ◌++◌}
-use Rattle.std.proofs.Common.{sym, subst, ◌∙◌, refl, arith, ◌&&◌}
-use Rattle.std.specs.List.{list_all}
-use Rattle.std.specs.Prelude.{codes, ◌≢◌, IfSome}
-use Rattle.teco_base.specs.declared.bytes.TheConstants.{LF}
-use Rattle.teco_claims.specs.Front.{is_of_polynomial, LooksFor}
+use Rattle.teco_claims.proofs.Prelude.{◌≡◌, ◌≤◌, ℕ, length, take, ap, Bool, true, false, Option, Some, None, List, []}
+use Rattle.teco_claims.proofs.Prelude.{◌∷◌, ◌++◌, sym, subst, ◌∙◌, refl, arith, ◌&&◌, list_all, codes, ◌≢◌, IfSome, LF}
+use Rattle.teco_claims.proofs.Prelude.{is_of_polynomial, LooksFor, types_text, Claimed, Polynomial, IsPoly, text}
 use Rattle.teco_claims.specs.Reads.{IsFront}
 use Rattle.teco_claims.specs.Spelled.{IsSpelled}
-use Rattle.teco_claims.specs.Text.{types_text, text_of}
-use Rattle.teco_claims.specs.Values.{Claimed}
+use Rattle.teco_claims.specs.Text.{text_of}
 use Rattle.teco_claims.proofs.Fronts.{polynomial_passes}
 use Rattle.teco_claims.proofs.Parts.{first_byte, clash}
-use Rattle.teco_poly.specs.Polynomial.{Polynomial}
-use Rattle.teco_poly.specs.Reading.{IsPoly}
-use Rattle.teco_poly.specs.Text.{text}
 
 and_left : (a b : Bool) → (a && b) ≡ true → a ≡ true
 and_left true b e = refl

@@ -3,9 +3,9 @@ use Rattle.std.specs.Prelude.{◌≡◌, ◌≢◌, ℕ, List, [], ◌∷◌, �
 use Rattle.std.specs.Prelude.{if◌then◌else◌, Option, Some, None}
 use Rattle.std.specs.Char.{is_ascii_digit}
 use Rattle.teco_base.specs.Bytes.{is_among}
-use Rattle.teco_claims.specs.declared.term.Single.{Single}
-use Rattle.teco_claims.specs.declared.term.Single.TheVariants.{Steps, Pointer, Size, Held, LineEnd, LineStart}
-use Rattle.teco_claims.specs.declared.term.Single.TheVariants.{LastLength, Typed}
+use Rattle.teco_claims.specs.declared.term.ClaimSingle.{ClaimSingle}
+use Rattle.teco_claims.specs.declared.term.ClaimSingle.TheVariants.{Steps, Pointer, Size, Held, LineEnd, LineStart}
+use Rattle.teco_claims.specs.declared.term.ClaimSingle.TheVariants.{LastLength, Typed}
 use Rattle.teco_poly.specs.Reading.{EndsNumber}
 
 -- Whether a word stands there, and what comes behind it; where it does not, that is the text.
@@ -56,7 +56,7 @@ EndsFactor true rest = EndsNumber rest
 EndsFactor false rest = EndsTerm rest
 
 -- the measure that has a letter to itself
-abbrev pub single_of : ℕ → Option Single
+abbrev pub single_of : ℕ → Option ClaimSingle
 single_of letter =
     if letter == 99 then Some Steps
     else if letter == 112 then Some Pointer

@@ -6,13 +6,14 @@ use Rattle.std.specs.List.{flat_map}
 use Rattle.std.specs.Option.{is_some}
 use Rattle.teco_base.specs.Register.{register_name}
 use Rattle.teco_base.specs.declared.bytes.TheConstants.{LF}
-use Rattle.teco_claims.specs.declared.term.Measure.{Measure}
-use Rattle.teco_claims.specs.declared.term.Measure.TheVariants.{One, Number, Length, Turns, PushedNumber, PushedLength}
-use Rattle.teco_claims.specs.declared.term.Single.{Single}
-use Rattle.teco_claims.specs.declared.term.Single.TheVariants.{Steps, Pointer, Size, Held, LineEnd, LineStart}
-use Rattle.teco_claims.specs.declared.term.Single.TheVariants.{LastLength, Typed}
+use Rattle.teco_claims.specs.declared.term.ClaimMeasure.{ClaimMeasure}
+use Rattle.teco_claims.specs.declared.term.ClaimMeasure.TheVariants.{One, Number, Length, Turns}
+use Rattle.teco_claims.specs.declared.term.ClaimMeasure.TheVariants.{PushedNumber, PushedLength}
+use Rattle.teco_claims.specs.declared.term.ClaimSingle.{ClaimSingle}
+use Rattle.teco_claims.specs.declared.term.ClaimSingle.TheVariants.{Steps, Pointer, Size, Held, LineEnd, LineStart}
+use Rattle.teco_claims.specs.declared.term.ClaimSingle.TheVariants.{LastLength, Typed}
 use Rattle.teco_claims.specs.declared.term.Fraction.{Fraction}
-use Rattle.teco_claims.specs.declared.term.Term.{Term}
+use Rattle.teco_claims.specs.declared.term.ClaimTerm.{ClaimTerm}
 use Rattle.teco_claims.specs.Values.{AtCut, Claimed}
 use Rattle.teco_poly.specs.Polynomial.{Polynomial}
 use Rattle.teco_poly.specs.Text.{power_text, text}
@@ -22,7 +23,7 @@ abbrev pub line : List ℕ → List ℕ
 line words = words ++ LF ∷ []
 
 -- the letter of a measure that a state has once
-abbrev pub single_text : Single → List ℕ
+abbrev pub single_text : ClaimSingle → List ℕ
 single_text Steps = codes "c"
 single_text Pointer = codes "p"
 single_text Size = codes "z"
@@ -33,7 +34,7 @@ single_text LastLength = codes "m"
 single_text Typed = codes "o"
 
 -- the name of a measure: that of a register follows n or t, the place of an iteration r, that of a pair k
-abbrev pub measure_text : Measure → List ℕ
+abbrev pub measure_text : ClaimMeasure → List ℕ
 measure_text (One single) = single_text single
 measure_text (Number register) = codes "n" ++ register_name register ∷ []
 measure_text (Length register) = codes "t" ++ register_name register ∷ []
@@ -42,7 +43,7 @@ measure_text (PushedNumber pair) = codes "k" ++ (decimal pair ++ codes "n")
 measure_text (PushedLength pair) = codes "k" ++ (decimal pair ++ codes "t")
 
 -- no name where there is no measure
-abbrev pub name_text : Option Measure → List ℕ
+abbrev pub name_text : Option ClaimMeasure → List ℕ
 name_text None = []
 name_text (Some measure) = measure_text measure
 
@@ -64,21 +65,21 @@ factor_text fraction false = fraction_text fraction
 factor_text fraction true = if is_one fraction then [] else fraction_text fraction ++ codes "*"
 
 -- does a term have a power or a measure?
-abbrev pub has_unit : Term → Bool
+abbrev pub has_unit : ClaimTerm → Bool
 has_unit term = nat_lt 0 term.power || is_some term.measure
 
 -- what stands between a power and a measure
-abbrev pub star_text : ℕ → Option Measure → List ℕ
+abbrev pub star_text : ℕ → Option ClaimMeasure → List ℕ
 star_text zero measure = []
 star_text (suc power) None = []
 star_text (suc power) (Some measure) = codes "*"
 
 -- a power of N and a measure
-abbrev pub unit_text : ℕ → Option Measure → List ℕ
+abbrev pub unit_text : ℕ → Option ClaimMeasure → List ℕ
 unit_text power measure = power_text power ++ (star_text power measure ++ name_text measure)
 
 -- a term without its sign, as `21/2*N*z`
-abbrev pub body_text : Term → List ℕ
+abbrev pub body_text : ClaimTerm → List ℕ
 body_text term = factor_text term.coefficient (has_unit term) ++ unit_text term.power term.measure
 
 -- the sign of the first term: none where it is added
@@ -92,24 +93,24 @@ next_sign true = codes "- "
 next_sign false = codes "+ "
 
 -- the first term behind a space
-abbrev pub first_text : Term → List ℕ
+abbrev pub first_text : ClaimTerm → List ℕ
 first_text term = codes " " ++ (first_sign term.is_negative ++ body_text term)
 
 -- another term with its sign
-abbrev pub signed_text : Term → List ℕ
+abbrev pub signed_text : ClaimTerm → List ℕ
 signed_text term = next_sign term.is_negative ++ body_text term
 
 -- another term behind a space
-abbrev pub next_text : Term → List ℕ
+abbrev pub next_text : ClaimTerm → List ℕ
 next_text term = codes " " ++ signed_text term
 
 -- the terms of a claim
-abbrev pub terms_text : List Term → List ℕ
+abbrev pub terms_text : List ClaimTerm → List ℕ
 terms_text [] = []
 terms_text (term ∷ terms) = first_text term ++ flat_map next_text terms
 
 -- a claim, as `0 <= 3 + N - c + p - h`
-abbrev pub claim_line : List Term → List ℕ
+abbrev pub claim_line : List ClaimTerm → List ℕ
 claim_line terms = codes "0 <=" ++ line (terms_text terms)
 
 -- the number of a cut point's element and a line for each claim

@@ -1,12 +1,12 @@
 -- What a certificate of the linear rules claims.
 use Rattle.std.specs.Prelude.{ℕ, List, Option}
-use Rattle.teco_claims.specs.declared.term.Term.{Term}
+use Rattle.teco_claims.specs.declared.term.ClaimTerm.{ClaimTerm}
 use Rattle.teco_poly.specs.Polynomial.{Polynomial}
 
 -- the claims at a cut point, each a list of terms whose sum is at least 0
 pub record AtCut : Type 0 where
   pub point : ℕ
-  pub claims : List (List Term)
+  pub claims : List (List ClaimTerm)
 
 -- the printed bounds, that on typed bytes only where one is claimed, and the claims at each cut point
 pub record Claimed : Type 0 where

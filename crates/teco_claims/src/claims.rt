@@ -1,4 +1,4 @@
-// Claims.
+//! Claims.
 ghost use Rattle.std.specs.Prelude.{◌≡◌, IfOk};
 ghost use Rattle.teco_claims.specs.Reads.{Reads};
 ghost use Rattle.teco_claims.specs.Text.{text_of};
@@ -6,7 +6,7 @@ ghost use Rattle.teco_claims.specs.Text.{text_of};
 use crate::fault::ClaimsFault;
 use crate::printing::{same_front, text};
 use crate::reading::claims_in;
-use crate::term::Term;
+use crate::term::ClaimTerm;
 use std::alloc::{AllocError, Global};
 use std::marker::Model;
 use teco_poly::Poly;
@@ -15,14 +15,14 @@ use teco_poly::Poly;
 #[derive(Drop)]
 pub struct Claim {
     /// The terms, by measure and then by the power of N.
-    pub terms: Vec<Term>,
+    pub terms: Vec<ClaimTerm>,
 }
 
 impl Model for Claim {
     ghost use Rattle.std.specs.Prelude.{List};
-    ghost use Rattle.teco_claims.specs.declared.term.Term.{Term};
+    ghost use Rattle.teco_claims.specs.declared.term.ClaimTerm.{ClaimTerm};
 
-    ghost Value = { List Term };
+    ghost Value = { List ClaimTerm };
 
     ghost view = { λ c. c.terms.items };
 }

@@ -1,4 +1,4 @@
-// Why no claims are read.
+//! Why no claims are read.
 ghost use Rattle.std.specs.Prelude.{◌≡◌};
 ghost use Rattle.teco_claims.specs.declared.fault.ClaimsFault.TheVariants.{Memory};
 

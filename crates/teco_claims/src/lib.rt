@@ -11,4 +11,4 @@ mod term;
 
 pub use claims::{Claim, Claims, Cut};
 pub use fault::ClaimsFault;
-pub use term::{Fraction, MAX_POWER, MAX_TERMS, Measure, Single, Term};
+pub use term::{ClaimMeasure, ClaimSingle, ClaimTerm, Fraction, MAX_POWER, MAX_TERMS};

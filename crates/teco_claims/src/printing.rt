@@ -1,4 +1,4 @@
-// The parts of the text of claims.
+//! The parts of the text of claims.
 ghost use Rattle.std.specs.Prelude.{◌≡◌, ◌≤◌, ◌++◌, OnOk, IfOk, IfSome, length, take, flat_map, codes};
 ghost use Rattle.std.specs.Fmt.{decimal};
 ghost use Rattle.teco_base.specs.Register.{register_name};
@@ -10,7 +10,7 @@ ghost use Rattle.teco_poly.specs.Reading.{IsPoly};
 ghost use Rattle.teco_poly.specs.Text.{power_text, text as poly_text};
 
 use crate::claims::{Claim, Claims, Cut};
-use crate::term::{Fraction, Measure, Single, Term};
+use crate::term::{ClaimMeasure, ClaimSingle, ClaimTerm, Fraction};
 use std::alloc::{AllocError, Global};
 use teco_poly::Poly;
 
@@ -32,18 +32,18 @@ fn push_number(text: &mut Vec<u8>, alloc: Global, number: u128) -> Result<(), Al
 }
 
 // The letter of a measure that a state has once.
-fn letter(single: Single) -> &'static str
+fn letter(single: ClaimSingle) -> &'static str
     ensures { result.now ≡ single_text single }
 {
     match single {
-        Single::Steps => "c",
-        Single::Pointer => "p",
-        Single::Size => "z",
-        Single::Held => "h",
-        Single::LineEnd => "e",
-        Single::LineStart => "s",
-        Single::LastLength => "m",
-        Single::Typed => "o",
+        ClaimSingle::Steps => "c",
+        ClaimSingle::Pointer => "p",
+        ClaimSingle::Size => "z",
+        ClaimSingle::Held => "h",
+        ClaimSingle::LineEnd => "e",
+        ClaimSingle::LineStart => "s",
+        ClaimSingle::LastLength => "m",
+        ClaimSingle::Typed => "o",
     }
 }
 
@@ -57,19 +57,19 @@ fn push_pair(text: &mut Vec<u8>, alloc: Global, pair: u32, part: &[u8]) -> Resul
 }
 
 // Adds the name of a measure.
-fn push_measure(text: &mut Vec<u8>, alloc: Global, measure: Measure) -> Result<(), AllocError>
+fn push_measure(text: &mut Vec<u8>, alloc: Global, measure: ClaimMeasure) -> Result<(), AllocError>
     ensures { OnOk result (text.new.items ≡ text.old.items ++ measure_text measure) }
 {
     match measure {
-        Measure::One(single) => text.extend_from_slice(letter(single).as_bytes()),
-        Measure::Number(register) => text.extend_from_slice(&[b'n', register.name()]),
-        Measure::Length(register) => text.extend_from_slice(&[b't', register.name()]),
-        Measure::Turns(begin) => {
+        ClaimMeasure::One(single) => text.extend_from_slice(letter(single).as_bytes()),
+        ClaimMeasure::Number(register) => text.extend_from_slice(&[b'n', register.name()]),
+        ClaimMeasure::Length(register) => text.extend_from_slice(&[b't', register.name()]),
+        ClaimMeasure::Turns(begin) => {
             text.extend_from_slice(b"r")?;
             push_number(text, alloc, u128::from(begin))
         }
-        Measure::PushedNumber(pair) => push_pair(text, alloc, pair, b"n"),
-        Measure::PushedLength(pair) => push_pair(text, alloc, pair, b"t"),
+        ClaimMeasure::PushedNumber(pair) => push_pair(text, alloc, pair, b"n"),
+        ClaimMeasure::PushedLength(pair) => push_pair(text, alloc, pair, b"t"),
     }
 }
 
@@ -130,7 +130,7 @@ fn push_name(
     text: &mut Vec<u8>,
     alloc: Global,
     power: u32,
-    measure: Option<Measure>,
+    measure: Option<ClaimMeasure>,
 ) -> Result<(), AllocError>
     ensures { OnOk result (text.new.items
         ≡ text.old.items ++ (star_text power measure ++ name_text measure)) }
@@ -145,14 +145,14 @@ fn push_name(
 }
 
 // Has a term a power or a measure?
-fn has_unit(term: &Term) -> bool
+fn has_unit(term: &ClaimTerm) -> bool
     ensures { result ≡ has_unit_of term.now }
 {
     term.power > 0 || term.measure.is_some()
 }
 
 // Adds a term without its sign.
-fn push_body(text: &mut Vec<u8>, alloc: Global, term: &Term) -> Result<(), AllocError>
+fn push_body(text: &mut Vec<u8>, alloc: Global, term: &ClaimTerm) -> Result<(), AllocError>
     ensures { OnOk result (text.new.items ≡ text.old.items ++ body_text term.now) }
 {
     push_factor(text, alloc, term.coefficient, has_unit(term))?;
@@ -175,7 +175,7 @@ fn sign_of_next(is_negative: bool) -> &'static str
 }
 
 // Adds the first term.
-fn push_first(text: &mut Vec<u8>, alloc: Global, term: &Term) -> Result<(), AllocError>
+fn push_first(text: &mut Vec<u8>, alloc: Global, term: &ClaimTerm) -> Result<(), AllocError>
     ensures { OnOk result (text.new.items ≡ text.old.items ++ first_text term.now) }
 {
     text.extend_from_slice(b" ")?;
@@ -184,7 +184,7 @@ fn push_first(text: &mut Vec<u8>, alloc: Global, term: &Term) -> Result<(), Allo
 }
 
 // Adds another term.
-fn push_next(text: &mut Vec<u8>, alloc: Global, term: &Term) -> Result<(), AllocError>
+fn push_next(text: &mut Vec<u8>, alloc: Global, term: &ClaimTerm) -> Result<(), AllocError>
     ensures { OnOk result (text.new.items ≡ text.old.items ++ next_text term.now) }
 {
     text.extend_from_slice(b" ")?;
@@ -193,7 +193,7 @@ fn push_next(text: &mut Vec<u8>, alloc: Global, term: &Term) -> Result<(), Alloc
 }
 
 // Adds the terms behind the first.
-fn push_others(text: &mut Vec<u8>, alloc: Global, terms: &[Term]) -> Result<(), AllocError>
+fn push_others(text: &mut Vec<u8>, alloc: Global, terms: &[ClaimTerm]) -> Result<(), AllocError>
     ensures { OnOk result (text.new.items ≡ text.old.items ++ flat_map next_text terms.now) }
 {
     for term in terms {
@@ -203,7 +203,7 @@ fn push_others(text: &mut Vec<u8>, alloc: Global, terms: &[Term]) -> Result<(), 
 }
 
 // Adds the terms of a claim.
-fn push_terms(text: &mut Vec<u8>, alloc: Global, terms: &[Term]) -> Result<(), AllocError>
+fn push_terms(text: &mut Vec<u8>, alloc: Global, terms: &[ClaimTerm]) -> Result<(), AllocError>
     ensures { OnOk result (text.new.items ≡ text.old.items ++ terms_text terms.now) }
 {
     let Some((first, others)) = terms.split_first() else {

@@ -1,5 +1,5 @@
-// What a text says if it is that of claims. Of another text these functions read any claims that have
-// a text, and who calls them has to see whether it is this one.
+//! What a text says if it is that of claims. Of another text these functions read any claims that have
+//! a text, and who calls them has to see whether it is this one.
 ghost use Rattle.std.specs.Prelude.{◌≡◌, ◌≢◌, ◌++◌, ◌∷◌, [], ◌+◌, ◌≤◌, ◌<◌, ◌^◌, ℕ, Bool, true, false, List, length};
 ghost use Rattle.std.specs.Prelude.{flat_map, codes, Option, Some, None, IfOk, OnOk, IfSome};
 ghost use Rattle.std.specs.List.{AllByRecursion, list_all, prefix_len};
@@ -8,10 +8,10 @@ ghost use Rattle.std.specs.Fmt.{decimal};
 ghost use Rattle.teco_base.specs.Register.{register_name};
 ghost use Rattle.teco_base.specs.declared.TheConstants.{REGISTERS};
 ghost use Rattle.teco_base.specs.declared.bytes.TheConstants.{LF};
-ghost use Rattle.teco_claims.specs.declared.term.Measure as measures;
-ghost use Rattle.teco_claims.specs.declared.term.Measure.TheVariants as named;
+ghost use Rattle.teco_claims.specs.declared.term.ClaimMeasure as measures;
+ghost use Rattle.teco_claims.specs.declared.term.ClaimMeasure.TheVariants as named;
 ghost use Rattle.teco_claims.specs.declared.term.Fraction.{Fraction as FractionOf};
-ghost use Rattle.teco_claims.specs.declared.term.Term.{Term as TermOf};
+ghost use Rattle.teco_claims.specs.declared.term.ClaimTerm.{ClaimTerm as TermOf};
 ghost use Rattle.teco_claims.specs.Front as front;
 ghost use Rattle.teco_claims.specs.Front.{EndsPolynomial, EndsPart, EndsTerm, EndsClaims, LooksFor};
 ghost use Rattle.teco_claims.specs.Spelled.{IsMeasure, IsLowest, IsTerm, AreTerms, IsClaim, IsCut, IsSpelled};
@@ -25,7 +25,7 @@ ghost use Rattle.teco_poly.specs.Text.{power_text, text as poly_text};
 
 use crate::claims::{Claim, Claims, Cut};
 use crate::spelled::is_next;
-use crate::term::{Fraction, Measure, Single, Term};
+use crate::term::{ClaimMeasure, ClaimSingle, ClaimTerm, Fraction};
 use std::alloc::{AllocError, Global};
 use std::str;
 use teco_base::Reg;
@@ -251,7 +251,7 @@ fn register_at(text: &[u8]) -> (Reg, &[u8])
 }
 
 // The measure of a pair at the front of a text, behind the letter, and what comes behind it.
-fn pair_at(text: &[u8]) -> (Measure, &[u8])
+fn pair_at(text: &[u8]) -> (ClaimMeasure, &[u8])
     ensures number { (n : ℕ) (rest : List ℕ) → n < 2 ^ 32
         → text.now ≡ decimal n ++ (codes "n" ++ rest)
         → (result.0 ≡ named.PushedNumber n) × (result.1.now ≡ rest) }
@@ -263,31 +263,31 @@ fn pair_at(text: &[u8]) -> (Measure, &[u8])
     let (pair, rest) = small_number_at(text);
     let (found, behind_number) = word_at(rest, b"n");
     if found {
-        (Measure::PushedNumber(pair), behind_number)
+        (ClaimMeasure::PushedNumber(pair), behind_number)
     } else {
-        (Measure::PushedLength(pair), behind(rest, b"t"))
+        (ClaimMeasure::PushedLength(pair), behind(rest, b"t"))
     }
 }
 
 // The measure that has a letter to itself, if it is one of these.
-fn single(letter: u8) -> Option<Single>
+fn single(letter: u8) -> Option<ClaimSingle>
     ensures { result ≡ front.single_of letter }
 {
     match letter {
-        b'c' => Some(Single::Steps),
-        b'p' => Some(Single::Pointer),
-        b'z' => Some(Single::Size),
-        b'h' => Some(Single::Held),
-        b'e' => Some(Single::LineEnd),
-        b's' => Some(Single::LineStart),
-        b'm' => Some(Single::LastLength),
-        b'o' => Some(Single::Typed),
+        b'c' => Some(ClaimSingle::Steps),
+        b'p' => Some(ClaimSingle::Pointer),
+        b'z' => Some(ClaimSingle::Size),
+        b'h' => Some(ClaimSingle::Held),
+        b'e' => Some(ClaimSingle::LineEnd),
+        b's' => Some(ClaimSingle::LineStart),
+        b'm' => Some(ClaimSingle::LastLength),
+        b'o' => Some(ClaimSingle::Typed),
         _ => None,
     }
 }
 
 // The measure whose name begins with a letter and goes on with a text, and what comes behind it.
-fn numbered_at(letter: u8, text: &[u8]) -> (Option<Measure>, &[u8])
+fn numbered_at(letter: u8, text: &[u8]) -> (Option<ClaimMeasure>, &[u8])
     ensures number { (r : ℕ) (rest : List ℕ) → r < REGISTERS → letter ≡ 110
         → text.now ≡ register_name r ∷ rest
         → (result.0 ≡ Some (named.Number r)) × (result.1.now ≡ rest) }
@@ -308,15 +308,15 @@ fn numbered_at(letter: u8, text: &[u8]) -> (Option<Measure>, &[u8])
     match letter {
         b'n' => {
             let (register, rest) = register_at(text);
-            (Some(Measure::Number(register)), rest)
+            (Some(ClaimMeasure::Number(register)), rest)
         }
         b't' => {
             let (register, rest) = register_at(text);
-            (Some(Measure::Length(register)), rest)
+            (Some(ClaimMeasure::Length(register)), rest)
         }
         b'r' => {
             let (begin, rest) = small_number_at(text);
-            (Some(Measure::Turns(begin)), rest)
+            (Some(ClaimMeasure::Turns(begin)), rest)
         }
         b'k' => {
             let (measure, rest) = pair_at(text);
@@ -335,8 +335,8 @@ fn is_end(byte: u8) -> bool
 
 // The measure whose name stands at the front of a text, if there is one, and what comes behind it.
 #[tactic(auto, using(crate::proofs::Terms::name_some))]
-fn name_at(text: &[u8]) -> (Option<Measure>, &[u8])
-    ensures text { (m : Option measures.Measure) (rest : List ℕ) → IfSome m IsMeasure
+fn name_at(text: &[u8]) -> (Option<ClaimMeasure>, &[u8])
+    ensures text { (m : Option measures.ClaimMeasure) (rest : List ℕ) → IfSome m IsMeasure
         → EndsTerm rest → text.now ≡ name_text m ++ rest
         → (result.0 ≡ m) × (result.1.now ≡ rest) }
     ensures within { length result.1.now ≤ length text.now }
@@ -348,14 +348,14 @@ fn name_at(text: &[u8]) -> (Option<Measure>, &[u8])
         return (None, text);
     }
     match single(*letter) {
-        Some(single) => (Some(Measure::One(single)), rest),
+        Some(single) => (Some(ClaimMeasure::One(single)), rest),
         None => numbered_at(*letter, rest),
     }
 }
 
 // The power and the measure at the front of a text, and what comes behind them.
-fn unit_at(text: &[u8]) -> (u32, Option<Measure>, &[u8])
-    ensures text { (n : ℕ) (m : Option measures.Measure) (rest : List ℕ) → n < 2 ^ 32
+fn unit_at(text: &[u8]) -> (u32, Option<ClaimMeasure>, &[u8])
+    ensures text { (n : ℕ) (m : Option measures.ClaimMeasure) (rest : List ℕ) → n < 2 ^ 32
         → IfSome m IsMeasure → EndsTerm rest → text.now ≡ unit_text n m ++ rest
         → (result.0 ≡ n) × (result.1 ≡ m) × (result.2.now ≡ rest) }
     ensures within { length result.2.now ≤ length text.now }
@@ -366,7 +366,7 @@ fn unit_at(text: &[u8]) -> (u32, Option<Measure>, &[u8])
 }
 
 // The term at the front of a text, behind its sign, and what comes behind it.
-fn term_at(is_negative: bool, text: &[u8]) -> (Term, &[u8])
+fn term_at(is_negative: bool, text: &[u8]) -> (ClaimTerm, &[u8])
     ensures text { (t : TermOf) (rest : List ℕ) → IsTerm t → EndsTerm rest
         → is_negative ≡ t.is_negative → text.now ≡ body_text t ++ rest
         → (result.0 ≡ t) × (result.1.now ≡ rest) }
@@ -374,7 +374,7 @@ fn term_at(is_negative: bool, text: &[u8]) -> (Term, &[u8])
 {
     let (coefficient, rest) = factor_at(text);
     let (power, measure, rest) = unit_at(rest);
-    let term = Term {
+    let term = ClaimTerm {
         is_negative,
         coefficient,
         power,
@@ -384,7 +384,7 @@ fn term_at(is_negative: bool, text: &[u8]) -> (Term, &[u8])
 }
 
 // The first term at the front of a text, and what comes behind it.
-fn first_at(text: &[u8]) -> (Term, &[u8])
+fn first_at(text: &[u8]) -> (ClaimTerm, &[u8])
     ensures text { (t : TermOf) (rest : List ℕ) → IsTerm t → EndsTerm rest
         → text.now ≡ first_sign t.is_negative ++ (body_text t ++ rest)
         → (result.0 ≡ t) × (result.1.now ≡ rest) }
@@ -395,7 +395,7 @@ fn first_at(text: &[u8]) -> (Term, &[u8])
 }
 
 // Another term at the front of a text, and what comes behind it.
-fn next_at(text: &[u8]) -> (Term, &[u8])
+fn next_at(text: &[u8]) -> (ClaimTerm, &[u8])
     ensures text { (t : TermOf) (rest : List ℕ) → IsTerm t → EndsTerm rest
         → text.now ≡ signed_text t ++ rest
         → (result.0 ≡ t) × (result.1.now ≡ rest) }
@@ -407,7 +407,7 @@ fn next_at(text: &[u8]) -> (Term, &[u8])
 
 // Adds the terms at the front of a text, behind the first. It is what comes behind them. It ends
 // before one that may not stand there: so there are never more of them than a claim has.
-fn others_at<'a>(terms: &mut Vec<Term>, text: &'a [u8]) -> Result<&'a [u8], AllocError>
+fn others_at<'a>(terms: &mut Vec<ClaimTerm>, text: &'a [u8]) -> Result<&'a [u8], AllocError>
     requires { AreTerms terms.old.items }
     ensures text { (ts : List TermOf) (rest : List ℕ) → AreTerms (terms.old.items ++ ts)
         → text.now ≡ flat_map next_text ts ++ LF ∷ rest

@@ -1,10 +1,10 @@
-// Which claims have a text.
+//! Which claims have a text.
 ghost use Rattle.std.specs.Prelude.{◌≡◌, ◌<◌, ◌↔◌, ◌^◌, ◌*◌, ◌++◌, ◌∷◌, [], IsTrue, IfSome};
 ghost use Rattle.std.specs.Int.{IsGcd};
 ghost use Rattle.teco_claims.specs.Spelled.{IsMeasure, IsLowest, IsTerm, TermsRise, AreTerms};
 ghost use Rattle.teco_claims.specs.Spelled.{single_place, measure_place, place as place_of, StandsBefore};
 
-use crate::term::{Fraction, MAX_POWER, MAX_TERMS, Measure, Single, Term};
+use crate::term::{ClaimMeasure, ClaimSingle, ClaimTerm, Fraction, MAX_POWER, MAX_TERMS};
 use teco_base::REGISTERS;
 
 // The greatest number that divides both.
@@ -38,20 +38,21 @@ fn is_lowest(fraction: Fraction) -> bool
 }
 
 // Has it a register that there is, or a place of 32 bits?
-fn is_measure(measure: Measure) -> bool
+fn is_measure(measure: ClaimMeasure) -> bool
     ensures { IsTrue result ↔ IsMeasure measure }
 {
     match measure {
-        Measure::One(_) => true,
-        Measure::Number(register) | Measure::Length(register) => register.index() < REGISTERS,
-        Measure::Turns(number) | Measure::PushedNumber(number) | Measure::PushedLength(number) => {
-            number <= u32::MAX
-        }
+        ClaimMeasure::One(_) => true,
+        ClaimMeasure::Number(register) | ClaimMeasure::Length(register) => register.index()
+            < REGISTERS,
+        ClaimMeasure::Turns(number)
+        | ClaimMeasure::PushedNumber(number)
+        | ClaimMeasure::PushedLength(number) => { number <= u32::MAX }
     }
 }
 
 // Is a measure, if there is one, one that has a name?
-fn is_name(measure: Option<Measure>) -> bool
+fn is_name(measure: Option<ClaimMeasure>) -> bool
     ensures { IsTrue result ↔ IfSome measure IsMeasure }
 {
     match measure {
@@ -61,47 +62,47 @@ fn is_name(measure: Option<Measure>) -> bool
 }
 
 // Has a term a text?
-fn is_term(term: &Term) -> bool
+fn is_term(term: &ClaimTerm) -> bool
     ensures { IsTrue result ↔ IsTerm term.now }
 {
     is_lowest(term.coefficient) && term.power <= MAX_POWER && is_name(term.measure)
 }
 
 // Where a measure that a state has once stands among the others.
-fn place_of_single(single: Single) -> u128
+fn place_of_single(single: ClaimSingle) -> u128
     ensures value { result ≡ single_place single }
     ensures within { result < 13 }
 {
     match single {
-        Single::Steps => 1,
-        Single::LineEnd => 2,
-        Single::Held => 3,
-        Single::LastLength => 5,
-        Single::Typed => 6,
-        Single::Pointer => 7,
-        Single::LineStart => 10,
-        Single::Size => 12,
+        ClaimSingle::Steps => 1,
+        ClaimSingle::LineEnd => 2,
+        ClaimSingle::Held => 3,
+        ClaimSingle::LastLength => 5,
+        ClaimSingle::Typed => 6,
+        ClaimSingle::Pointer => 7,
+        ClaimSingle::LineStart => 10,
+        ClaimSingle::Size => 12,
     }
 }
 
 // Where a measure stands among the others.
-fn place_of_measure(measure: Measure) -> u128
+fn place_of_measure(measure: ClaimMeasure) -> u128
     ensures value { result ≡ measure_place measure }
     ensures within { result < 2 ^ 64 }
 {
     const STEP: u128 = 1 << 33;
     match measure {
-        Measure::One(single) => place_of_single(single) * STEP,
-        Measure::PushedNumber(pair) => 4 * STEP + 2 * u128::from(pair),
-        Measure::PushedLength(pair) => 4 * STEP + (2 * u128::from(pair) + 1),
-        Measure::Number(register) => 8 * STEP + register.index() as u128,
-        Measure::Turns(begin) => 9 * STEP + u128::from(begin),
-        Measure::Length(register) => 11 * STEP + register.index() as u128,
+        ClaimMeasure::One(single) => place_of_single(single) * STEP,
+        ClaimMeasure::PushedNumber(pair) => 4 * STEP + 2 * u128::from(pair),
+        ClaimMeasure::PushedLength(pair) => 4 * STEP + (2 * u128::from(pair) + 1),
+        ClaimMeasure::Number(register) => 8 * STEP + register.index() as u128,
+        ClaimMeasure::Turns(begin) => 9 * STEP + u128::from(begin),
+        ClaimMeasure::Length(register) => 11 * STEP + register.index() as u128,
     }
 }
 
 // Where a term stands among the others, but for the power of N.
-fn place(measure: Option<Measure>) -> u128
+fn place(measure: Option<ClaimMeasure>) -> u128
     ensures value { result ≡ place_of measure }
     ensures within { result < 2 ^ 64 }
 {
@@ -112,7 +113,7 @@ fn place(measure: Option<Measure>) -> u128
 }
 
 // Does a term stand before another?
-fn stands_before(term: &Term, next: &Term) -> bool
+fn stands_before(term: &ClaimTerm, next: &ClaimTerm) -> bool
     ensures { IsTrue result ↔ StandsBefore term.now next.now }
 {
     const STEP: u128 = 1 << 32;
@@ -121,7 +122,7 @@ fn stands_before(term: &Term, next: &Term) -> bool
 }
 
 // Does a term stand behind these, which stand in order?
-fn is_behind(term: &Term, terms: &[Term]) -> bool
+fn is_behind(term: &ClaimTerm, terms: &[ClaimTerm]) -> bool
     requires { TermsRise terms.now }
     ensures { IsTrue result ↔ TermsRise (terms.now ++ term.now ∷ []) }
 {
@@ -132,7 +133,7 @@ fn is_behind(term: &Term, terms: &[Term]) -> bool
 }
 
 /// May this be the next term of a claim?
-pub fn is_next(term: &Term, terms: &[Term]) -> bool
+pub fn is_next(term: &ClaimTerm, terms: &[ClaimTerm]) -> bool
     requires { AreTerms terms.now }
     ensures { IsTrue result ↔ AreTerms (terms.now ++ term.now ∷ []) }
 {

@@ -1,4 +1,4 @@
-// The terms of claims, and the measures that they speak of.
+//! The terms of claims, and the measures that they speak of.
 use teco_base::Reg;
 
 /// The highest power of N that a term may have.
@@ -9,7 +9,7 @@ pub const MAX_TERMS: usize = 4096;
 
 /// A measure that a state has once.
 #[derive(Clone, Copy)]
-pub enum Single {
+pub enum ClaimSingle {
     /// How many steps were done.
     Steps,
     /// The pointer.
@@ -30,9 +30,9 @@ pub enum Single {
 
 /// A measure of a state.
 #[derive(Clone, Copy)]
-pub enum Measure {
+pub enum ClaimMeasure {
     /// One that a state has once.
-    One(Single),
+    One(ClaimSingle),
     /// The number of a register.
     Number(Reg),
     /// The length of a register's text.
@@ -54,11 +54,11 @@ pub struct Fraction {
 
 /// A fraction times a power of N times a measure, added or taken away.
 #[derive(Clone, Copy)]
-pub struct Term {
+pub struct ClaimTerm {
     /// Whether it is taken away.
     pub is_negative: bool,
     pub coefficient: Fraction,
     pub power: u32,
     /// The measure; `None` where there is only the power of N.
-    pub measure: Option<Measure>,
+    pub measure: Option<ClaimMeasure>,
 }

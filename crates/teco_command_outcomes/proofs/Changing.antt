@@ -1,33 +1,23 @@
 -- Rows that change what is kept and what is unread, and what is answered.
-use Rattle.std.proofs.Common.{◌≡◌, ℕ, ◌+◌, ℤ, pos, List, [], length, Option, Some, None, slice_index_or, refl, sym}
-use Rattle.std.proofs.Common.{ap, subst, ◌∙◌, arith, true, ◌&&◌, slice_get}
-use Rattle.std.proofs.lemmas.Int.{ints}
-use Rattle.teco_linear.specs.declared.term.Term.{Term}
-use Rattle.teco_linear.specs.Form.{value}
-use Rattle.teco_model.specs.State.{Kept}
+use Rattle.teco_command_outcomes.proofs.Prelude.{◌≡◌, ℕ, ◌+◌, ℤ, pos, List, [], length, Option, Some, None}
+use Rattle.teco_command_outcomes.proofs.Prelude.{slice_index_or, refl, sym, ap, subst, ◌∙◌, arith, true, slice_get}
+use Rattle.teco_command_outcomes.proofs.Prelude.{ints, Term, value, Kept, Case, Number, Length, Turns, PushedNumber}
+use Rattle.teco_command_outcomes.proofs.Prelude.{PushedLength, First, Value, One, Each, Single, Steps, Pointer, Size}
+use Rattle.teco_command_outcomes.proofs.Prelude.{Held, LineEnd, LineStart, LastLength, CodeHere, CodeBefore, Typed}
+use Rattle.teco_command_outcomes.proofs.Prelude.{Clause, Places, IsAtLevel, IsCommanded, Leads, commanded, AreMet}
+use Rattle.teco_command_outcomes.proofs.Prelude.{Before, changed, Point, length_of, number_of, single, read_at, answers}
+use Rattle.teco_command_outcomes.proofs.Prelude.{is_of_singles, leads, leaves, left_alone}
+use Rattle.std.proofs.Common.{◌&&◌}
 use Rattle.teco_model.specs.declared.arguments.Operator.{Operator}
-use Rattle.teco_rows.specs.declared.case.Case.{Case}
-use Rattle.teco_rows.specs.declared.measure.Family.TheVariants.{Number, Length, Turns, PushedNumber, PushedLength}
-use Rattle.teco_rows.specs.declared.measure.Family.TheVariants.{First, Value}
 use Rattle.teco_rows.specs.declared.measure.Measure.{Measure}
-use Rattle.teco_rows.specs.declared.measure.Measure.TheVariants.{One, Each}
-use Rattle.teco_rows.specs.declared.measure.Single.{Single}
-use Rattle.teco_rows.specs.declared.measure.Single.TheVariants.{Steps, Pointer, Size, Held, LineEnd, LineStart}
-use Rattle.teco_rows.specs.declared.measure.Single.TheVariants.{LastLength, CodeHere, CodeBefore, Typed}
-use Rattle.teco_rows.specs.declared.row.Clause.{Clause}
-use Rattle.teco_rows.specs.declared.row.Places.{Places}
-use Rattle.teco_rows.specs.declared.row.Step.{Step}
-use Rattle.teco_rows.specs.Commands.{IsAtLevel, IsCommanded, Leads, commanded}
-use Rattle.teco_rows.specs.Rows.{AreMet, Before, changed}
-use Rattle.teco_rows.specs.States.{Point, IsLed, WaitsFor, from_end, length_of, measures_of, number_of, operators_of}
-use Rattle.teco_rows.specs.States.{single}
-use Rattle.teco_rows.proofs.Commanding.{read_at}
-use Rattle.teco_rows.proofs.Leading.{answers, is_of_singles, leads, leaves, left_alone, left_of, right_of}
+use Rattle.teco_rows.specs.declared.row.RowStep.{RowStep}
+use Rattle.teco_rows.specs.States.{IsLed, WaitsFor, from_end, measures_of, operators_of}
+use Rattle.teco_rows.proofs.Leading.{left_of, right_of}
 use Rattle.teco_command_outcomes.specs.Changes.{Changes, IsChanged, IsChangedFrom, IsTold, answer_row, with_page}
 use Rattle.teco_command_outcomes.specs.Changes.{with_steps}
 
 -- ---- a row that changes what is kept and what is unread
-pub is_changed : (case made : Case) (step : Step) (operator : Option Operator) → WaitsFor operator case
+pub is_changed : (case made : Case) (step : RowStep) (operator : Option Operator) → WaitsFor operator case
     → IsLed case step operator made → IsChangedFrom case step.clauses.now step.given.now made
 is_changed case made step operator waits led n v s steps kept unread unknown true_of changes =
     let h = changes step.here in

@@ -1,14 +1,10 @@
 -- The codes of characters in a text that is changed.
-use Rattle.std.proofs.Common.{◌≡◌, ℕ, zero, suc, ◌+◌, ◌≤◌, ◌<◌, ◌⊎◌, inl, inr, ◌∙◌, arith, refl, sym, ap, subst, pos}
-use Rattle.std.proofs.Common.{List}
-use Rattle.std.proofs.Common.{[], ◌∷◌, ◌++◌, length, take, drop, false, length-append, length-take}
-use Rattle.std.proofs.lemmas.List.{append_assoc}
-use Rattle.teco_base.specs.Lines.{line_place}
-use Rattle.teco_base.specs.Text.{text_after_deletion, text_after_insertion}
-use Rattle.teco_command_outcomes.specs.Insertions.{end_code}
-use Rattle.teco_rows.specs.States.{code_here, code_before}
-use Rattle.teco_rows.proofs.Characters.{before_next}
-use Rattle.teco_rows.proofs.Lines.{IsEnd, above_or, clash, ends, line_end, one_end}
+use Rattle.teco_command_outcomes.proofs.Prelude.{◌≡◌, ℕ, zero, suc, ◌+◌, ◌≤◌, ◌<◌, ◌⊎◌, inl, inr, ◌∙◌, arith, refl, sym}
+use Rattle.teco_command_outcomes.proofs.Prelude.{ap, subst, pos, List, [], ◌∷◌, ◌++◌, length, take, drop, false}
+use Rattle.teco_command_outcomes.proofs.Prelude.{length-append, length-take, append_assoc, line_place}
+use Rattle.teco_command_outcomes.proofs.Prelude.{text_after_deletion, text_after_insertion, end_code, code_here}
+use Rattle.teco_command_outcomes.proofs.Prelude.{code_before, before_next, IsEnd, above_or, clash, ends, line_end}
+use Rattle.teco_command_outcomes.proofs.Prelude.{one_end}
 
 -- in a text that begins with another
 here_behind : (front rest : List ℕ) (i k : ℕ) → k ≡ length front + i → code_here (front ++ rest) k ≡ code_here rest i

@@ -1,56 +1,31 @@
 -- X and ^U.
-use Rattle.std.proofs.Common.{◌≡◌, ℕ, zero, suc, ◌+◌, ◌-◌, ◌<◌, ◌≤◌, ◌==◌, inl, inr, ℤ, pos, negsuc, ◌≤ℤ◌, ◌+ℤ◌, ◌-ℤ◌}
-use Rattle.std.proofs.Common.{List, [], ◌∷◌, ◌++◌, length, true, false, is_some, Option, Some, None, Ok, Err}
-use Rattle.std.proofs.Common.{if◌then◌else◌, nat_le, drop, slice_index_or, unwrap_or, refl, sym, ap, subst}
-use Rattle.std.proofs.Common.{◌∙◌, arith, length-append, length-take, length-drop}
-use Rattle.std.proofs.lemmas.Bool.Decides.{nat_tests}
-use Rattle.std.proofs.lemmas.Int.{ints}
-use Rattle.std.specs.List.{All}
-use Rattle.std.specs.Option.{ok_or}
-use Rattle.std.specs.Prelude.{max, min}
-use Rattle.std.proofs.lemmas.List.Elements.{All-head}
-use Rattle.std.proofs.Math.Nat.{min-eq_left, min-eq_right, max-eq_left, max-eq_right}
-use Rattle.teco_base.specs.Lines.{line_place}
-use Rattle.teco_base.specs.Text.{range}
-use Rattle.teco_base.specs.declared.TheConstants.{LIMIT, REGISTERS}
+use Rattle.teco_command_outcomes.proofs.Prelude.{◌≡◌, ℕ, zero, suc, ◌+◌, ◌-◌, ◌<◌, ◌≤◌, ◌==◌, inl, inr, ℤ, pos, negsuc}
+use Rattle.teco_command_outcomes.proofs.Prelude.{◌≤ℤ◌, ◌+ℤ◌, ◌-ℤ◌, List, [], ◌∷◌, ◌++◌, length, true, false, Option}
+use Rattle.teco_command_outcomes.proofs.Prelude.{Some, None, Ok, Err, if◌then◌else◌, nat_le, drop, slice_index_or}
+use Rattle.teco_command_outcomes.proofs.Prelude.{unwrap_or, refl, sym, ap, subst, ◌∙◌, arith, length-append}
+use Rattle.teco_command_outcomes.proofs.Prelude.{length-take, nat_tests, ints, All, ok_or, max, min, All-head}
+use Rattle.teco_command_outcomes.proofs.Prelude.{min-eq_left, min-eq_right, max-eq_left, max-eq_right, line_place}
+use Rattle.teco_command_outcomes.proofs.Prelude.{range, LIMIT, REGISTERS, Term, Valuation, value, ◌>>=◌, no_answer}
+use Rattle.teco_command_outcomes.proofs.Prelude.{Element, characters_of, part_named, place_in, span_between, Kept}
+use Rattle.teco_command_outcomes.proofs.Prelude.{storage, text_in, IsWhole, Case, TakenForms, Number, Length, Turns}
+use Rattle.teco_command_outcomes.proofs.Prelude.{PushedNumber, PushedLength, First, Value, Each, Single, Steps, Pointer}
+use Rattle.teco_command_outcomes.proofs.Prelude.{Size, Held, LineEnd, LineStart, LastLength, CodeHere, CodeBefore}
+use Rattle.teco_command_outcomes.proofs.Prelude.{Typed, Outcomes, Clause, Places, value_if, AreCommanded, IsCommanded}
+use Rattle.teco_command_outcomes.proofs.Prelude.{Leads, Performs, commanded, Describe, IsOne, AreMet, Before, changed}
+use Rattle.teco_command_outcomes.proofs.Prelude.{Point, IsTrueOf, single, read_at, by_row, leads, leaves, left_alone}
+use Rattle.teco_command_outcomes.proofs.Prelude.{performed, above_or, line_begin, line_end, IsWay, by, IsDone, IsPlace}
+use Rattle.std.proofs.Common.{is_some}
+use Rattle.std.proofs.Common.{length-drop}
 use Rattle.teco_base.specs.declared.code.Code.TheVariants as code
-use Rattle.teco_linear.specs.declared.term.Term.{Term}
-use Rattle.teco_linear.specs.Form.{Valuation, value}
 use Rattle.teco_linear.specs.Implied as linear
-use Rattle.teco_model.specs.Checked.{◌>>=◌}
-use Rattle.teco_model.specs.Effect.{no_answer}
-use Rattle.teco_model.specs.Element.{Element}
-use Rattle.teco_model.specs.Places.{characters_of, line_span, part_named, place_in, span_between}
-use Rattle.teco_model.specs.State.{Kept}
-use Rattle.teco_model.specs.Storage.{own_text_storage, storage, text_in, text_setting, text_storage}
+use Rattle.teco_model.specs.Places.{line_span}
+use Rattle.teco_model.specs.Storage.{own_text_storage, text_setting, text_storage}
 use Rattle.teco_model.specs.declared.kind.Storage.TheVariants.{Copy, SetText}
 use Rattle.teco_model.specs.declared.pattern.Span.{Span}
-use Rattle.teco_model.specs.laws.Whole.{IsWhole}
-use Rattle.teco_rows.specs.declared.case.Case.{Case}
-use Rattle.teco_rows.specs.declared.commands.Taken.{Taken}
 use Rattle.teco_rows.specs.declared.commands.Way as command
-use Rattle.teco_rows.specs.declared.measure.Family.TheVariants.{Number, Length, Turns, PushedNumber, PushedLength}
-use Rattle.teco_rows.specs.declared.measure.Family.TheVariants.{First, Value}
-use Rattle.teco_rows.specs.declared.measure.Measure.TheVariants.{Each}
-use Rattle.teco_rows.specs.declared.measure.Single.{Single}
-use Rattle.teco_rows.specs.declared.measure.Single.TheVariants.{Steps, Pointer, Size, Held, LineEnd, LineStart}
-use Rattle.teco_rows.specs.declared.measure.Single.TheVariants.{LastLength, CodeHere, CodeBefore, Typed}
-use Rattle.teco_rows.specs.declared.outcomes.Outcomes.{Outcomes}
-use Rattle.teco_rows.specs.declared.row.Clause.{Clause}
-use Rattle.teco_rows.specs.declared.row.Places.{Places}
-use Rattle.teco_rows.specs.Cases.{value_if}
-use Rattle.teco_rows.specs.Commands.{AreCommanded, IsCommanded, Leads, Performs, commanded}
-use Rattle.teco_rows.specs.Foretold.{Describe, IsOne}
-use Rattle.teco_rows.specs.Rows.{AreMet, Before, changed}
-use Rattle.teco_rows.specs.States.{Point, IsTrueOf, single}
-use Rattle.teco_rows.proofs.Commanding.{read_at}
-use Rattle.teco_rows.proofs.Leading.{by_row, leads, leaves, left_alone, performed}
-use Rattle.teco_rows.proofs.Lines.{above_or, line_begin, line_end}
 use Rattle.teco_rows.proofs.Registering.{length_set, numbers_stay}
-use Rattle.teco_rows.proofs.Ways.{IsWay, by, leaves_singles, single_alone}
+use Rattle.teco_rows.proofs.Ways.{leaves_singles, single_alone}
 use Rattle.teco_command_outcomes.specs.declared.texts.TheConstants.{COPIES, COPIES_BACK, LINES, LINES_BACK, STORES}
-use Rattle.teco_command_outcomes.specs.Deletions.{IsDone}
-use Rattle.teco_command_outcomes.specs.Motions.{IsPlace}
 use Rattle.teco_command_outcomes.specs.Texts.{Copies, CopiesCount, CopiesCounted, CopiesLines, CopiesPart, Fits}
 use Rattle.teco_command_outcomes.specs.Texts.{HasRoomFor}
 use Rattle.teco_command_outcomes.specs.Texts.{IsGrownBy, IsRest, kept_with_text, rest_of}
@@ -116,7 +91,7 @@ long_text : (colons register : ℕ) (text : List ℕ) (kept : Kept)
 long_text colons register text kept = length-append (rest_of colons register kept) text
 
 -- ---- ^U
-pub sets_text : (case after : Case) (taken : Taken) (register : ℕ) (here : Places) (e : Element)
+pub sets_text : (case after : Case) (taken : TakenForms) (register : ℕ) (here : Places) (e : Element)
     (rest more long condition : List Term) (wanted : List (List Term)) (all : Outcomes) → here.register ≡ register
     → here.register < REGISTERS → is_some taken.value ≡ false → IsRest register e.colons case rest
     → ((n : ℕ) (v : Valuation) → value more n v ≡ pos (length e.text))
@@ -372,7 +347,7 @@ copy_done n all s colons register first second =
     IsDone n all s (part_named first second s.kept
     >>= (λ part. text_storage colons register (characters_of part s.kept) s.kept))
 
-pub performs_part : (case : Case) (taken : Taken) (register colons : ℕ) (first second : List Term) (all : Outcomes)
+pub performs_part : (case : Case) (taken : TakenForms) (register colons : ℕ) (first second : List Term) (all : Outcomes)
     → taken.first ≡ Some first → taken.value ≡ Some second → CopiesPart register colons first second case all
     → (e : Element) → e.colons ≡ colons → Performs (storage (Copy register) e) taken case all
 performs_part case taken register colons first second all f g told e same n v s begins =
@@ -381,7 +356,7 @@ performs_part case taken register colons first second all f g told e same n v s 
     (subst (λ o. copy_done n all s colons register (Some (value first n v)) (value_if o n v)) (sym g)
     (told n v s begins)))
 
-pub performs_lines : (case : Case) (taken : Taken) (register colons : ℕ) (by : List Term) (all : Outcomes)
+pub performs_lines : (case : Case) (taken : TakenForms) (register colons : ℕ) (by : List Term) (all : Outcomes)
     → taken.first ≡ None → ((n : ℕ) (v : Valuation) → value by n v ≡ unwrap_or (value_if taken.value n v) (pos 1))
     → CopiesCounted register colons by case all → (e : Element) → e.colons ≡ colons
     → Performs (storage (Copy register) e) taken case all

@@ -1,61 +1,26 @@
 -- D and K.
-use Rattle.std.proofs.Common.{◌≡◌, ℕ, zero, suc, ◌+◌, ◌-◌, ◌<◌, ◌≤◌, ◌⊎◌, inl, inr, ℤ, pos, negsuc, ◌+ℤ◌, ◌-ℤ◌, ◌≤ℤ◌}
-use Rattle.std.proofs.Common.{List, [], ◌∷◌}
-use Rattle.std.proofs.Common.{length, true, Option, Some, None, Ok, Err, if◌then◌else◌, nat_le, slice_index_or}
-use Rattle.std.proofs.Common.{unwrap_or, max, refl, sym, ap, subst, ◌∙◌, arith}
-use Rattle.std.proofs.Math.Nat.{min-eq_left, min-eq_right, max-eq_left, max-eq_right}
-use Rattle.std.proofs.lemmas.Bool.Decides.{nat_tests}
-use Rattle.std.proofs.lemmas.Int.{ints}
-use Rattle.std.proofs.lemmas.List.Elements.{All-head, All-tail}
-use Rattle.std.specs.List.{All}
-use Rattle.std.specs.Option.{ok_or}
-use Rattle.teco_base.specs.Lines.{line_place}
-use Rattle.teco_base.specs.Text.{text_after_deletion}
+use Rattle.teco_command_outcomes.proofs.Prelude.{◌≡◌, ℕ, zero, suc, ◌+◌, ◌-◌, ◌<◌, ◌≤◌, ◌⊎◌, inl, inr, ℤ, pos, negsuc}
+use Rattle.teco_command_outcomes.proofs.Prelude.{◌≤ℤ◌, List, [], ◌∷◌, length, true, Some, None, slice_index_or, refl}
+use Rattle.teco_command_outcomes.proofs.Prelude.{sym, ap, subst, ◌∙◌, arith, min-eq_left, min-eq_right, max-eq_left}
+use Rattle.teco_command_outcomes.proofs.Prelude.{max-eq_right, ints, line_place, text_after_deletion, Term, Valuation}
+use Rattle.teco_command_outcomes.proofs.Prelude.{value, deletion_between, Kept, Case, PART, PART_BACK, Single, Steps}
+use Rattle.teco_command_outcomes.proofs.Prelude.{Pointer, Size, Held, LineEnd, LineStart, LastLength, CodeHere}
+use Rattle.teco_command_outcomes.proofs.Prelude.{CodeBefore, Typed, One, Outcomes, Clause, Places, AreCommanded, Leads}
+use Rattle.teco_command_outcomes.proofs.Prelude.{commanded, CutsLines, CutsTo, kept_without, Describe, AreMet, Before}
+use Rattle.teco_command_outcomes.proofs.Prelude.{changed, Point, IsTrueOf, single, code_here, code_before, read_at}
+use Rattle.teco_command_outcomes.proofs.Prelude.{is_of_singles, leads_singles, IsEnd, IsBegin, line_end, line_begin}
+use Rattle.teco_command_outcomes.proofs.Prelude.{one_end, one_begin, end_before, begin_before, above_or, top_line}
+use Rattle.teco_command_outcomes.proofs.Prelude.{with_codes, begin_kept, end_behind, length_after, IsWay, by}
+use Rattle.std.proofs.Common.{max}
 use Rattle.teco_base.specs.declared.code.Code.TheVariants as code
-use Rattle.teco_linear.specs.declared.term.Term.{Term}
-use Rattle.teco_linear.specs.Form.{Valuation, value}
 use Rattle.teco_linear.specs.Implied as linear
-use Rattle.teco_model.specs.Checked.{◌>>=◌}
-use Rattle.teco_model.specs.Deletion.{character_deletion, deletion, deletion_between, part_deletion}
-use Rattle.teco_model.specs.Places.{place_in, span_between}
-use Rattle.teco_model.specs.State.{Kept}
-use Rattle.teco_model.specs.declared.kind.Unit.{Unit as Deleted}
-use Rattle.teco_model.specs.declared.kind.Unit.TheVariants.{Characters, Lines}
-use Rattle.teco_model.specs.laws.Whole.{IsWhole}
-use Rattle.teco_rows.specs.declared.case.Case.{Case}
-use Rattle.teco_rows.specs.declared.commands.Taken.{Taken}
 use Rattle.teco_rows.specs.declared.commands.Way as command
 use Rattle.teco_command_outcomes.specs.declared.deletions.TheConstants.{CUTS, CUTS_PAST, CUTS_BACK, CUTS_BACK_PAST}
-use Rattle.teco_command_outcomes.specs.declared.deletions.TheConstants.{CUTS_LINE, CUTS_TOP, CUTS_UP, KEEPS}
-use Rattle.teco_command_outcomes.specs.declared.deletions.TheConstants.{LINES, LINES_BACK, PART, PART_BACK}
-use Rattle.teco_rows.specs.declared.measure.Single.{Single}
-use Rattle.teco_rows.specs.declared.measure.Single.TheVariants.{Steps, Pointer, Size, Held, LineEnd, LineStart}
-use Rattle.teco_rows.specs.declared.measure.Single.TheVariants.{LastLength, CodeHere, CodeBefore, Typed}
-use Rattle.teco_rows.specs.declared.measure.Measure.TheVariants.{One}
-use Rattle.teco_rows.specs.declared.outcomes.Outcomes.{Outcomes}
-use Rattle.teco_rows.specs.declared.row.Clause.{Clause}
-use Rattle.teco_rows.specs.declared.row.Places.{Places}
-use Rattle.teco_rows.specs.Cases.{value_if}
-use Rattle.teco_rows.specs.Commands.{AreCommanded, Leads, Performs, commanded}
-use Rattle.teco_command_outcomes.specs.Deletions.{CutsBy, CutsLines, CutsTo, DeletesCharacters, DeletesLines}
-use Rattle.teco_command_outcomes.specs.Deletions.{DeletesPart}
-use Rattle.teco_command_outcomes.specs.Deletions.{IsDone}
-use Rattle.teco_command_outcomes.specs.Deletions.{kept_without}
-use Rattle.teco_rows.specs.Foretold.{Begins, Describe}
-use Rattle.teco_command_outcomes.specs.Motions.{IsPlace}
-use Rattle.teco_rows.specs.Rows.{AreMet, Before, changed}
-use Rattle.teco_rows.specs.States.{Point, IsTrueOf, single, code_here, code_before}
-use Rattle.teco_rows.proofs.Commanding.{read_at}
-use Rattle.teco_rows.proofs.Leading.{is_of_singles, leads_singles, performed}
-use Rattle.teco_rows.proofs.Lines.{IsEnd, IsBegin, line_end, line_begin, one_end, one_begin, end_before}
-use Rattle.teco_rows.proofs.Lines.{begin_before}
-use Rattle.teco_rows.proofs.Lines.{above_or, top_line}
-use Rattle.teco_rows.proofs.Characters.{with_codes}
+use Rattle.teco_command_outcomes.specs.declared.deletions.TheConstants.{CUTS_LINE, CUTS_TOP, CUTS_UP, KEEPS, LINES}
+use Rattle.teco_command_outcomes.specs.declared.deletions.TheConstants.{LINES_BACK}
+use Rattle.teco_command_outcomes.specs.Deletions.{CutsBy}
 use Rattle.teco_command_outcomes.proofs.Codes.{left_before, left_here}
-use Rattle.teco_command_outcomes.proofs.Lining.{Counted, LiesAbove, above_within, ahead_within, back_within}
-use Rattle.teco_command_outcomes.proofs.Moving.{place_there}
-use Rattle.teco_rows.proofs.Texts.{begin_kept, end_behind, length_after}
-use Rattle.teco_rows.proofs.Ways.{IsWay, by}
+use Rattle.teco_command_outcomes.proofs.Lining.{LiesAbove, above_within, ahead_within, back_within}
 
 -- ---- a text without a part
 module _ (text : List ℕ) (a b : ℕ) (ordered : a ≤ b) (inside : b ≤ length text) where
@@ -430,12 +395,12 @@ ordered_part a b kept h =
     ap (λ x. (deletion_between x (max a b) kept).kept) (min-eq_left h)
     ∙ ap (λ x. (deletion_between a x kept).kept) (max-eq_right h)
 
-turned_part : (a b : ℕ) (kept : Kept) → b ≤ a → kept_without a b kept ≡ (deletion_between b a kept).kept
+pub turned_part : (a b : ℕ) (kept : Kept) → b ≤ a → kept_without a b kept ≡ (deletion_between b a kept).kept
 turned_part a b kept h =
     ap (λ x. (deletion_between x (max a b) kept).kept) (min-eq_right h)
     ∙ ap (λ x. (deletion_between b x kept).kept) (max-eq_left h)
 
-same_part : (a b : ℕ) (kept : Kept) → kept_without a b kept ≡ kept_without b a kept
+pub same_part : (a b : ℕ) (kept : Kept) → kept_without a b kept ≡ kept_without b a kept
 same_part a b kept = elim (above_or a b) as (λ x. kept_without a b kept ≡ kept_without b a kept) [
   | inl h ↦ ordered_part a b kept h ∙ sym (turned_part b a kept h)
   | inr h ↦ turned_part a b kept (omega arith) ∙ sym (ordered_part b a kept (omega arith))
@@ -627,179 +592,3 @@ pub cuts_known : (case : Case) (form : List Term) (number : ℤ) (all : Outcomes
 cuts_known case form number all known cuts n v s begins =
     subst (λ x. Describe n all (commanded s (kept_without s.kept.pointer (line_place s.kept.text s.kept.pointer x)
     s.kept) None)) (sym (known n v)) (cuts n v s begins)
-
--- ---- what is deleted
--- a part that two numbers name
-part_done : (n : ℕ) (all : Outcomes) (s : Point) (x y : ℤ) (a b : ℕ) → x ≡ pos a → a ≤ length s.kept.text → y ≡ pos b
-    → b ≤ length s.kept.text → Describe n all (commanded s (kept_without a b s.kept) None)
-    → IsDone n all s (part_deletion (Some x) (Some y) s.kept)
-part_done n all s x y a b e p f q d =
-    let text = s.kept.text in
-    let there : place_in text x ≡ Some a = ap (place_in text) e ∙ place_there text a p in
-    let other : place_in text y ≡ Some b = ap (place_in text) f ∙ place_there text b q in
-    let part = span_between a b in
-    performed n all s _ (deletion_between part.start part.end s.kept)
-    (ap (λ o. (ok_or o code.Pop >>= (λ from. ok_or (place_in text y) code.Pop >>= (λ to. Ok (span_between from to))))
-    >>= (λ part. Ok (deletion_between part.start part.end s.kept))) there
-    ∙ ap (λ o. (ok_or o code.Pop >>= (λ to. Ok (span_between a to)))
-    >>= (λ part. Ok (deletion_between part.start part.end s.kept))) other)
-    d
-
--- conditions say that a number is a place
-place_of : (text : List ℕ) (x : ℤ) → pos 0 ≤ℤ x → pos 0 ≤ℤ (pos (length text) -ℤ x) → IsPlace text x
-place_of text (pos k) h l = (k, refl, omega (arith, ints))
-place_of text (negsuc k) h l = absurd (omega (arith, ints))
-
-pub placed_both : (text : List ℕ) (n : ℕ) (v : Valuation) (first second a b c d : List Term)
-    (conditions : List (List Term)) → conditions ≡ a ∷ b ∷ c ∷ d ∷ [] → value a n v ≡ value first n v
-    → value b n v ≡ pos (length text) -ℤ value first n v → value c n v ≡ value second n v
-    → value d n v ≡ pos (length text) -ℤ value second n v → All (linear.Holds n v) conditions
-    → IsPlace text (value first n v) × IsPlace text (value second n v)
-placed_both text n v first second a b c d conditions e f g h i holds =
-    let P = linear.Holds n v in
-    let all = subst (All P) e holds in
-    let rest = All-tail P a (b ∷ c ∷ d ∷ []) all in
-    let others = All-tail P b (c ∷ d ∷ []) rest in
-    let last = All-tail P c (d ∷ []) others in (
-      place_of text (value first n v) (subst (λ x. pos 0 ≤ℤ x) f (All-head P a (b ∷ c ∷ d ∷ []) all))
-          (subst (λ x. pos 0 ≤ℤ x) g (All-head P b (c ∷ d ∷ []) rest)),
-      place_of text (value second n v) (subst (λ x. pos 0 ≤ℤ x) h (All-head P c (d ∷ []) others))
-          (subst (λ x. pos 0 ≤ℤ x) i (All-head P d [] last)),
-    )
-
-pub deletes_between : (case : Case) (ways : List command.Way) (first second : List Term) (here : Places)
-    (all : Outcomes)
-    → AreCommanded case ways (first ∷ second ∷ []) here all.cases.items → IsWay ways 0 PART → IsWay ways 1 PART_BACK
-    → ((n : ℕ) (v : Valuation) (s : Point) → IsTrueOf n v case s → All (linear.Holds n v) all.conditions.items
-    → IsPlace s.kept.text (value first n v) × IsPlace s.kept.text (value second n v))
-    → DeletesPart first second case all
-deletes_between case ways first second here all are w0 w1 placed n v s begins =
-    let k = placed n v s begins.true_of begins.conditions in
-    part_done n all s (value first n v) (value second n v) k.0.0 k.1.0 k.0.1 k.0.2 k.1.1 k.1.2
-    (part_by case ways first second here all are n v s begins.true_of w0 w1 k.0.0 k.1.0 k.0.1 k.1.1 k.0.2 k.1.2)
-
--- the conditions say that a form is a place
-abbrev pub IsPlaced : List Term → Case → Outcomes → Type 0
-IsPlaced place case all =
-    (n : ℕ) (v : Valuation) (s : Point) → IsTrueOf n v case s → All (linear.Holds n v) all.conditions.items
-    → IsPlace s.kept.text (value place n v)
-
-abbrev pub IsAtPointer : List Term → Case → Type 0
-IsAtPointer form case = (n : ℕ) (v : Valuation) (s : Point) → IsTrueOf n v case s → value form n v ≡ pos s.kept.pointer
-
-pub deletes_to_pointer : (case : Case) (first second : List Term) (all : Outcomes) → IsAtPointer second case
-    → IsPlaced first case all → CutsTo first case all → DeletesPart first second case all
-deletes_to_pointer case first second all at placed cuts n v s begins =
-    let k = placed n v s begins.true_of begins.conditions in
-    part_done n all s (value first n v) (value second n v) k.0 s.kept.pointer k.1 k.2 (at n v s begins.true_of)
-    begins.whole.inside
-    (subst (λ kept. Describe n all (commanded s kept None)) (same_part s.kept.pointer k.0 s.kept)
-    (cuts n v s k.0 begins k.1 k.2))
-
-pub deletes_from_pointer : (case : Case) (first second : List Term) (all : Outcomes) → IsAtPointer first case
-    → IsPlaced second case all → CutsTo second case all → DeletesPart first second case all
-deletes_from_pointer case first second all at placed cuts n v s begins =
-    let k = placed n v s begins.true_of begins.conditions in
-    part_done n all s (value first n v) (value second n v) s.kept.pointer k.0 (at n v s begins.true_of)
-    begins.whole.inside k.1 k.2 (cuts n v s k.0 begins k.1 k.2)
-
--- ---- characters and lines, as many as a form says
-pub deletes_characters : (case : Case) (by : Option (List Term)) (count pointer place : List Term) (all : Outcomes)
-    → Counted by count → IsAtPointer pointer case
-    → ((n : ℕ) (v : Valuation) → value place n v ≡ value pointer n v +ℤ value count n v) → IsPlaced place case all
-    → CutsTo place case all → DeletesCharacters by case all
-deletes_characters case by count pointer place all counts at sum placed cuts n v s begins =
-    by_count (unwrap_or (value_if by n v) (pos 1))
-    (sum n v ∙ ap (λ x. x +ℤ value count n v) (at n v s begins.true_of)
-    ∙ ap (λ x. pos s.kept.pointer +ℤ x) (counts n v)) where
-      p : ℕ
-      p = s.kept.pointer
-
-      k : IsPlace s.kept.text (value place n v)
-      k = placed n v s begins.true_of begins.conditions
-
-      by_count : (x : ℤ) → value place n v ≡ pos s.kept.pointer +ℤ x
-          → IsDone n all s (character_deletion x s.kept)
-      by_count (pos m) e =
-          let there : k.0 ≡ s.kept.pointer + m = omega (arith, ints, k.1) in
-          let h : s.kept.pointer + m ≤ length s.kept.text = omega (arith, k.2) in
-          let fits : nat_le (s.kept.pointer + m) (length s.kept.text) ≡ true = grind (arith, nat_tests) in
-          performed n all s _ (deletion_between s.kept.pointer (s.kept.pointer + m) s.kept)
-          (ap (λ b. if b then Ok (deletion_between s.kept.pointer (s.kept.pointer + m) s.kept) else Err code.Dtb) fits)
-          (subst (λ kept. Describe n all (commanded s kept None))
-          (ordered_part s.kept.pointer (s.kept.pointer + m) s.kept (omega arith))
-          (cuts n v s (s.kept.pointer + m) begins (k.1 ∙ ap pos there) h))
-      by_count (negsuc m) e =
-          let there : k.0 + suc m ≡ s.kept.pointer = omega (arith, ints, k.1) in
-          let less : k.0 ≡ s.kept.pointer - suc m = omega arith in
-          let h : suc m ≤ s.kept.pointer = omega arith in
-          let fits : nat_le (suc m) s.kept.pointer ≡ true = grind (arith, nat_tests) in
-          performed n all s _ (deletion_between (s.kept.pointer - suc m) s.kept.pointer s.kept)
-          (ap (λ b. if b then Ok (deletion_between (s.kept.pointer - suc m) s.kept.pointer s.kept) else Err code.Dtb)
-          fits)
-          (subst (λ j. Describe n all (commanded s (deletion_between j s.kept.pointer s.kept).kept None)) less
-          (subst (λ kept. Describe n all (commanded s kept None))
-          (turned_part s.kept.pointer k.0 s.kept (omega arith))
-          (cuts n v s k.0 begins k.1 k.2)))
-
-pub deletes_lines : (case : Case) (by : Option (List Term)) (count place : List Term) (number : ℤ) (all : Outcomes)
-    → Counted by count → ((n : ℕ) (v : Valuation) → value count n v ≡ number)
-    → ((n : ℕ) (v : Valuation) (s : Point) → IsTrueOf n v case s
-    → value place n v ≡ pos (line_place s.kept.text s.kept.pointer number))
-    → ((s : Point) → IsWhole s.kept → line_place s.kept.text s.kept.pointer number ≤ length s.kept.text)
-    → CutsTo place case all → DeletesLines by case all
-deletes_lines case by count place number all counts known place_is within cuts n v s begins =
-    let k = line_place s.kept.text s.kept.pointer number in
-    let part = span_between s.kept.pointer k in
-    performed n all s _ (deletion_between part.start part.end s.kept)
-    (ap (λ x. Ok (deletion_between (span_between s.kept.pointer (line_place s.kept.text s.kept.pointer x)).start
-    (span_between s.kept.pointer (line_place s.kept.text s.kept.pointer x)).end s.kept))
-    (sym (counts n v) ∙ known n v))
-    (cuts n v s k begins (place_is n v s begins.true_of) (within s begins.whole))
-
-pub deletes_counted : (case : Case) (by : Option (List Term)) (count : List Term) (all : Outcomes) → Counted by count
-    → CutsLines count case all → DeletesLines by case all
-deletes_counted case by count all counts cuts n v s begins =
-    let k = line_place s.kept.text s.kept.pointer (unwrap_or (value_if by n v) (pos 1)) in
-    let part = span_between s.kept.pointer k in
-    performed n all s _ (deletion_between part.start part.end s.kept) refl
-    (subst (λ x. Describe n all (commanded s
-    (kept_without s.kept.pointer (line_place s.kept.text s.kept.pointer x) s.kept) None)) (counts n v)
-    (cuts n v s begins))
-
-pub end_within : (s : Point) → IsWhole s.kept → line_place s.kept.text s.kept.pointer (pos 1) ≤ length s.kept.text
-end_within s whole = (line_end s.kept.text s.kept.pointer whole.inside).within
-
-pub start_within : (s : Point) → IsWhole s.kept → line_place s.kept.text s.kept.pointer (pos 0) ≤ length s.kept.text
-start_within s whole = omega (arith, (line_begin s.kept.text s.kept.pointer).before, whole.inside)
-
-pub placed_by : (case : Case) (place : List Term) (wanted : List (List Term)) (all : Outcomes)
-    → all.conditions.items ≡ wanted
-    → ((n : ℕ) (v : Valuation) (s : Point) → IsTrueOf n v case s → All (linear.Holds n v) wanted
-    → IsPlace s.kept.text (value place n v))
-    → IsPlaced place case all
-placed_by case place wanted all e placed n v s true_of h = placed n v s true_of (subst (All (linear.Holds n v)) e h)
-
--- what the arguments name is deleted
-pub deletes_part : (case : Case) (unit : Deleted) (taken : Taken) (first second : List Term) (all : Outcomes)
-    → taken.first ≡ Some first → taken.value ≡ Some second → DeletesPart first second case all
-    → Performs (deletion unit) taken case all
-deletes_part case unit taken first second all e f deletes n v s begins =
-    subst (λ x. IsDone n all s (deletion unit (record { first = value_if x n v; value = value_if taken.value n v })
-    s.kept)) (sym e)
-    (subst (λ x. IsDone n all s (deletion unit (record { first = Some (value first n v); value = value_if x n v })
-    s.kept)) (sym f)
-    (either unit)) where
-      either : (unit : Deleted)
-          → IsDone n all s (deletion unit (record { first = Some (value first n v); value = Some (value second n v) })
-          s.kept)
-      either Characters = deletes n v s begins
-      either Lines = deletes n v s begins
-
-pub deletes_alone : (case : Case) (unit : Deleted) (taken : Taken) (all : Outcomes) → taken.first ≡ None
-    → ((n : ℕ) (v : Valuation) (s : Point) → Begins n v case all s
-    → IsDone n all s (deletion unit (record { first = None; value = value_if taken.value n v }) s.kept))
-    → Performs (deletion unit) taken case all
-deletes_alone case unit taken all e deletes n v s begins =
-    subst (λ x. IsDone n all s (deletion unit (record { first = value_if x n v; value = value_if taken.value n v })
-    s.kept)) (sym e) (deletes n v s begins)

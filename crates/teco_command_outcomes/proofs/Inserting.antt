@@ -1,58 +1,29 @@
 -- I and TAB.
-use Rattle.std.proofs.Common.{◌≡◌, ℕ, ◌+◌, ◌<◌, ◌≤◌, ◌⊎◌, inl, inr, ℤ, pos, ◌-ℤ◌, ◌≤ℤ◌, List}
-use Rattle.std.proofs.Common.{◌++◌}
-use Rattle.std.proofs.Common.{[], ◌∷◌, zero, suc, ◌-◌, slice_get, length, true, false, Some, None, Ok, Err}
-use Rattle.std.proofs.Common.{if◌then◌else◌, nat_le}
-use Rattle.std.proofs.Common.{take}
-use Rattle.std.proofs.Common.{drop, slice_index_or, refl, sym, ap, subst, ◌∙◌, arith}
-use Rattle.std.proofs.lemmas.Bool.Decides.{nat_tests}
-use Rattle.std.proofs.lemmas.Int.{ints}
-use Rattle.std.proofs.lemmas.List.{append_assoc}
-use Rattle.std.proofs.lemmas.List.Elements.{All-head}
-use Rattle.std.specs.List.{All}
-use Rattle.teco_base.specs.Arithmetic.{byte_of}
-use Rattle.teco_base.specs.Lines.{line_place}
-use Rattle.teco_base.specs.Text.{text_after_insertion}
-use Rattle.teco_base.specs.declared.TheConstants.{LIMIT}
+use Rattle.teco_command_outcomes.proofs.Prelude.{◌≡◌, ℕ, ◌+◌, ◌<◌, ◌≤◌, ◌⊎◌, inl, inr, ℤ, pos, ◌-ℤ◌, ◌≤ℤ◌, List, ◌++◌}
+use Rattle.teco_command_outcomes.proofs.Prelude.{[], ◌∷◌, zero, suc, ◌-◌, slice_get, length, true, false, Some, None}
+use Rattle.teco_command_outcomes.proofs.Prelude.{Ok, Err, if◌then◌else◌, nat_le, take, drop, slice_index_or, refl, sym}
+use Rattle.teco_command_outcomes.proofs.Prelude.{ap, subst, ◌∙◌, arith, nat_tests, ints, append_assoc, All-head, All}
+use Rattle.teco_command_outcomes.proofs.Prelude.{byte_of, line_place, text_after_insertion, LIMIT, Term, Valuation}
+use Rattle.teco_command_outcomes.proofs.Prelude.{value, no_answer, Element, Kept, retrieval, storage, text_in, Get}
+use Rattle.teco_command_outcomes.proofs.Prelude.{IsWhole, Case, TakenForms, Single, Steps, Pointer, Size, Held, LineEnd}
+use Rattle.teco_command_outcomes.proofs.Prelude.{LineStart, LastLength, CodeHere, CodeBefore, Typed, One, Outcomes}
+use Rattle.teco_command_outcomes.proofs.Prelude.{Places, value_if, AreCommanded, Leads, Performs, commanded, IsDone}
+use Rattle.teco_command_outcomes.proofs.Prelude.{Describe, end_code, Before, changed, Point, IsTrueOf, single}
+use Rattle.teco_command_outcomes.proofs.Prelude.{code_before, code_here, with_codes, read_at, leads_singles, performed}
+use Rattle.teco_command_outcomes.proofs.Prelude.{ends, IsEnd, IsBegin, line_end, line_begin, one_end, one_begin}
+use Rattle.teco_command_outcomes.proofs.Prelude.{above_or, begin_kept, end_behind, length_after, IsWay, by}
 use Rattle.teco_base.specs.declared.bytes.TheConstants.{TAB}
 use Rattle.teco_base.specs.declared.code.Code.TheVariants as code
-use Rattle.teco_linear.specs.declared.term.Term.{Term}
-use Rattle.teco_linear.specs.Form.{Valuation, value}
 use Rattle.teco_linear.specs.Implied as linear
-use Rattle.teco_model.specs.Effect.{no_answer}
-use Rattle.teco_model.specs.Element.{Element}
 use Rattle.teco_model.specs.Insertion.{insertion, insertion_of, insertion_with}
-use Rattle.teco_model.specs.State.{Kept}
-use Rattle.teco_model.specs.Storage.{retrieval, storage, text_in}
 use Rattle.teco_model.specs.declared.kind.Insertion.{Insertion}
 use Rattle.teco_model.specs.declared.kind.Insertion.TheVariants.{Text, Tab}
-use Rattle.teco_model.specs.declared.kind.Storage.TheVariants.{Get}
-use Rattle.teco_model.specs.laws.Whole.{IsWhole}
-use Rattle.teco_rows.specs.declared.case.Case.{Case}
-use Rattle.teco_rows.specs.declared.commands.Taken.{Taken}
 use Rattle.teco_rows.specs.declared.commands.Way as command
 use Rattle.teco_command_outcomes.specs.declared.insertions.TheConstants.{GOES_ON, PUTS, STARTS}
-use Rattle.teco_rows.specs.declared.measure.Single.{Single}
-use Rattle.teco_rows.specs.declared.measure.Single.TheVariants.{Steps, Pointer, Size, Held, LineEnd, LineStart}
-use Rattle.teco_rows.specs.declared.measure.Single.TheVariants.{LastLength, CodeHere, CodeBefore, Typed}
-use Rattle.teco_rows.specs.declared.measure.Measure.TheVariants.{One}
-use Rattle.teco_rows.specs.declared.outcomes.Outcomes.{Outcomes}
-use Rattle.teco_rows.specs.declared.row.Places.{Places}
-use Rattle.teco_rows.specs.Cases.{value_if}
-use Rattle.teco_rows.specs.Commands.{AreCommanded, Leads, Performs, commanded}
-use Rattle.teco_command_outcomes.specs.Deletions.{IsDone}
-use Rattle.teco_rows.specs.Foretold.{Describe}
 use Rattle.teco_command_outcomes.specs.Insertions.{HasRoom, Inserts, InsertsAny, InsertsByte, IsEndCode}
-use Rattle.teco_command_outcomes.specs.Insertions.{end_code}
-use Rattle.teco_rows.specs.Rows.{Before, changed}
-use Rattle.teco_rows.specs.States.{Point, IsTrueOf, single, code_before, code_here, code_if}
-use Rattle.teco_rows.proofs.Characters.{with_codes}
+use Rattle.teco_rows.specs.States.{code_if}
 use Rattle.teco_command_outcomes.proofs.Codes.{grown_before, grown_here}
-use Rattle.teco_rows.proofs.Commanding.{read_at}
-use Rattle.teco_rows.proofs.Leading.{leads_singles, performed}
-use Rattle.teco_rows.proofs.Lines.{ends, IsEnd, IsBegin, line_end, line_begin, one_end, one_begin, above_or}
-use Rattle.teco_rows.proofs.Texts.{begin_kept, begin_new, end_behind, length_after}
-use Rattle.teco_rows.proofs.Ways.{IsWay, by}
+use Rattle.teco_rows.proofs.Texts.{begin_new}
 
 -- ---- where the last line of a text starts
 pub starts_at_first : (text : List ℕ) → line_place text 0 (pos 0) ≡ 0
@@ -234,7 +205,7 @@ has_room case long size most free left conditions e size_is most_is free_is left
     omega (arith, ints, holds, size_is n v s true_of, most_is n v, free_is n v, left_is n v)
 
 -- I inserts its text, and TAB itself before it
-pub inserts_text : (case : Case) (kind : Insertion) (taken : Taken) (text : List ℕ) (all : Outcomes)
+pub inserts_text : (case : Case) (kind : Insertion) (taken : TakenForms) (text : List ℕ) (all : Outcomes)
     → kind ≡ Text → taken.value ≡ None → Inserts text case all → (e : Element) → e.text ≡ text
     → Performs (insertion kind e) taken case all
 inserts_text case kind taken text all k value_is told e same n v s begins =
@@ -249,7 +220,7 @@ inserts_text case kind taken text all k value_is told e same n v s begins =
     s.kept)) (sym value_is)
     (subst (λ t. IsDone n all s (insertion_of t s.kept)) (sym same) told_here))
 
-pub inserts_tab : (case : Case) (kind : Insertion) (taken : Taken) (text : List ℕ) (all : Outcomes)
+pub inserts_tab : (case : Case) (kind : Insertion) (taken : TakenForms) (text : List ℕ) (all : Outcomes)
     → kind ≡ Tab → taken.value ≡ None → Inserts (TAB ∷ text) case all → (e : Element) → e.text ≡ text
     → Performs (insertion kind e) taken case all
 inserts_tab case kind taken text all k value_is told e same n v s begins =
@@ -316,7 +287,7 @@ unknown_behind kept new =
 abbrev read_one : List Term → ℕ → Valuation → ℕ → ℤ
 read_one long n v i = value (slice_index_or (long ∷ []) i []) n v
 
-pub gets : (case : Case) (ways : List command.Way) (taken : Taken) (register colons : ℕ) (long : List Term)
+pub gets : (case : Case) (ways : List command.Way) (taken : TakenForms) (register colons : ℕ) (long : List Term)
     (here : Places) (all : Outcomes) → AreCommanded case ways (long ∷ []) here all.cases.items → IsWay ways 0 PUTS
     → colons ≡ 0
     → ((n : ℕ) (v : Valuation) (s : Point) → IsTrueOf n v case s → IsWhole s.kept
@@ -372,7 +343,7 @@ no_text : (text : List ℕ) → length text ≡ 0 → text ≡ []
 no_text [] h = refl
 no_text (c ∷ text) h = absurd (omega arith)
 
-pub inserts_number : (case : Case) (kind : Insertion) (taken : Taken) (form : List Term) (text : List ℕ)
+pub inserts_number : (case : Case) (kind : Insertion) (taken : TakenForms) (form : List Term) (text : List ℕ)
     (all : Outcomes)
     → kind ≡ Text → taken.value ≡ Some form → length text ≡ 0 → InsertsByte form case all → (e : Element)
     → e.text ≡ text

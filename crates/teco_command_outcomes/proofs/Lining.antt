@@ -1,44 +1,25 @@
 -- L.
-use Rattle.std.proofs.Common.{◌≡◌, ℕ, zero, suc, ◌+◌, ◌-◌, ◌<◌, ◌≤◌, ◌⊎◌, inl, inr, ℤ, pos, negsuc, ◌≤ℤ◌, List, [], ◌∷◌}
-use Rattle.std.proofs.Common.{length, get_or, filter, reverse, cond, Bool, true, false, Option, Some, None, nat_lt}
-use Rattle.std.proofs.Common.{nat_le}
-use Rattle.std.proofs.Common.{slice_index_or, unwrap_or, refl, sym, ap, subst, ◌∙◌, arith}
-use Rattle.std.proofs.lemmas.Bool.Decides.{nat_tests}
-use Rattle.std.proofs.lemmas.Int.{ints}
+use Rattle.teco_command_outcomes.proofs.Prelude.{◌≡◌, ℕ, zero, suc, ◌+◌, ◌-◌, ◌<◌, ◌≤◌, ◌⊎◌, inl, inr, ℤ, pos, negsuc}
+use Rattle.teco_command_outcomes.proofs.Prelude.{◌≤ℤ◌, List, [], ◌∷◌, length, Bool, true, false, Option, Some, None}
+use Rattle.teco_command_outcomes.proofs.Prelude.{nat_le, slice_index_or, unwrap_or, refl, sym, ap, subst, ◌∙◌, arith}
+use Rattle.teco_command_outcomes.proofs.Prelude.{nat_tests, ints, line_place, Term, Valuation, value, Element, motion}
+use Rattle.teco_command_outcomes.proofs.Prelude.{Kept, Case, TakenForms, Single, Steps, Pointer, Size, Held, LineEnd}
+use Rattle.teco_command_outcomes.proofs.Prelude.{LineStart, LastLength, CodeHere, CodeBefore, Typed, One, Outcomes}
+use Rattle.teco_command_outcomes.proofs.Prelude.{Clause, Places, value_if, AreCommanded, Leads, Performs, commanded}
+use Rattle.teco_command_outcomes.proofs.Prelude.{Describe, Before, changed, IsTrueOf, Point, single, code_here}
+use Rattle.teco_command_outcomes.proofs.Prelude.{code_before, with_codes, read_at, leads_singles, ends, IsEnd, IsBegin}
+use Rattle.teco_command_outcomes.proofs.Prelude.{line_end, line_begin, one_begin, end_before, begin_before, begin_most}
+use Rattle.teco_command_outcomes.proofs.Prelude.{end_inside, end_least, clash, above_or, one_end, top_line, IsWay, by}
+use Rattle.std.proofs.Common.{get_or, filter, reverse, cond, nat_lt}
 use Rattle.std.proofs.lemmas.List.{get_or-reverse, get_or_past, length-reverse}
 use Rattle.teco_base.specs.Bytes.{is_line_end}
-use Rattle.teco_base.specs.Lines.{line_place, line_places, line_places_from}
-use Rattle.teco_linear.specs.declared.term.Term.{Term}
-use Rattle.teco_linear.specs.Form.{Valuation, value}
-use Rattle.teco_model.specs.Element.{Element}
-use Rattle.teco_model.specs.Motion.{motion}
-use Rattle.teco_model.specs.State.{Kept}
+use Rattle.teco_base.specs.Lines.{line_places, line_places_from}
 use Rattle.teco_model.specs.declared.kind.Motion.TheVariants as kind
-use Rattle.teco_rows.specs.declared.case.Case.{Case}
-use Rattle.teco_rows.specs.declared.commands.Taken.{Taken}
 use Rattle.teco_rows.specs.declared.commands.Way as command
 use Rattle.teco_command_outcomes.specs.declared.line_motions.TheConstants.{STAYS, STEPS, LAST, STARTS, AHEAD, BACK}
 use Rattle.teco_command_outcomes.specs.declared.line_motions.TheConstants.{TOP, UP, UP_ONE}
-use Rattle.teco_rows.specs.declared.measure.Single.{Single}
-use Rattle.teco_rows.specs.declared.measure.Single.TheVariants.{Steps, Pointer, Size, Held, LineEnd, LineStart}
-use Rattle.teco_rows.specs.declared.measure.Single.TheVariants.{LastLength, CodeHere, CodeBefore, Typed}
-use Rattle.teco_rows.specs.declared.measure.Measure.TheVariants.{One}
-use Rattle.teco_rows.specs.declared.outcomes.Outcomes.{Outcomes}
-use Rattle.teco_rows.specs.declared.row.Clause.{Clause}
-use Rattle.teco_rows.specs.declared.row.Places.{Places}
-use Rattle.teco_rows.specs.Cases.{value_if}
-use Rattle.teco_rows.specs.Commands.{AreCommanded, Leads, Performs, commanded}
-use Rattle.teco_rows.specs.Foretold.{Describe}
 use Rattle.teco_command_outcomes.specs.LineMotions.{GoesBy, GoesLines, gone_by}
-use Rattle.teco_rows.specs.Rows.{Before, changed}
-use Rattle.teco_rows.specs.States.{IsTrueOf, Point, single, code_here, code_before}
-use Rattle.teco_rows.proofs.Characters.{with_codes}
-use Rattle.teco_rows.proofs.Commanding.{read_at}
-use Rattle.teco_rows.proofs.Leading.{leads_singles}
-use Rattle.teco_rows.proofs.Lines.{ends, IsEnd, IsBegin, line_end, line_begin, one_begin, end_before}
-use Rattle.teco_rows.proofs.Lines.{begin_before, begin_most, end_inside, end_least, clash, above_or, line_above}
-use Rattle.teco_rows.proofs.Lines.{one_end, top_line}
-use Rattle.teco_rows.proofs.Ways.{IsWay, by}
+use Rattle.teco_rows.proofs.Lines.{line_above}
 
 -- ---- where line places may lie
 -- of each item, and of what stands for one that is not there
@@ -555,13 +536,13 @@ by_lines case ways form here all are w0 w1 n v s begins = by_count (value form n
 abbrev pub Counted : Option (List Term) → List Term → Type 0
 Counted by form = (n : ℕ) (v : Valuation) → value form n v ≡ unwrap_or (value_if by n v) (pos 1)
 
-pub moves_lines : (case : Case) (taken : Taken) (form : List Term) (all : Outcomes) → Counted taken.value form
+pub moves_lines : (case : Case) (taken : TakenForms) (form : List Term) (all : Outcomes) → Counted taken.value form
     → GoesLines form case all → (e : Element) → Performs (motion kind.Lines e) taken case all
 moves_lines case taken form all count goes e n v s begins =
     subst (λ x. Describe n all (gone_by x s)) (count n v) (goes n v s begins)
 
 -- by a number that is known
-pub known_lines : (case : Case) (taken : Taken) (form : List Term) (number : ℤ) (all : Outcomes)
+pub known_lines : (case : Case) (taken : TakenForms) (form : List Term) (number : ℤ) (all : Outcomes)
     → Counted taken.value form → ((n : ℕ) (v : Valuation) → value form n v ≡ number) → GoesBy number case all
     → (e : Element) → Performs (motion kind.Lines e) taken case all
 known_lines case taken form number all count known goes =

@@ -1,49 +1,32 @@
 -- C, R and J.
-use Rattle.std.proofs.Common.{◌≡◌, ℕ, zero, suc, ◌+◌, ◌<◌, ◌≤◌, ◌⊎◌, inl, inr, ℤ, pos, negsuc, List, [], ◌∷◌, ◌++◌}
-use Rattle.std.proofs.Common.{length, true, false, Option, Some, None, Ok, if◌then◌else◌, nat_le, slice_index_or, refl}
-use Rattle.std.proofs.Common.{sym, ap, subst, ◌∙◌, ◌+ℤ◌, arith}
-use Rattle.std.proofs.lemmas.Bool.Decides.{nat_tests}
-use Rattle.std.proofs.lemmas.Int.{ints}
-use Rattle.std.specs.List.{All}
-use Rattle.teco_base.specs.Lines.{line_place}
-use Rattle.teco_linear.specs.declared.term.Term.{Term}
-use Rattle.teco_linear.specs.Form.{Valuation, value}
+use Rattle.teco_command_outcomes.proofs.Prelude.{◌≡◌, ℕ, zero, suc, ◌+◌, ◌<◌, ◌≤◌, ◌⊎◌, inl, inr, ℤ, pos, negsuc, List}
+use Rattle.teco_command_outcomes.proofs.Prelude.{[], ◌∷◌, ◌++◌, length, true, false, Option, Some, None, Ok}
+use Rattle.teco_command_outcomes.proofs.Prelude.{if◌then◌else◌, nat_le, slice_index_or, refl, sym, ap, subst, ◌∙◌, ◌+ℤ◌}
+use Rattle.teco_command_outcomes.proofs.Prelude.{arith, nat_tests, ints, All, line_place, Term, Valuation, value}
+use Rattle.teco_command_outcomes.proofs.Prelude.{no_answer, with_answer, motion, Element, place_in, Kept, IsWhole, Case}
+use Rattle.teco_command_outcomes.proofs.Prelude.{Single, Steps, Pointer, Size, Held, LineEnd, LineStart, LastLength}
+use Rattle.teco_command_outcomes.proofs.Prelude.{CodeHere, CodeBefore, Typed, One, Each, Number, Length, Turns}
+use Rattle.teco_command_outcomes.proofs.Prelude.{PushedNumber, PushedLength, First, Value, value_if, TakenForms}
+use Rattle.teco_command_outcomes.proofs.Prelude.{Outcomes, Clause, Places, Before, AreMet, changed, Point, IsTrueOf}
+use Rattle.teco_command_outcomes.proofs.Prelude.{single, code_here, code_before, Begins, Describe, AreCommanded}
+use Rattle.teco_command_outcomes.proofs.Prelude.{IsAtLevel, Leads, Performs, commanded, IsPlace, read_at, leads, leaves}
+use Rattle.teco_command_outcomes.proofs.Prelude.{left_alone, answers, performed, IsWay, by, IsEnd, IsBegin, line_end}
+use Rattle.teco_command_outcomes.proofs.Prelude.{line_begin, end_before, begin_before, end_inside, end_least, above_or}
+use Rattle.teco_command_outcomes.proofs.Prelude.{begin_most, clash, ends, Sort, ends_one, is_low, is_high, sort_at}
+use Rattle.teco_command_outcomes.proofs.Prelude.{before_next, with_codes}
 use Rattle.teco_linear.specs.Implied as linear
-use Rattle.teco_model.specs.Effect.{no_answer, with_answer}
-use Rattle.teco_model.specs.Motion.{motion, motion_to, target}
-use Rattle.teco_model.specs.Element.{Element}
+use Rattle.teco_model.specs.Motion.{motion_to, target}
 use Rattle.teco_model.specs.declared.kind.Motion.{Motion}
 use Rattle.teco_model.specs.declared.kind.Motion.TheVariants.{Forward, Backward, To, Lines}
-use Rattle.teco_model.specs.Places.{place_in}
-use Rattle.teco_model.specs.State.{Kept}
-use Rattle.teco_model.specs.laws.Whole.{IsWhole}
-use Rattle.teco_rows.specs.declared.case.Case.{Case}
-use Rattle.teco_rows.specs.declared.measure.Single.{Single}
-use Rattle.teco_rows.specs.declared.measure.Single.TheVariants.{Steps, Pointer, Size, Held, LineEnd, LineStart}
-use Rattle.teco_rows.specs.declared.measure.Single.TheVariants.{LastLength, CodeHere, CodeBefore, Typed}
-use Rattle.teco_rows.specs.declared.measure.Measure.TheVariants.{One, Each}
-use Rattle.teco_rows.specs.declared.measure.Family.TheVariants.{Number, Length, Turns, PushedNumber, PushedLength}
-use Rattle.teco_rows.specs.declared.measure.Family.TheVariants.{First, Value}
-use Rattle.teco_rows.specs.Cases.{value_if}
-use Rattle.teco_rows.specs.declared.commands.Taken.{Taken}
 use Rattle.teco_rows.specs.declared.commands.Way as command
 use Rattle.teco_command_outcomes.specs.declared.motions.TheConstants.{AHEAD, WITHIN, BACK, FOUND, BEFORE, BEHIND}
 use Rattle.teco_command_outcomes.specs.declared.motions.TheConstants.{PASSES_END, PASSES_LOW, PASSES_HIGH}
 use Rattle.teco_command_outcomes.specs.declared.motions.TheConstants.{RETURNS_END, RETURNS_LOW, RETURNS_HIGH}
-use Rattle.teco_rows.specs.declared.outcomes.Outcomes.{Outcomes}
-use Rattle.teco_rows.specs.declared.row.Clause.{Clause}
-use Rattle.teco_rows.specs.declared.row.Places.{Places}
-use Rattle.teco_rows.specs.Rows.{Before, AreMet, changed}
-use Rattle.teco_rows.specs.States.{Point, IsTrueOf, each, single, code_here, code_before}
-use Rattle.teco_rows.specs.Foretold.{Begins, Describe, Succeeds}
-use Rattle.teco_rows.specs.Commands.{AreCommanded, IsAtLevel, Leads, Performs, commanded, taken_by}
-use Rattle.teco_command_outcomes.specs.Motions.{GoesFar, GoesTo, IsPlace, IsToPlace, Passes, Returns}
-use Rattle.teco_rows.proofs.Commanding.{read_at}
-use Rattle.teco_rows.proofs.Leading.{leads, leaves, left_alone, answers, performed}
-use Rattle.teco_rows.proofs.Ways.{IsWay, by, answering}
-use Rattle.teco_rows.proofs.Lines.{IsEnd, IsBegin, line_end, line_begin, end_before, begin_before, end_inside}
-use Rattle.teco_rows.proofs.Lines.{end_least, above_or, begin_most, clash, ends}
-use Rattle.teco_rows.proofs.Characters.{Sort, ends_one, is_low, is_high, sort_at, before_next, with_codes}
+use Rattle.teco_rows.specs.States.{each}
+use Rattle.teco_rows.specs.Foretold.{Succeeds}
+use Rattle.teco_rows.specs.Commands.{taken_by}
+use Rattle.teco_command_outcomes.specs.Motions.{GoesFar, GoesTo, IsToPlace, Passes, Returns}
+use Rattle.teco_rows.proofs.Ways.{answering}
 
 -- what the line places are at another place
 pub record IsMoved (text : List ℕ) (p x e s f t : ℕ) : Type 0 where
@@ -590,7 +573,7 @@ back_by_one case place all near returns n v s k begins e inside =
     returns n v s k begins e inside (omega (arith, ints, near n v s begins.true_of, e))
 
 -- the motions that name a place are those
-pub moves : (case : Case) (kind : Motion) (taken : Taken) (place : List Term) (all : Outcomes) (colons : ℕ)
+pub moves : (case : Case) (kind : Motion) (taken : TakenForms) (place : List Term) (all : Outcomes) (colons : ℕ)
     → IsToPlace kind
     → ((n : ℕ) (v : Valuation) (s : Point) → IsTrueOf n v case s
     → value place n v ≡ target kind s.kept.pointer (value_if taken.value n v))

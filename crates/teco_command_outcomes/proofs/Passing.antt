@@ -1,33 +1,16 @@
 -- D of one character.
-use Rattle.std.proofs.Common.{◌≡◌, ℕ, ◌+◌, ◌≤◌, ℤ, pos, ◌+ℤ◌, List, [], ◌∷◌, length, true, false, Some, None}
-use Rattle.std.proofs.Common.{slice_index_or, refl, sym, ap, subst, ◌∙◌, arith}
-use Rattle.std.proofs.lemmas.Int.{ints}
-use Rattle.teco_base.specs.Lines.{line_place}
-use Rattle.teco_base.specs.Text.{text_after_deletion}
-use Rattle.teco_linear.specs.declared.term.Term.{Term}
-use Rattle.teco_linear.specs.Form.{Valuation, value}
-use Rattle.teco_model.specs.Deletion.{deletion_between}
-use Rattle.teco_model.specs.State.{Kept}
-use Rattle.teco_rows.specs.declared.case.Case.{Case}
+use Rattle.teco_command_outcomes.proofs.Prelude.{◌≡◌, ℕ, ◌+◌, ◌≤◌, ℤ, pos, ◌+ℤ◌, List, [], ◌∷◌, length, true, false}
+use Rattle.teco_command_outcomes.proofs.Prelude.{Some, None, slice_index_or, refl, sym, ap, subst, ◌∙◌, arith, ints}
+use Rattle.teco_command_outcomes.proofs.Prelude.{line_place, text_after_deletion, Term, Valuation, value}
+use Rattle.teco_command_outcomes.proofs.Prelude.{deletion_between, Kept, Case, Single, Steps, Pointer, Size, Held}
+use Rattle.teco_command_outcomes.proofs.Prelude.{LineEnd, LineStart, LastLength, CodeHere, CodeBefore, Typed, One}
+use Rattle.teco_command_outcomes.proofs.Prelude.{Outcomes, Clause, Places, AreCommanded, Leads, commanded, Describe}
+use Rattle.teco_command_outcomes.proofs.Prelude.{Before, changed, Point, IsTrueOf, single, code_here, code_before}
+use Rattle.teco_command_outcomes.proofs.Prelude.{CutsTo, Sort, ends_one, is_low, is_high, sort_at, read_at}
+use Rattle.teco_command_outcomes.proofs.Prelude.{leads_singles, IsEnd, end_least, ends, line_end, IsWay, by}
 use Rattle.teco_rows.specs.declared.commands.Way as command
-use Rattle.teco_rows.specs.declared.measure.Single.{Single}
-use Rattle.teco_rows.specs.declared.measure.Single.TheVariants.{Steps, Pointer, Size, Held, LineEnd, LineStart}
-use Rattle.teco_rows.specs.declared.measure.Single.TheVariants.{LastLength, CodeHere, CodeBefore, Typed}
-use Rattle.teco_rows.specs.declared.measure.Measure.TheVariants.{One}
-use Rattle.teco_rows.specs.declared.outcomes.Outcomes.{Outcomes}
-use Rattle.teco_rows.specs.declared.row.Clause.{Clause}
-use Rattle.teco_rows.specs.declared.row.Places.{Places}
-use Rattle.teco_rows.specs.Commands.{AreCommanded, Leads, commanded}
-use Rattle.teco_rows.specs.Foretold.{Describe}
-use Rattle.teco_rows.specs.Rows.{Before, changed}
-use Rattle.teco_rows.specs.States.{Point, IsTrueOf, single, code_here, code_before}
 use Rattle.teco_command_outcomes.specs.declared.deletions.TheConstants.{CUTS_END, CUTS_LOW, CUTS_HIGH}
-use Rattle.teco_command_outcomes.specs.Deletions.{CutsNext, CutsTo}
-use Rattle.teco_rows.proofs.Characters.{Sort, ends_one, is_low, is_high, sort_at}
-use Rattle.teco_rows.proofs.Commanding.{read_at}
-use Rattle.teco_rows.proofs.Leading.{leads_singles}
-use Rattle.teco_rows.proofs.Lines.{IsEnd, end_least, ends, line_end}
-use Rattle.teco_rows.proofs.Ways.{IsWay, by}
+use Rattle.teco_command_outcomes.specs.Deletions.{CutsNext}
 use Rattle.teco_command_outcomes.proofs.Codes.{ends_as_before, left_before}
 use Rattle.teco_command_outcomes.proofs.Cutting.{left_begin, left_end, left_long, ordered_part, unknown_of}
 

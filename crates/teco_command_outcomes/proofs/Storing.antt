@@ -1,34 +1,20 @@
 -- U and %.
-use Rattle.std.proofs.Common.{◌≡◌, ℕ, ◌<◌, ◌==◌, ℤ, pos, ◌+ℤ◌, List, [], ◌∷◌, length, Ok, subst, unwrap_or, Option}
-use Rattle.std.proofs.Common.{Some, None, if◌then◌else◌, slice_get, refl, sym, ap, ◌∙◌, arith, FitsSigned, w32}
-use Rattle.std.proofs.lemmas.Int.{ints, SFits-int_wrap, int_wrap_fits}
-use Rattle.std.specs.List.{All}
+use Rattle.teco_command_outcomes.proofs.Prelude.{◌≡◌, ℕ, ◌<◌, ◌==◌, ℤ, pos, ◌+ℤ◌, List, [], ◌∷◌, length, Ok, subst}
+use Rattle.teco_command_outcomes.proofs.Prelude.{unwrap_or, Option, Some, None, if◌then◌else◌, slice_get, refl, sym, ap}
+use Rattle.teco_command_outcomes.proofs.Prelude.{◌∙◌, arith, FitsSigned, ints, All, REGISTERS, Kept, Term, Valuation}
+use Rattle.teco_command_outcomes.proofs.Prelude.{value, ◌>>=◌, needed_value, no_answer, with_answer, Element, storage}
+use Rattle.teco_command_outcomes.proofs.Prelude.{IsWhole, Single, Steps, Pointer, Size, Held, LineEnd, LineStart}
+use Rattle.teco_command_outcomes.proofs.Prelude.{LastLength, CodeHere, CodeBefore, Typed, Case, TakenForms, Outcomes}
+use Rattle.teco_command_outcomes.proofs.Prelude.{value_if, IsOne, Places, Point, IsTrueOf, single, number_of, length_of}
+use Rattle.teco_command_outcomes.proofs.Prelude.{IsAtLevel, IsCommanded, Leads, Performs, commanded, read_at, leads}
+use Rattle.teco_command_outcomes.proofs.Prelude.{answers, performed, by_row}
+use Rattle.std.proofs.Common.{w32}
+use Rattle.std.proofs.lemmas.Int.{SFits-int_wrap, int_wrap_fits}
 use Rattle.teco_base.specs.Arithmetic.{add, in_32_bits}
-use Rattle.teco_base.specs.declared.TheConstants.{REGISTERS}
-use Rattle.teco_model.specs.State.{Kept}
-use Rattle.teco_linear.specs.declared.term.Term.{Term}
-use Rattle.teco_linear.specs.Form.{Valuation, value}
 use Rattle.teco_linear.specs.Implied as linear
-use Rattle.teco_model.specs.Checked.{◌>>=◌}
-use Rattle.teco_model.specs.Effect.{needed_value, no_answer, with_answer}
-use Rattle.teco_model.specs.Element.{Element}
-use Rattle.teco_model.specs.Storage.{kept_with_number, number_in, storage}
+use Rattle.teco_model.specs.Storage.{kept_with_number, number_in}
 use Rattle.teco_model.specs.declared.kind.Storage.TheVariants.{SetNumber, Add}
-use Rattle.teco_model.specs.laws.Whole.{IsWhole}
-use Rattle.teco_rows.specs.declared.measure.Single.{Single}
-use Rattle.teco_rows.specs.declared.measure.Single.TheVariants.{Steps, Pointer, Size, Held, LineEnd, LineStart}
-use Rattle.teco_rows.specs.declared.measure.Single.TheVariants.{LastLength, CodeHere, CodeBefore, Typed}
-use Rattle.teco_rows.specs.declared.case.Case.{Case}
-use Rattle.teco_rows.specs.declared.commands.Taken.{Taken}
-use Rattle.teco_rows.specs.declared.outcomes.Outcomes.{Outcomes}
-use Rattle.teco_rows.specs.Cases.{value_if}
-use Rattle.teco_rows.specs.Foretold.{IsOne}
-use Rattle.teco_rows.specs.declared.row.Places.{Places}
 use Rattle.teco_command_outcomes.specs.declared.storages.TheConstants.{STORES, ADDS, ADDS_WRAPPED}
-use Rattle.teco_rows.specs.States.{Point, IsTrueOf, single, number_of, length_of}
-use Rattle.teco_rows.specs.Commands.{IsAtLevel, IsCommanded, Leads, Performs, commanded}
-use Rattle.teco_rows.proofs.Commanding.{read_at}
-use Rattle.teco_rows.proofs.Leading.{leads, answers, performed, by_row}
 use Rattle.teco_rows.proofs.Registering.{number_set, lengths_stay}
 
 module _ (s : Point) (here : Places) (given unknown : ℕ → ℤ) (x : ℤ) (whole : IsWhole s.kept)
@@ -92,7 +78,7 @@ module _ (s : Point) (here : Places) (given unknown : ℕ → ℤ) (x : ℤ) (wh
   })
 
 -- ---- what is performed
-pub sets_number : (case after : Case) (taken : Taken) (register : ℕ) (here : Places) (form : List Term)
+pub sets_number : (case after : Case) (taken : TakenForms) (register : ℕ) (here : Places) (form : List Term)
     (wanted : List (List Term)) (all : Outcomes) (e : Element) → here.register ≡ register → here.register < REGISTERS
     → taken.value ≡ Some form → IsCommanded case STORES (form ∷ []) here after → IsOne wanted after all
     → Performs (storage (SetNumber register) e) taken case all
@@ -110,7 +96,8 @@ abbrev pub IsAddend : Option (List Term) → List Term → Type 0
 IsAddend taken form =
     (n : ℕ) (v : Valuation) → value form n v ≡ unwrap_or (value_if taken n v) (pos 1)
 
-module _ (case after : Case) (taken : Taken) (register : ℕ) (here : Places) (wanted : List (List Term)) (all : Outcomes)
+module _ (case after : Case) (taken : TakenForms) (register : ℕ) (here : Places) (wanted : List (List Term))
+    (all : Outcomes)
     (e : Element) (at : here.register ≡ register) (in' : here.register < REGISTERS) (level : IsAtLevel here case)
     (one : IsOne wanted after all) where
   -- the sum that is stored

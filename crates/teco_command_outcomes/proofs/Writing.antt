@@ -1,63 +1,37 @@
 -- What is typed.
-use Rattle.std.proofs.Common.{◌≡◌, ℕ, zero, suc, ◌+◌, ◌<◌, ◌≤◌, ◌*◌, ◌^◌, ◌/◌, ◌%◌, ◌==◌, inl, inr, ℤ, pos, negsuc}
-use Rattle.std.proofs.Common.{◌≤ℤ◌, ◌-ℤ◌, ◌+ℤ◌, List, [], ◌∷◌, ◌++◌, length, Bool, true, false}
-use Rattle.std.proofs.Common.{Option, Some, None, is_none, Ok}
-use Rattle.std.proofs.Common.{if◌then◌else◌, slice_index_or, unwrap_or, FitsSigned, refl, sym, ap, subst, ◌∙◌, arith}
-use Rattle.std.proofs.Common.{length-append}
-use Rattle.std.proofs.Math.Nat.{min-eq_left, min-eq_right, max-eq_left, max-eq_right, div-eq_of_lt, div-lt_iff_lt-mul}
+use Rattle.teco_command_outcomes.proofs.Prelude.{◌≡◌, ℕ, zero, suc, ◌+◌, ◌<◌, ◌≤◌, ◌==◌, inl, inr, ℤ, pos, negsuc, ◌≤ℤ◌}
+use Rattle.teco_command_outcomes.proofs.Prelude.{◌-ℤ◌, ◌+ℤ◌, List, [], ◌∷◌, ◌++◌, length, Bool, true, false, Option}
+use Rattle.teco_command_outcomes.proofs.Prelude.{Some, None, Ok, if◌then◌else◌, slice_index_or, unwrap_or, FitsSigned}
+use Rattle.teco_command_outcomes.proofs.Prelude.{refl, sym, ap, subst, ◌∙◌, arith, length-append, min-eq_left}
+use Rattle.teco_command_outcomes.proofs.Prelude.{min-eq_right, max-eq_left, max-eq_right, ints, All, ok_or, max, min}
+use Rattle.teco_command_outcomes.proofs.Prelude.{byte_of, line_place, range, Term, Valuation, value, ◌>>=◌}
+use Rattle.teco_command_outcomes.proofs.Prelude.{needed_value, Element, characters_of, part_named, place_in}
+use Rattle.teco_command_outcomes.proofs.Prelude.{span_between, retrieval, storage, text_in, line_characters, typing}
+use Rattle.teco_command_outcomes.proofs.Prelude.{Get, IsWhole, Case, TakenForms, One, Single, Steps, Pointer, Size}
+use Rattle.teco_command_outcomes.proofs.Prelude.{Held, LineEnd, LineStart, LastLength, CodeHere, CodeBefore, Typed}
+use Rattle.teco_command_outcomes.proofs.Prelude.{Outcomes, Clause, Places, value_if, AreCommanded, IsCommanded, Leads}
+use Rattle.teco_command_outcomes.proofs.Prelude.{Performs, commanded, IsOne, Before, changed, Point, IsTrueOf, single}
+use Rattle.teco_command_outcomes.proofs.Prelude.{read_at, by_row, leads_singles, performed, above_or, line_begin}
+use Rattle.teco_command_outcomes.proofs.Prelude.{line_end, IsWay, by, Exactly, IsDone, IsPlace, Types, view_characters}
+use Rattle.std.proofs.Common.{◌*◌, ◌^◌, ◌/◌, ◌%◌}
+use Rattle.std.proofs.Common.{is_none}
+use Rattle.std.proofs.Math.Nat.{div-eq_of_lt, div-lt_iff_lt-mul}
 use Rattle.std.proofs.Math.Nat.{mul_comm, pow-succ', pow-zero}
 use Rattle.std.proofs.lemmas.Fmt.{length_signed_le}
-use Rattle.std.proofs.lemmas.Int.{ints}
 use Rattle.std.specs.Fmt.{digits, digits_onto, digit_glyph}
 use Rattle.std.specs.Int.{w32, cast_unsigned}
-use Rattle.std.specs.List.{All}
-use Rattle.std.specs.Option.{ok_or}
-use Rattle.std.specs.Prelude.{max, min}
-use Rattle.teco_base.specs.Arithmetic.{byte_of}
-use Rattle.teco_base.specs.Lines.{line_place}
-use Rattle.teco_base.specs.Text.{range}
 use Rattle.teco_base.specs.declared.code.Code.TheVariants as code
-use Rattle.teco_linear.specs.declared.term.Term.{Term}
-use Rattle.teco_linear.specs.Form.{Valuation, value}
 use Rattle.teco_linear.specs.Implied as linear
-use Rattle.teco_model.specs.Checked.{◌>>=◌}
-use Rattle.teco_model.specs.Effect.{needed_value}
-use Rattle.teco_model.specs.Element.{Element}
-use Rattle.teco_model.specs.Places.{characters_of, part_named, place_in, span_between}
-use Rattle.teco_model.specs.Storage.{retrieval, storage, text_in}
-use Rattle.teco_model.specs.Typing.{line_characters, line_end as end_text, number_text, typing, typing_of, view_typing}
+use Rattle.teco_model.specs.Typing.{line_end as end_text, number_text, typing_of, view_typing}
 use Rattle.teco_model.specs.declared.kind.Radix.{Radix}
 use Rattle.teco_model.specs.declared.kind.Radix.TheVariants.{Decimal, Octal, Hexadecimal}
-use Rattle.teco_model.specs.declared.kind.Storage.TheVariants.{Get}
 use Rattle.teco_model.specs.declared.kind.Typing.TheVariants.{Part, View, Message, Byte, Number}
-use Rattle.teco_model.specs.laws.Whole.{IsWhole}
-use Rattle.teco_rows.specs.declared.case.Case.{Case}
-use Rattle.teco_rows.specs.declared.commands.Taken.{Taken}
 use Rattle.teco_rows.specs.declared.commands.Way as command
-use Rattle.teco_rows.specs.declared.measure.Measure.TheVariants.{One}
-use Rattle.teco_rows.specs.declared.measure.Single.{Single}
-use Rattle.teco_rows.specs.declared.measure.Single.TheVariants.{Steps, Pointer, Size, Held, LineEnd, LineStart}
-use Rattle.teco_rows.specs.declared.measure.Single.TheVariants.{LastLength, CodeHere, CodeBefore, Typed}
-use Rattle.teco_rows.specs.declared.outcomes.Outcomes.{Outcomes}
-use Rattle.teco_rows.specs.declared.row.Clause.{Clause}
-use Rattle.teco_rows.specs.declared.row.Places.{Places}
-use Rattle.teco_rows.specs.Cases.{value_if}
-use Rattle.teco_rows.specs.Commands.{AreCommanded, IsCommanded, Leads, Performs, commanded}
-use Rattle.teco_rows.specs.Foretold.{IsOne}
-use Rattle.teco_rows.specs.Rows.{Before, changed}
-use Rattle.teco_rows.specs.States.{Point, IsTrueOf, single}
-use Rattle.teco_rows.proofs.Commanding.{read_at}
-use Rattle.teco_rows.proofs.Leading.{by_row, leads_singles, performed}
-use Rattle.teco_rows.proofs.Lines.{above_or, line_begin, line_end}
-use Rattle.teco_rows.proofs.Ways.{IsWay, by}
-use Rattle.teco_command_outcomes.specs.declared.typings.Count.{Count}
-use Rattle.teco_command_outcomes.specs.declared.typings.Count.TheVariants.{Exactly, AtMost}
+use Rattle.teco_command_outcomes.specs.declared.typings.TypedCount.{TypedCount}
+use Rattle.teco_command_outcomes.specs.declared.typings.TypedCount.TheVariants.{AtMost}
 use Rattle.teco_command_outcomes.specs.declared.typings.TheConstants.{TYPES, TYPES_BACK, TYPES_PART, TYPES_SOME}
-use Rattle.teco_command_outcomes.specs.Deletions.{IsDone}
-use Rattle.teco_command_outcomes.specs.Motions.{IsPlace}
-use Rattle.teco_command_outcomes.specs.Typings.{AreAsMany, CountsLines, CountsView, IsLong, Types, TypesByte}
+use Rattle.teco_command_outcomes.specs.Typings.{AreAsMany, CountsLines, CountsView, IsLong, TypesByte}
 use Rattle.teco_command_outcomes.specs.Typings.{TypesBytes, TypesLines, TypesNumber, TypesPart, TypesText, TypesView}
-use Rattle.teco_command_outcomes.specs.Typings.{view_characters}
 use Rattle.teco_command_outcomes.proofs.Copying.{part_long}
 use Rattle.teco_command_outcomes.proofs.Lining.{ahead_within, back_within}
 use Rattle.teco_command_outcomes.proofs.Moving.{place_there}
@@ -296,7 +270,7 @@ counts_view case by size size_is n v s true_of whole =
     )
 
 -- ---- what is typed
-pub types_bytes : (case : Case) (count : Count) (bytes : ℕ → Valuation → Point → List ℕ) (all : Outcomes)
+pub types_bytes : (case : Case) (count : TypedCount) (bytes : ℕ → Valuation → Point → List ℕ) (all : Outcomes)
     → ((n : ℕ) (v : Valuation) (s : Point) → IsTrueOf n v case s → IsWhole s.kept → AreAsMany count n v (bytes n v s))
     → Types count case all → TypesBytes bytes case all
 types_bytes case count bytes all many told n v s begins =
@@ -334,7 +308,7 @@ types_part case ways first second here all are w0 w1 placed n v s begins =
           (omega (arith, ints, k.0.1, k.1.1, h)))
     ])
 
-pub part_typed : (case : Case) (taken : Taken) (first second : List Term) (all : Outcomes) (e : Element)
+pub part_typed : (case : Case) (taken : TakenForms) (first second : List Term) (all : Outcomes) (e : Element)
     → taken.first ≡ Some first → taken.value ≡ Some second → TypesPart first second case all
     → Performs (typing Part e) taken case all
 part_typed case taken first second all e f g told n v s begins =
@@ -343,7 +317,8 @@ part_typed case taken first second all e f g told n v s begins =
     (subst (λ o. IsDone n all s (part_named (Some (value first n v)) (value_if o n v) s.kept
     >>= (λ part. Ok (typing_of (characters_of part s.kept) s.kept)))) (sym g) (told n v s begins))
 
-pub lines_typed : (case : Case) (taken : Taken) (by : List Term) (all : Outcomes) (e : Element) → taken.first ≡ None
+pub lines_typed : (case : Case) (taken : TakenForms) (by : List Term) (all : Outcomes) (e : Element)
+    → taken.first ≡ None
     → ((n : ℕ) (v : Valuation) → value by n v ≡ unwrap_or (value_if taken.value n v) (pos 1)) → TypesLines by case all
     → Performs (typing Part e) taken case all
 lines_typed case taken by all e f count told n v s begins =
@@ -351,21 +326,21 @@ lines_typed case taken by all e f count told n v s begins =
     >>= (λ part. Ok (typing_of (characters_of part s.kept) s.kept)))) (sym f)
     (subst (λ x. IsDone n all s (Ok (typing_of (line_characters x s.kept) s.kept))) (count n v) (told n v s begins))
 
-pub view_typed : (case : Case) (taken : Taken) (by : List Term) (all : Outcomes) (e : Element)
+pub view_typed : (case : Case) (taken : TakenForms) (by : List Term) (all : Outcomes) (e : Element)
     → ((n : ℕ) (v : Valuation) → value by n v ≡ unwrap_or (value_if taken.value n v) (pos 1)) → TypesView by case all
     → Performs (typing View e) taken case all
 view_typed case taken by all e count told n v s begins =
     subst (λ x. IsDone n all s (Ok (view_typing x s.kept))) (count n v) (told n v s begins)
 
-pub text_typed : (case : Case) (taken : Taken) (all : Outcomes) (e : Element) → TypesText e.text case all
+pub text_typed : (case : Case) (taken : TakenForms) (all : Outcomes) (e : Element) → TypesText e.text case all
     → Performs (typing Message e) taken case all
 text_typed case taken all e told n v s begins = told n v s begins
 
-pub byte_typed : (case : Case) (taken : Taken) (all : Outcomes) (e : Element) → TypesByte taken.value case all
+pub byte_typed : (case : Case) (taken : TakenForms) (all : Outcomes) (e : Element) → TypesByte taken.value case all
     → Performs (typing Byte e) taken case all
 byte_typed case taken all e told n v s begins = told n v s begins
 
-pub number_typed : (case : Case) (taken : Taken) (all : Outcomes) (radix : Radix) (e : Element)
+pub number_typed : (case : Case) (taken : TakenForms) (all : Outcomes) (radix : Radix) (e : Element)
     → TypesNumber taken.value radix e.colons case all → Performs (typing (Number radix) e) taken case all
 number_typed case taken all radix e told n v s begins = told n v s begins
 
@@ -476,7 +451,7 @@ number_long radix colons end most at_end is x fits =
     )
 
 -- ---- :G
-pub register_typed : (case : Case) (taken : Taken) (register colons : ℕ) (form : List Term) (all : Outcomes)
+pub register_typed : (case : Case) (taken : TakenForms) (register colons : ℕ) (form : List Term) (all : Outcomes)
     → 1 ≤ colons
     → ((n : ℕ) (v : Valuation) (s : Point) → IsTrueOf n v case s → IsWhole s.kept
     → value form n v ≡ pos (length (text_in register s.kept)))

@@ -18,16 +18,16 @@ use Rattle.teco_rows.specs.Commands.{commanded}
 use Rattle.teco_rows.specs.Foretold.{Begins, Describe}
 use Rattle.teco_rows.specs.States.{Point, IsTrueOf}
 use Rattle.teco_command_outcomes.specs.Deletions.{IsDone}
-use Rattle.teco_command_outcomes.specs.declared.typings.Count.{Count}
-use Rattle.teco_command_outcomes.specs.declared.typings.Count.TheVariants.{Exactly, AtMost}
+use Rattle.teco_command_outcomes.specs.declared.typings.TypedCount.{TypedCount}
+use Rattle.teco_command_outcomes.specs.declared.typings.TypedCount.TheVariants.{Exactly, AtMost}
 
 -- there are as many bytes as a count says
-abbrev pub AreAsMany : Count → ℕ → Valuation → List ℕ → Type 0
+abbrev pub AreAsMany : TypedCount → ℕ → Valuation → List ℕ → Type 0
 AreAsMany (Exactly form) n v bytes = pos (length bytes) ≡ value form n v
 AreAsMany (AtMost form) n v bytes = pos (length bytes) ≤ℤ value form n v
 
 -- one of the cases describes the state behind the typing of as many bytes
-abbrev pub Types : Count → Case → Outcomes → Type 0
+abbrev pub Types : TypedCount → Case → Outcomes → Type 0
 Types count case all =
     (n : ℕ) (v : Valuation) (s : Point) (bytes : List ℕ)
     → IsTrueOf n v case s → AreAsMany count n v bytes
@@ -78,13 +78,13 @@ TypesNumber number radix colons case all =
     >>= (λ x. Ok (typing_of (number_text radix x ++ line_end colons) s.kept)))
 
 -- so many lines have as many characters as a count says,
-abbrev pub CountsLines : List Term → Case → Count → Type 0
+abbrev pub CountsLines : List Term → Case → TypedCount → Type 0
 CountsLines by case count =
     (n : ℕ) (v : Valuation) (s : Point)
     → IsTrueOf n v case s → IsWhole s.kept → AreAsMany count n v (line_characters (value by n v) s.kept)
 
 -- and so have those in view
-abbrev pub CountsView : List Term → Case → Count → Type 0
+abbrev pub CountsView : List Term → Case → TypedCount → Type 0
 CountsView by case count =
     (n : ℕ) (v : Valuation) (s : Point)
     → IsTrueOf n v case s → IsWhole s.kept → AreAsMany count n v (view_characters (value by n v) s)

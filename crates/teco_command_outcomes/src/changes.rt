@@ -6,15 +6,15 @@ use std::alloc::Global;
 use teco_linear::Form;
 use teco_rows::case::Case;
 use teco_rows::commands::{Way, command};
-use teco_rows::fault::Fault;
+use teco_rows::fault::RowFault;
 use teco_rows::levels::{at_level, led, waiting};
-use teco_rows::row::{Clause, Step};
+use teco_rows::row::{Clause, RowStep};
 
 /// The case where a row changes what is kept and what is unread, and no step is done.
-pub fn changed(case: &Case, row: &[Clause], given: &[Form], alloc: Global) -> Result<Case, Fault>
+pub fn changed(case: &Case, row: &[Clause], given: &[Form], alloc: Global) -> Result<Case, RowFault>
     ensures { IfOk result (λ made. IsChangedFrom case.now row.now given.now made) }
 {
-    let step = Step {
+    let step = RowStep {
         clauses: row,
         here: at_level(case)?,
         given,
@@ -24,7 +24,7 @@ pub fn changed(case: &Case, row: &[Clause], given: &[Form], alloc: Global) -> Re
 }
 
 /// The case a step later, where the arguments are taken and this is answered.
-pub fn told(case: &Case, answer: &[Clause], alloc: Global) -> Result<Case, Fault>
+pub fn told(case: &Case, answer: &[Clause], alloc: Global) -> Result<Case, RowFault>
     ensures { IfOk result (λ made. (x : Option ℤ) → answer.now ≡ answer_row x → IsTold case.now x made) }
 {
     let here = at_level(case)?;

@@ -20,8 +20,8 @@ use teco_linear::Form;
 use teco_model::kind::Unit;
 use teco_rows::applied::copied;
 use teco_rows::case::Case;
-use teco_rows::commands::{Taken, Way, argument, commands};
-use teco_rows::fault::Fault;
+use teco_rows::commands::{TakenForms, Way, argument, commands};
+use teco_rows::fault::RowFault;
 use teco_rows::forms::{is_number, single};
 use teco_rows::levels::{NO, at_level};
 use teco_rows::measure::Single;
@@ -345,7 +345,7 @@ fn cut_next(
     place: Form,
     conditions: Vec<Form>,
     alloc: Global,
-) -> Result<Outcomes, Fault>
+) -> Result<Outcomes, RowFault>
     ensures conditions { IfOk result (λ all. all.conditions.items ≡ conditions.items) }
     ensures cuts { IfOk result (λ all. CutsNext place case.now all) }
 {
@@ -375,7 +375,12 @@ fn cut_next(
 }
 
 // The ways of a part that begins or ends at the pointer, and the cases behind them.
-fn cut_to(case: &Case, place: Form, conditions: Vec<Form>, alloc: Global) -> Result<Outcomes, Fault>
+fn cut_to(
+    case: &Case,
+    place: Form,
+    conditions: Vec<Form>,
+    alloc: Global,
+) -> Result<Outcomes, RowFault>
     ensures conditions { IfOk result (λ all. all.conditions.items ≡ conditions.items) }
     ensures cuts { IfOk result (λ all. CutsTo place case.now all) }
 {
@@ -409,7 +414,7 @@ fn cut_to(case: &Case, place: Form, conditions: Vec<Form>, alloc: Global) -> Res
 }
 
 // `D` deletes characters; too many are a code.
-fn delete_characters(case: &Case, value: Option<Form>, alloc: Global) -> Result<Outcomes, Fault>
+fn delete_characters(case: &Case, value: Option<Form>, alloc: Global) -> Result<Outcomes, RowFault>
     ensures { IfOk result (λ all. DeletesCharacters value case.now all) }
 {
     let by = argument(value, 1, alloc)?;
@@ -425,7 +430,7 @@ fn delete_characters(case: &Case, value: Option<Form>, alloc: Global) -> Result<
 }
 
 // As many lines as a form says.
-fn cut_lines(case: &Case, by: Form, alloc: Global) -> Result<Outcomes, Fault>
+fn cut_lines(case: &Case, by: Form, alloc: Global) -> Result<Outcomes, RowFault>
     ensures { IfOk result (λ all. CutsLines by case.now all) }
 {
     let here = at_level(case)?;
@@ -449,7 +454,7 @@ fn cut_lines(case: &Case, by: Form, alloc: Global) -> Result<Outcomes, Fault>
 }
 
 // Up to the end of the line.
-fn cut_line(case: &Case, alloc: Global) -> Result<Outcomes, Fault>
+fn cut_line(case: &Case, alloc: Global) -> Result<Outcomes, RowFault>
     ensures { IfOk result (λ all. CutsBy (pos 1) case.now all) }
 {
     let here = at_level(case)?;
@@ -473,7 +478,7 @@ fn cut_line(case: &Case, alloc: Global) -> Result<Outcomes, Fault>
 }
 
 // Any number of lines back.
-fn cut_back(case: &Case, alloc: Global) -> Result<Outcomes, Fault>
+fn cut_back(case: &Case, alloc: Global) -> Result<Outcomes, RowFault>
     ensures { IfOk result (λ all. (m : ℕ) → CutsBy (negsuc m) case.now all) }
 {
     let here = at_level(case)?;
@@ -497,7 +502,7 @@ fn cut_back(case: &Case, alloc: Global) -> Result<Outcomes, Fault>
 }
 
 // `K` deletes up to the end of the line, `0K` back to its start, and `-K` lines before.
-fn delete_lines(case: &Case, value: Option<Form>, alloc: Global) -> Result<Outcomes, Fault>
+fn delete_lines(case: &Case, value: Option<Form>, alloc: Global) -> Result<Outcomes, RowFault>
     ensures { IfOk result (λ all. DeletesLines value case.now all) }
 {
     let by = argument(value, 1, alloc)?;
@@ -524,7 +529,7 @@ pub fn both_in_buffer(
     first: &Form,
     second: &Form,
     alloc: Global,
-) -> Result<Vec<Form>, Fault>
+) -> Result<Vec<Form>, RowFault>
     ensures { IfOk result (λ conditions. (n : ℕ) (v : Valuation) (s : Point) → IsTrueOf n v case.now s
         → All (Holds n v) conditions.items
         → IsPlace s.kept.text (value first.now n v) × IsPlace s.kept.text (value second.now n v)) }
@@ -543,7 +548,7 @@ pub fn both_in_buffer(
 }
 
 // A part between any two places.
-fn cut_between(case: &Case, first: Form, second: Form, alloc: Global) -> Result<Outcomes, Fault>
+fn cut_between(case: &Case, first: Form, second: Form, alloc: Global) -> Result<Outcomes, RowFault>
     ensures { IfOk result (λ all. DeletesPart first second case.now all) }
 {
     let here = at_level(case)?;
@@ -568,7 +573,7 @@ fn cut_between(case: &Case, first: Form, second: Form, alloc: Global) -> Result<
 }
 
 // Whether a form is that of the pointer.
-fn is_pointer(case: &Case, form: &Form, alloc: Global) -> Result<bool, Fault>
+fn is_pointer(case: &Case, form: &Form, alloc: Global) -> Result<bool, RowFault>
     ensures { IfOk result (λ answer. answer ≡ true → (n : ℕ) (v : Valuation) (s : Point) → IsTrueOf n v case.now s
         → value form.now n v ≡ pos s.kept.pointer) }
 {
@@ -578,7 +583,7 @@ fn is_pointer(case: &Case, form: &Form, alloc: Global) -> Result<bool, Fault>
 }
 
 // `m,nK` deletes a part; one end of it is mostly the pointer.
-fn delete_part(case: &Case, first: Form, second: Form, alloc: Global) -> Result<Outcomes, Fault>
+fn delete_part(case: &Case, first: Form, second: Form, alloc: Global) -> Result<Outcomes, RowFault>
     ensures { IfOk result (λ all. DeletesPart first second case.now all) }
 {
     if is_pointer(case, &second, alloc)? {
@@ -595,14 +600,19 @@ fn delete_part(case: &Case, first: Form, second: Form, alloc: Global) -> Result<
 }
 
 /// `D` deletes characters, and `K` lines; with two values either deletes the part between them.
-pub fn delete(case: &Case, unit: Unit, taken: Taken, alloc: Global) -> Result<Outcomes, Fault>
+pub fn delete(
+    case: &Case,
+    unit: Unit,
+    taken: TakenForms,
+    alloc: Global,
+) -> Result<Outcomes, RowFault>
     ensures { IfOk result (λ all. Performs (deletion unit) taken case.now all) }
 {
-    let Taken { first, value } = taken;
+    let TakenForms { first, value } = taken;
     match first {
         Some(first) => match value {
             Some(second) => delete_part(case, first, second, alloc),
-            None => Err(Fault::Argument),
+            None => Err(RowFault::Argument),
         },
         None => match unit {
             Unit::Characters => delete_characters(case, value, alloc),

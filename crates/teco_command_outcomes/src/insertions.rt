@@ -20,8 +20,8 @@ use teco_base::{LIMIT, Reg};
 use teco_linear::Form;
 use teco_model::kind::Insertion;
 use teco_rows::case::Case;
-use teco_rows::commands::{Taken, Way, commands};
-use teco_rows::fault::Fault;
+use teco_rows::commands::{TakenForms, Way, commands};
+use teco_rows::fault::RowFault;
 use teco_rows::forms::{known, length, single};
 use teco_rows::levels::{NO, at_level};
 use teco_rows::measure::Single;
@@ -112,7 +112,7 @@ fn start_behind(text: &[u8], place: usize, start: usize) -> usize
 }
 
 /// The form of a number.
-pub fn counted(number: usize, alloc: Global) -> Result<Form, Fault>
+pub fn counted(number: usize, alloc: Global) -> Result<Form, RowFault>
     ensures { IfOk result (λ form. (n : ℕ) (v : Valuation) → value form n v ≡ pos number) }
 {
     match u32::try_from(number) {
@@ -120,12 +120,12 @@ pub fn counted(number: usize, alloc: Global) -> Result<Form, Fault>
             let form = Form::constant(i128::from(number), alloc)?;
             Ok(form)
         }
-        Err(_) => Err(Fault::TooMany),
+        Err(_) => Err(RowFault::TooMany),
     }
 }
 
 // The condition that the buffer has room for so much.
-fn room(case: &Case, long: &Form, alloc: Global) -> Result<Vec<Form>, Fault>
+fn room(case: &Case, long: &Form, alloc: Global) -> Result<Vec<Form>, RowFault>
     ensures { IfOk result (λ conditions. HasRoom long.now case.now conditions.items) }
 {
     let size = single(case, Single::Size, alloc)?;
@@ -138,7 +138,7 @@ fn room(case: &Case, long: &Form, alloc: Global) -> Result<Vec<Form>, Fault>
 }
 
 // One more than the code of the character before the pointer behind a text.
-fn end_code(case: &Case, text: &[u8], alloc: Global) -> Result<Form, Fault>
+fn end_code(case: &Case, text: &[u8], alloc: Global) -> Result<Form, RowFault>
     ensures { IfOk result (λ form. IsEndCode text.now case.now form) }
 {
     match text.last() {
@@ -148,7 +148,7 @@ fn end_code(case: &Case, text: &[u8], alloc: Global) -> Result<Form, Fault>
 }
 
 // A text is inserted.
-fn insert_text(case: &Case, text: &[u8], alloc: Global) -> Result<Outcomes, Fault>
+fn insert_text(case: &Case, text: &[u8], alloc: Global) -> Result<Outcomes, RowFault>
     ensures { IfOk result (λ all. Inserts text.now case.now all) }
 {
     let here = at_level(case)?;
@@ -176,7 +176,7 @@ fn insert_text(case: &Case, text: &[u8], alloc: Global) -> Result<Outcomes, Faul
 }
 
 // TAB is inserted, and a text.
-fn insert_tab(case: &Case, text: &[u8], alloc: Global) -> Result<Outcomes, Fault>
+fn insert_tab(case: &Case, text: &[u8], alloc: Global) -> Result<Outcomes, RowFault>
     ensures { IfOk result (λ all. Inserts (TAB ∷ text.now) case.now all) }
 {
     let mut new = Vec::new(alloc);
@@ -196,7 +196,7 @@ fn known_byte(number: &Form) -> Option<u8>
 }
 
 // Some character is inserted.
-fn insert_any(case: &Case, alloc: Global) -> Result<Outcomes, Fault>
+fn insert_any(case: &Case, alloc: Global) -> Result<Outcomes, RowFault>
     ensures { IfOk result (λ all. InsertsAny case.now all) }
 {
     let here = at_level(case)?;
@@ -216,7 +216,7 @@ fn insert_any(case: &Case, alloc: Global) -> Result<Outcomes, Fault>
 }
 
 // The byte of a number is inserted.
-fn insert_byte(case: &Case, number: &Form, alloc: Global) -> Result<Outcomes, Fault>
+fn insert_byte(case: &Case, number: &Form, alloc: Global) -> Result<Outcomes, RowFault>
     ensures { IfOk result (λ all. InsertsByte number.now case.now all) }
 {
     match known_byte(number) {
@@ -230,13 +230,13 @@ pub fn insert(
     case: &Case,
     kind: Insertion,
     text: &[u8],
-    taken: Taken,
+    taken: TakenForms,
     alloc: Global,
-) -> Result<Outcomes, Fault>
+) -> Result<Outcomes, RowFault>
     ensures { IfOk result (λ all. (e : model.Element) → e.text ≡ text.now
         → Performs (insertion kind e) taken case.now all) }
 {
-    let Taken {
+    let TakenForms {
         first: _first,
         value,
     } = taken;
@@ -244,11 +244,11 @@ pub fn insert(
         Some(number) => match kind {
             Insertion::Text => {
                 if !text.is_empty() {
-                    return Err(Fault::Argument);
+                    return Err(RowFault::Argument);
                 }
                 insert_byte(case, &number, alloc)
             }
-            Insertion::Tab => Err(Fault::Argument),
+            Insertion::Tab => Err(RowFault::Argument),
         },
         None => match kind {
             Insertion::Text => insert_text(case, text, alloc),
@@ -262,15 +262,15 @@ pub fn get(
     case: &Case,
     register: Reg,
     colons: u8,
-    taken: Taken,
+    taken: TakenForms,
     alloc: Global,
-) -> Result<Outcomes, Fault>
+) -> Result<Outcomes, RowFault>
     ensures { IfOk result (λ all. (e : model.Element) → e.colons ≡ colons
         → Performs (storage (Get register) e) taken case.now all) }
 {
     let _taken = taken;
     if colons != 0 {
-        return Err(Fault::NotTold);
+        return Err(RowFault::NotTold);
     }
     let here = at_level(case)?;
     let long = length(case, register, alloc)?;

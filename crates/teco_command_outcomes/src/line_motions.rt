@@ -11,8 +11,8 @@ use crate::motions::{ANY_BEFORE, ANY_HERE, LINE_END, LINE_START, POINTER, SIZE};
 use std::alloc::Global;
 use teco_linear::Form;
 use teco_rows::case::Case;
-use teco_rows::commands::{Taken, Way, argument, commands};
-use teco_rows::fault::Fault;
+use teco_rows::commands::{TakenForms, Way, argument, commands};
+use teco_rows::fault::RowFault;
 use teco_rows::forms::{is_number, known};
 use teco_rows::levels::{NO, at_level};
 use teco_rows::outcomes::Outcomes;
@@ -122,7 +122,7 @@ const UP: [Clause; 9] = [
 ];
 
 // To the next line.
-fn next_line(case: &Case, alloc: Global) -> Result<Outcomes, Fault>
+fn next_line(case: &Case, alloc: Global) -> Result<Outcomes, RowFault>
     ensures { IfOk result (λ all. GoesBy (pos 1) case.now all) }
 {
     let here = at_level(case)?;
@@ -150,7 +150,7 @@ fn next_line(case: &Case, alloc: Global) -> Result<Outcomes, Fault>
 }
 
 // To the start of the line.
-fn line_start(case: &Case, alloc: Global) -> Result<Outcomes, Fault>
+fn line_start(case: &Case, alloc: Global) -> Result<Outcomes, RowFault>
     ensures { IfOk result (λ all. GoesBy (pos 0) case.now all) }
 {
     let here = at_level(case)?;
@@ -168,7 +168,7 @@ fn line_start(case: &Case, alloc: Global) -> Result<Outcomes, Fault>
 }
 
 // To the line before.
-fn line_before(case: &Case, alloc: Global) -> Result<Outcomes, Fault>
+fn line_before(case: &Case, alloc: Global) -> Result<Outcomes, RowFault>
     ensures { IfOk result (λ all. GoesBy (negsuc 0) case.now all) }
 {
     let here = at_level(case)?;
@@ -192,7 +192,7 @@ fn line_before(case: &Case, alloc: Global) -> Result<Outcomes, Fault>
 }
 
 // By any number of lines back.
-fn lines_before(case: &Case, alloc: Global) -> Result<Outcomes, Fault>
+fn lines_before(case: &Case, alloc: Global) -> Result<Outcomes, RowFault>
     ensures { IfOk result (λ all. (m : ℕ) → GoesBy (negsuc m) case.now all) }
 {
     let here = at_level(case)?;
@@ -216,7 +216,7 @@ fn lines_before(case: &Case, alloc: Global) -> Result<Outcomes, Fault>
 }
 
 // By as many lines as a form says.
-fn by_lines(case: &Case, by: Form, alloc: Global) -> Result<Outcomes, Fault>
+fn by_lines(case: &Case, by: Form, alloc: Global) -> Result<Outcomes, RowFault>
     ensures { IfOk result (λ all. GoesLines by case.now all) }
 {
     let here = at_level(case)?;
@@ -250,10 +250,10 @@ pub fn is_negative(form: &Form) -> bool
 }
 
 /// `L` goes by lines.
-pub fn move_lines(case: &Case, taken: Taken, alloc: Global) -> Result<Outcomes, Fault>
+pub fn move_lines(case: &Case, taken: TakenForms, alloc: Global) -> Result<Outcomes, RowFault>
     ensures { IfOk result (λ all. (e : Element) → Performs (motion Lines e) taken case.now all) }
 {
-    let Taken {
+    let TakenForms {
         first: _first,
         value,
     } = taken;

@@ -14,8 +14,8 @@ use std::alloc::Global;
 use teco_linear::{Form, Term};
 use teco_model::kind::Motion;
 use teco_rows::case::Case;
-use teco_rows::commands::{Taken, Way, argument, commands};
-use teco_rows::fault::Fault;
+use teco_rows::commands::{TakenForms, Way, argument, commands};
+use teco_rows::fault::RowFault;
 use teco_rows::forms::{is_number, single};
 use teco_rows::levels::{NO, VALUE, at_level};
 use teco_rows::measure::{Measure, Single};
@@ -183,12 +183,12 @@ const BEHIND: [Clause; 2] = [
 ];
 
 // The place that an argument names.
-fn place(case: &Case, kind: Motion, taken: Taken, alloc: Global) -> Result<Form, Fault>
+fn place(case: &Case, kind: Motion, taken: TakenForms, alloc: Global) -> Result<Form, RowFault>
     requires { IsToPlace kind }
     ensures { IfOk result (λ form. (n : ℕ) (v : Valuation) (s : Point) → IsTrueOf n v case.now s
         → value form n v ≡ target kind s.kept.pointer (value_if taken.value n v)) }
 {
-    let Taken {
+    let TakenForms {
         first: _first,
         value,
     } = taken;
@@ -205,7 +205,7 @@ fn place(case: &Case, kind: Motion, taken: Taken, alloc: Global) -> Result<Form,
 }
 
 /// The conditions that a place is in the buffer.
-pub fn in_buffer(case: &Case, place: &Form, alloc: Global) -> Result<Vec<Form>, Fault>
+pub fn in_buffer(case: &Case, place: &Form, alloc: Global) -> Result<Vec<Form>, RowFault>
     ensures { IfOk result (λ conditions. (n : ℕ) (v : Valuation) (s : Point) → IsTrueOf n v case.now s
         → All (Holds n v) conditions.items → IsPlace s.kept.text (value place.now n v)) }
 {
@@ -242,7 +242,7 @@ pub fn is_by(
     by: i128,
     which: Single,
     alloc: Global,
-) -> Result<bool, Fault>
+) -> Result<bool, RowFault>
     ensures { IfOk result (λ is_so. is_so ≡ true → (n : ℕ) (v : Valuation) (s : Point) → IsTrueOf n v case.now s
         → value place.now n v ≡ pos s.kept.pointer +ℤ by) }
 {
@@ -252,7 +252,12 @@ pub fn is_by(
 }
 
 // To the next character.
-fn pass(case: &Case, place: Form, conditions: Vec<Form>, alloc: Global) -> Result<Outcomes, Fault>
+fn pass(
+    case: &Case,
+    place: Form,
+    conditions: Vec<Form>,
+    alloc: Global,
+) -> Result<Outcomes, RowFault>
     ensures conditions { IfOk result (λ all. all.conditions.items ≡ conditions.items) }
     ensures passes { IfOk result (λ all. Passes place case.now all) }
 {
@@ -286,7 +291,7 @@ fn return_by_one(
     place: Form,
     conditions: Vec<Form>,
     alloc: Global,
-) -> Result<Outcomes, Fault>
+) -> Result<Outcomes, RowFault>
     ensures conditions { IfOk result (λ all. all.conditions.items ≡ conditions.items) }
     ensures returns { IfOk result (λ all. Returns place case.now all) }
 {
@@ -315,7 +320,12 @@ fn return_by_one(
 }
 
 // Without a colon the place must be in the buffer.
-fn go_far(case: &Case, place: Form, conditions: Vec<Form>, alloc: Global) -> Result<Outcomes, Fault>
+fn go_far(
+    case: &Case,
+    place: Form,
+    conditions: Vec<Form>,
+    alloc: Global,
+) -> Result<Outcomes, RowFault>
     ensures conditions { IfOk result (λ all. all.conditions.items ≡ conditions.items) }
     ensures goes { IfOk result (λ all. GoesFar place case.now all) }
 {
@@ -344,7 +354,7 @@ fn go_far(case: &Case, place: Form, conditions: Vec<Form>, alloc: Global) -> Res
 }
 
 // By one character more is known, where something is known of it.
-fn go(case: &Case, place: Form, alloc: Global) -> Result<Outcomes, Fault>
+fn go(case: &Case, place: Form, alloc: Global) -> Result<Outcomes, RowFault>
     ensures { IfOk result (λ all. GoesTo 0 place case.now all) }
 {
     let conditions = in_buffer(case, &place, alloc)?;
@@ -361,7 +371,7 @@ fn go(case: &Case, place: Form, alloc: Global) -> Result<Outcomes, Fault>
 }
 
 // With a colon it answers whether the place is in the buffer.
-fn try_to_go(case: &Case, place: Form, alloc: Global) -> Result<Outcomes, Fault>
+fn try_to_go(case: &Case, place: Form, alloc: Global) -> Result<Outcomes, RowFault>
     ensures { IfOk result (λ all. GoesTo 1 place case.now all) }
 {
     let here = at_level(case)?;
@@ -402,9 +412,9 @@ pub fn move_to(
     case: &Case,
     kind: Motion,
     has_colon: bool,
-    taken: Taken,
+    taken: TakenForms,
     alloc: Global,
-) -> Result<Outcomes, Fault>
+) -> Result<Outcomes, RowFault>
     requires { IsToPlace kind }
     ensures { IfOk result (λ all. (e : Element) → e.colons ≡ (if has_colon then 1 else 0)
         → Performs (motion kind e) taken case.now all) }

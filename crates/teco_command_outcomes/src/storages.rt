@@ -9,8 +9,8 @@ ghost use Rattle.teco_rows.specs.Commands.{IsAtLevel, Performs};
 use std::alloc::Global;
 use teco_base::Reg;
 use teco_rows::case::Case;
-use teco_rows::commands::{Taken, Way, argument, command};
-use teco_rows::fault::Fault;
+use teco_rows::commands::{TakenForms, Way, argument, command};
+use teco_rows::fault::RowFault;
 use teco_rows::forms::{number, within_32_bits};
 use teco_rows::levels::{NO, VALUE, at_level, one};
 use teco_rows::measure::Family;
@@ -37,7 +37,7 @@ const ADDS_WRAPPED: [Clause; 4] = [
 ];
 
 /// The places at hand where an element names a register.
-pub fn at_register(case: &Case, register: Reg) -> Result<Places, Fault>
+pub fn at_register(case: &Case, register: Reg) -> Result<Places, RowFault>
     ensures level { IfOk result (λ here. IsAtLevel here case.now) }
     ensures register { IfOk result (λ here. here.register ≡ register) }
     ensures within { IfOk result (λ here. here.register < REGISTERS) }
@@ -55,13 +55,13 @@ pub fn at_register(case: &Case, register: Reg) -> Result<Places, Fault>
 pub fn set_number(
     case: &Case,
     register: Reg,
-    taken: Taken,
+    taken: TakenForms,
     alloc: Global,
-) -> Result<Outcomes, Fault>
+) -> Result<Outcomes, RowFault>
     ensures { IfOk result (λ all. (e : Element) → Performs (storage (SetNumber register) e) taken case.now all) }
 {
     let here = at_register(case, register)?;
-    let Taken {
+    let TakenForms {
         first: _first,
         value,
     } = taken;
@@ -79,7 +79,7 @@ pub fn set_number(
             )?;
             one(after, Vec::new(alloc), alloc)
         }
-        None => Err(Fault::Argument),
+        None => Err(RowFault::Argument),
     }
 }
 
@@ -87,10 +87,10 @@ pub fn set_number(
 pub fn add_number(
     case: &Case,
     register: Reg,
-    taken: Taken,
+    taken: TakenForms,
     may_wrap: bool,
     alloc: Global,
-) -> Result<Outcomes, Fault>
+) -> Result<Outcomes, RowFault>
     ensures { IfOk result (λ all. (e : Element) → Performs (storage (Add register) e) taken case.now all) }
 {
     let here = at_register(case, register)?;
@@ -107,7 +107,7 @@ pub fn add_number(
         )?;
         return one(after, Vec::new(alloc), alloc);
     }
-    let Taken {
+    let TakenForms {
         first: _first,
         value,
     } = taken;

@@ -19,8 +19,8 @@ use teco_base::{LIMIT, Reg};
 use teco_linear::Form;
 use teco_model::Element;
 use teco_rows::case::Case;
-use teco_rows::commands::{Taken, Way, argument, command, commands};
-use teco_rows::fault::Fault;
+use teco_rows::commands::{TakenForms, Way, argument, command, commands};
+use teco_rows::fault::RowFault;
 use teco_rows::forms::{is_number, length, single};
 use teco_rows::levels::{NO, one};
 use teco_rows::measure::{Family, Single};
@@ -43,7 +43,7 @@ const OTHER: Of = Of::Unknown(0);
 
 // Two places.
 #[derive(Drop)]
-struct Range {
+struct PlaceRange {
     first: Form,
     second: Form,
 }
@@ -86,7 +86,7 @@ const LINES_BACK: [Clause; 4] = [
 ];
 
 // How much of the text stays: all where the new text is appended, as with a colon, and else nothing.
-fn rest(case: &Case, register: Reg, colons: u8, alloc: Global) -> Result<Form, Fault>
+fn rest(case: &Case, register: Reg, colons: u8, alloc: Global) -> Result<Form, RowFault>
     ensures { IfOk result (λ form. IsRest register colons case.now form) }
 {
     if colons == 0 {
@@ -96,7 +96,7 @@ fn rest(case: &Case, register: Reg, colons: u8, alloc: Global) -> Result<Form, F
 }
 
 // The condition that a length is not above the limit.
-fn fits(long: &Form, alloc: Global) -> Result<Form, Fault>
+fn fits(long: &Form, alloc: Global) -> Result<Form, RowFault>
     ensures { IfOk result (λ condition. (n : ℕ) (v : Valuation) → Holds n v condition → Fits (value long.now n v)) }
 {
     let most = counted(LIMIT, alloc)?;
@@ -109,18 +109,18 @@ pub fn set_text(
     case: &Case,
     register: Reg,
     element: &Element,
-    taken: Taken,
+    taken: TakenForms,
     alloc: Global,
-) -> Result<Outcomes, Fault>
+) -> Result<Outcomes, RowFault>
     ensures { IfOk result (λ all. Performs (storage (SetText register) (model.seen element.now)) taken case.now all) }
 {
     let here = at_register(case, register)?;
-    let Taken {
+    let TakenForms {
         first: _first,
         value,
     } = taken;
     if value.is_some() {
-        return Err(Fault::Argument);
+        return Err(RowFault::Argument);
     }
     let rest = rest(case, register, element.colons, alloc)?;
     let more = counted(element.text.len(), alloc)?;
@@ -143,7 +143,7 @@ fn copy_between(
     given: &[Form],
     conditions: Vec<Form>,
     alloc: Global,
-) -> Result<Outcomes, Fault>
+) -> Result<Outcomes, RowFault>
     ensures conditions { IfOk result (λ all. all.conditions.items ≡ conditions.items) }
     ensures copies { IfOk result (λ all. Copies register given.now case.now all) }
 {
@@ -174,7 +174,7 @@ fn copy_lines(
     given: &[Form],
     conditions: Vec<Form>,
     alloc: Global,
-) -> Result<Outcomes, Fault>
+) -> Result<Outcomes, RowFault>
     ensures conditions { IfOk result (λ all. all.conditions.items ≡ conditions.items) }
     ensures copies { IfOk result (λ all. CopiesLines register given.now case.now all) }
 {
@@ -205,7 +205,7 @@ fn add_room(
     first: &Form,
     second: &Form,
     alloc: Global,
-) -> Result<(), Fault>
+) -> Result<(), RowFault>
     ensures { OnOk result ((n : ℕ) (v : Valuation) → All (Holds n v) conditions.new.items
         → All (Holds n v) conditions.old.items
         × HasRoomFor (value rest.now n v) (value first.now n v) (value second.now n v)) }
@@ -225,12 +225,12 @@ fn copy_part(
     case: &Case,
     register: Reg,
     colons: u8,
-    taken: Range,
+    taken: PlaceRange,
     alloc: Global,
-) -> Result<Outcomes, Fault>
+) -> Result<Outcomes, RowFault>
     ensures { IfOk result (λ all. CopiesPart register colons taken.first taken.second case.now all) }
 {
-    let Range { first, second } = taken;
+    let PlaceRange { first, second } = taken;
     let rest = rest(case, register, colons, alloc)?;
     let mut conditions = both_in_buffer(case, &first, &second, alloc)?;
     add_room(&mut conditions, &rest, &first, &second, alloc)?;
@@ -239,7 +239,7 @@ fn copy_part(
 }
 
 // `X` copies up to the end of the line.
-fn copy_line(case: &Case, register: Reg, colons: u8, alloc: Global) -> Result<Outcomes, Fault>
+fn copy_line(case: &Case, register: Reg, colons: u8, alloc: Global) -> Result<Outcomes, RowFault>
     ensures { IfOk result (λ all. CopiesCount register colons (pos 1) case.now all) }
 {
     let pointer = single(case, Single::Pointer, alloc)?;
@@ -252,7 +252,7 @@ fn copy_line(case: &Case, register: Reg, colons: u8, alloc: Global) -> Result<Ou
 }
 
 // `0X` copies back to its start.
-fn copy_back(case: &Case, register: Reg, colons: u8, alloc: Global) -> Result<Outcomes, Fault>
+fn copy_back(case: &Case, register: Reg, colons: u8, alloc: Global) -> Result<Outcomes, RowFault>
     ensures { IfOk result (λ all. CopiesCount register colons (pos 0) case.now all) }
 {
     let pointer = single(case, Single::Pointer, alloc)?;
@@ -271,7 +271,7 @@ fn copy_many(
     colons: u8,
     by: Form,
     alloc: Global,
-) -> Result<Outcomes, Fault>
+) -> Result<Outcomes, RowFault>
     ensures { IfOk result (λ all. CopiesCounted register colons by case.now all) }
 {
     let size = single(case, Single::Size, alloc)?;
@@ -291,7 +291,7 @@ fn copy_counted(
     colons: u8,
     by: Form,
     alloc: Global,
-) -> Result<Outcomes, Fault>
+) -> Result<Outcomes, RowFault>
     ensures { IfOk result (λ all. CopiesCounted register colons by case.now all) }
 {
     if is_number(&by, 1) {
@@ -308,17 +308,17 @@ pub fn copy(
     case: &Case,
     register: Reg,
     colons: u8,
-    taken: Taken,
+    taken: TakenForms,
     alloc: Global,
-) -> Result<Outcomes, Fault>
+) -> Result<Outcomes, RowFault>
     ensures { IfOk result (λ all. (e : model.Element) → e.colons ≡ colons
         → Performs (storage (Copy register) e) taken case.now all) }
 {
-    let Taken { first, value } = taken;
+    let TakenForms { first, value } = taken;
     match first {
         Some(first) => match value {
-            Some(second) => copy_part(case, register, colons, Range { first, second }, alloc),
-            None => Err(Fault::Argument),
+            Some(second) => copy_part(case, register, colons, PlaceRange { first, second }, alloc),
+            None => Err(RowFault::Argument),
         },
         None => {
             let by = argument(value, 1, alloc)?;

@@ -16,8 +16,8 @@ use teco_linear::Form;
 use teco_model::Element;
 use teco_model::kind::{Radix, Typing};
 use teco_rows::case::Case;
-use teco_rows::commands::{Taken, Way, argument, command, commands};
-use teco_rows::fault::Fault;
+use teco_rows::commands::{TakenForms, Way, argument, command, commands};
+use teco_rows::fault::RowFault;
 use teco_rows::forms::{is_number, length, single, within_32_bits};
 use teco_rows::levels::{NO, at_level, one};
 use teco_rows::measure::Single;
@@ -26,7 +26,7 @@ use teco_rows::row::{Clause, Mark, Of};
 
 /// How many bytes are typed: what a form is, or at most that.
 #[derive(Drop)]
-pub enum Count {
+pub enum TypedCount {
     /// As many as the form is.
     Exactly(Form),
     /// At most as many.
@@ -67,13 +67,18 @@ const TYPES_BACK: [Clause; 2] = [
 ];
 
 // The case a step later, where the arguments are taken and so many bytes are typed.
-fn typed(case: &Case, count: Count, conditions: Vec<Form>, alloc: Global) -> Result<Outcomes, Fault>
+fn typed(
+    case: &Case,
+    count: TypedCount,
+    conditions: Vec<Form>,
+    alloc: Global,
+) -> Result<Outcomes, RowFault>
     ensures conditions { IfOk result (λ all. all.conditions.items ≡ conditions.items) }
     ensures types { IfOk result (λ all. Types count case.now all) }
 {
     let here = at_level(case)?;
     match count {
-        Count::Exactly(form) => {
+        TypedCount::Exactly(form) => {
             let types = Way {
                 answers: &[],
                 does: &TYPES,
@@ -81,7 +86,7 @@ fn typed(case: &Case, count: Count, conditions: Vec<Form>, alloc: Global) -> Res
             let after = command(case, &types, &[form], here, alloc)?;
             one(after, conditions, alloc)
         }
-        Count::AtMost(form) => {
+        TypedCount::AtMost(form) => {
             let types = Way {
                 answers: &[],
                 does: &TYPES_SOME,
@@ -93,7 +98,7 @@ fn typed(case: &Case, count: Count, conditions: Vec<Form>, alloc: Global) -> Res
 }
 
 // `m,nT` types the part between two places.
-fn type_part(case: &Case, first: Form, second: Form, alloc: Global) -> Result<Outcomes, Fault>
+fn type_part(case: &Case, first: Form, second: Form, alloc: Global) -> Result<Outcomes, RowFault>
     ensures { IfOk result (λ all. TypesPart first second case.now all) }
 {
     let here = at_level(case)?;
@@ -119,40 +124,40 @@ fn type_part(case: &Case, first: Form, second: Form, alloc: Global) -> Result<Ou
 
 // How many characters so many lines have: one of them ends with the line, none begins with it, and
 // others are in the buffer.
-fn count_lines(case: &Case, by: &Form, alloc: Global) -> Result<Count, Fault>
+fn count_lines(case: &Case, by: &Form, alloc: Global) -> Result<TypedCount, RowFault>
     ensures { IfOk result (λ count. CountsLines by.now case.now count) }
 {
     let pointer = single(case, Single::Pointer, alloc)?;
     if is_number(by, 1) {
         let end = single(case, Single::LineEnd, alloc)?;
         let form = end.sub(&pointer, alloc)?;
-        return Ok(Count::Exactly(form));
+        return Ok(TypedCount::Exactly(form));
     }
     if is_number(by, 0) {
         let start = single(case, Single::LineStart, alloc)?;
         let form = pointer.sub(&start, alloc)?;
-        return Ok(Count::Exactly(form));
+        return Ok(TypedCount::Exactly(form));
     }
     let size = single(case, Single::Size, alloc)?;
-    Ok(Count::AtMost(size))
+    Ok(TypedCount::AtMost(size))
 }
 
 // How many they have that are in view: those of the pointer's line, or of more lines.
-fn count_view(case: &Case, by: &Form, alloc: Global) -> Result<Count, Fault>
+fn count_view(case: &Case, by: &Form, alloc: Global) -> Result<TypedCount, RowFault>
     ensures { IfOk result (λ count. CountsView by.now case.now count) }
 {
     if is_number(by, 1) {
         let start = single(case, Single::LineStart, alloc)?;
         let end = single(case, Single::LineEnd, alloc)?;
         let form = end.sub(&start, alloc)?;
-        return Ok(Count::Exactly(form));
+        return Ok(TypedCount::Exactly(form));
     }
     let size = single(case, Single::Size, alloc)?;
-    Ok(Count::AtMost(size))
+    Ok(TypedCount::AtMost(size))
 }
 
 // `nT` types lines.
-fn type_lines(case: &Case, by: &Form, alloc: Global) -> Result<Outcomes, Fault>
+fn type_lines(case: &Case, by: &Form, alloc: Global) -> Result<Outcomes, RowFault>
     ensures { IfOk result (λ all. TypesLines by.now case.now all) }
 {
     let count = count_lines(case, by, alloc)?;
@@ -161,7 +166,7 @@ fn type_lines(case: &Case, by: &Form, alloc: Global) -> Result<Outcomes, Fault>
 }
 
 // `nV` types those before the pointer too.
-fn type_view(case: &Case, by: &Form, alloc: Global) -> Result<Outcomes, Fault>
+fn type_view(case: &Case, by: &Form, alloc: Global) -> Result<Outcomes, RowFault>
     ensures { IfOk result (λ all. TypesView by.now case.now all) }
 {
     let count = count_view(case, by, alloc)?;
@@ -170,23 +175,23 @@ fn type_view(case: &Case, by: &Form, alloc: Global) -> Result<Outcomes, Fault>
 }
 
 // `^A` types its text.
-fn type_message(case: &Case, text: &[u8], alloc: Global) -> Result<Outcomes, Fault>
+fn type_message(case: &Case, text: &[u8], alloc: Global) -> Result<Outcomes, RowFault>
     ensures { IfOk result (λ all. TypesText text.now case.now all) }
 {
     let form = counted(text.len(), alloc)?;
-    let all = typed(case, Count::Exactly(form), Vec::new(alloc), alloc)?;
+    let all = typed(case, TypedCount::Exactly(form), Vec::new(alloc), alloc)?;
     Ok(all)
 }
 
 // `^T` types a byte, whose number has to be there.
-fn type_byte(case: &Case, value: &Option<Form>, alloc: Global) -> Result<Outcomes, Fault>
+fn type_byte(case: &Case, value: &Option<Form>, alloc: Global) -> Result<Outcomes, RowFault>
     ensures { IfOk result (λ all. TypesByte value.now case.now all) }
 {
     if value.is_none() {
-        return Err(Fault::Argument);
+        return Err(RowFault::Argument);
     }
     let form = counted(1, alloc)?;
-    let all = typed(case, Count::Exactly(form), Vec::new(alloc), alloc)?;
+    let all = typed(case, TypedCount::Exactly(form), Vec::new(alloc), alloc)?;
     Ok(all)
 }
 
@@ -208,15 +213,15 @@ fn type_number(
     radix: Radix,
     colons: u8,
     alloc: Global,
-) -> Result<Outcomes, Fault>
+) -> Result<Outcomes, RowFault>
     ensures { IfOk result (λ all. TypesNumber value.now radix colons case.now all) }
 {
     let Some(number) = value else {
-        return Err(Fault::Argument);
+        return Err(RowFault::Argument);
     };
     let form = counted(most_characters(radix, colons), alloc)?;
     let conditions = within_32_bits(number, alloc)?;
-    let all = typed(case, Count::AtMost(form), conditions, alloc)?;
+    let all = typed(case, TypedCount::AtMost(form), conditions, alloc)?;
     Ok(all)
 }
 
@@ -225,17 +230,17 @@ pub fn type_text(
     case: &Case,
     kind: Typing,
     element: &Element,
-    taken: Taken,
+    taken: TakenForms,
     alloc: Global,
-) -> Result<Outcomes, Fault>
+) -> Result<Outcomes, RowFault>
     ensures { IfOk result (λ all. Performs (typing kind (model.seen element.now)) taken case.now all) }
 {
-    let Taken { first, value } = taken;
+    let TakenForms { first, value } = taken;
     match kind {
         Typing::Part => match first {
             Some(first) => match value {
                 Some(second) => type_part(case, first, second, alloc),
-                None => Err(Fault::Argument),
+                None => Err(RowFault::Argument),
             },
             None => {
                 let by = argument(value, 1, alloc)?;
@@ -257,17 +262,17 @@ pub fn type_register(
     case: &Case,
     register: Reg,
     colons: u8,
-    taken: Taken,
+    taken: TakenForms,
     alloc: Global,
-) -> Result<Outcomes, Fault>
+) -> Result<Outcomes, RowFault>
     ensures { IfOk result (λ all. (e : model.Element) → e.colons ≡ colons
         → Performs (storage (Get register) e) taken case.now all) }
 {
     let _taken = taken;
     if colons == 0 {
-        return Err(Fault::NotTold);
+        return Err(RowFault::NotTold);
     }
     let form = length(case, register, alloc)?;
-    let all = typed(case, Count::Exactly(form), Vec::new(alloc), alloc)?;
+    let all = typed(case, TypedCount::Exactly(form), Vec::new(alloc), alloc)?;
     Ok(all)
 }

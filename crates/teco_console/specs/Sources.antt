@@ -6,8 +6,8 @@ use Rattle.std.specs.declared.alloc.Global.{Global}
 use Rattle.teco_base.specs.Register.{register_name}
 use Rattle.teco_base.specs.declared.bytes.TheConstants.{ESC, LF}
 use Rattle.teco_source.specs.Source.{said}
-use Rattle.teco_source.specs.declared.form.Form.{Form}
-use Rattle.teco_source.specs.declared.form.Form.TheVariants.{Marked, Readable}
+use Rattle.teco_source.specs.declared.form.EscapeForm.{EscapeForm}
+use Rattle.teco_source.specs.declared.form.EscapeForm.TheVariants.{Marked, Readable}
 use Rattle.teco_console.specs.declared.forms.Escape.{Escape}
 use Rattle.teco_console.specs.declared.forms.Escape.TheVariants.{ByName, Mark}
 use Rattle.teco_console.specs.declared.forms.TheConstants.{READABLE}
@@ -18,18 +18,18 @@ abbrev pub EndsIn : List ℕ → List ℕ → Type 0
 EndsIn word name = drop (length name - length word) name ≡ word
 
 -- how a file writes ESC: as the words of the command line say, or else by its name
-abbrev pub IsFileForm : Escape → List ℕ → Form → Type 0
+abbrev pub IsFileForm : Escape → List ℕ → EscapeForm → Type 0
 IsFileForm (Mark mark) name form = form ≡ Marked mark
 IsFileForm ByName name form =
     (EndsIn READABLE.now name × (form ≡ Readable)) ⊎ ((¬ EndsIn READABLE.now name) × (form ≡ Marked ESC))
 
 -- how a text on the command line writes it
-abbrev pub word_form : Escape → Form
+abbrev pub word_form : Escape → EscapeForm
 word_form (Mark mark) = Marked mark
 word_form ByName = Readable
 
 -- Behind a text a register is given what bytes say, between two bytes that are none of these.
-pub record IsGivenBehind (before : List ℕ) (register : ℕ) (form : Form) (bytes text : List ℕ) : Type 0 where
+pub record IsGivenBehind (before : List ℕ) (register : ℕ) (form : EscapeForm) (bytes text : List ℕ) : Type 0 where
   pub delimiter : ℕ
   pub fresh : ¬ Contains bytes delimiter
   pub written : text ≡ before ++ (64 ∷ 21 ∷ register_name register ∷ delimiter ∷ [])
@@ -46,7 +46,7 @@ lines_behind lines (text ∷ texts) = lines_behind (line_behind lines text.now) 
 
 -- What a file says: its text; or it is one macro alone, for people, and says that as the text of A.
 pub record FileSays (escape : Escape) (name bytes text : List ℕ) : Type 0 where
-  pub form : Form
+  pub form : EscapeForm
   pub by_name : IsFileForm escape name form
   pub says : (text ≡ said form bytes) ⊎ IsGivenBehind [] 0 form bytes text
 

@@ -4,7 +4,7 @@ ghost use Rattle.teco_console.specs.Sources.{EndsIn, IsFileForm, word_form};
 ghost use Rattle.teco_console.specs.declared.forms.TheConstants.{READABLE};
 
 use teco_base::bytes::ESC;
-use teco_source::Form;
+use teco_source::EscapeForm;
 
 /// What stands for ESC, by the words of the command line.
 #[derive(Clone, Copy, Debug, PartialEq, Eq)]
@@ -28,27 +28,27 @@ pub fn is_readable_name(name: &str) -> bool
 }
 
 /// The form of a file of a name.
-pub fn form_of(name: &str, escape: Escape) -> Form
+pub fn form_of(name: &str, escape: Escape) -> EscapeForm
     ensures { IsFileForm escape name.now result }
 {
     match escape {
-        Escape::Mark(mark) => Form::Marked(mark),
-        Escape::ByName if is_readable_name(name) => Form::Readable,
-        Escape::ByName => Form::Marked(ESC),
+        Escape::Mark(mark) => EscapeForm::Marked(mark),
+        Escape::ByName if is_readable_name(name) => EscapeForm::Readable,
+        Escape::ByName => EscapeForm::Marked(ESC),
     }
 }
 
 /// The form of a text on the command line.
-pub fn form_of_word(escape: Escape) -> Form
+pub fn form_of_word(escape: Escape) -> EscapeForm
     ensures { result ≡ word_form escape }
 {
     match escape {
-        Escape::Mark(mark) => Form::Marked(mark),
-        Escape::ByName => Form::Readable,
+        Escape::Mark(mark) => EscapeForm::Marked(mark),
+        Escape::ByName => EscapeForm::Readable,
     }
 }
 
 /// Does a file of a name write ESC as a character that can be seen?
 pub fn is_readable(name: &str, escape: Escape) -> bool {
-    form_of(name, escape) != Form::Marked(ESC)
+    form_of(name, escape) != EscapeForm::Marked(ESC)
 }

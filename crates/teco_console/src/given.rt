@@ -7,7 +7,7 @@ use crate::fault::AnswerFault;
 use std::alloc::Global;
 use teco_base::Reg;
 use teco_base::bytes::ESC;
-use teco_source::{Addition, Form, Source};
+use teco_source::{Addition, EscapeForm, Source};
 
 /// The control byte of `^U`.
 const CONTROL_U: u8 = 0x15;
@@ -26,7 +26,7 @@ pub struct GivenText<'a> {
     /// What messages call it by.
     pub name: &'a str,
     pub bytes: Vec<u8>,
-    pub form: Form,
+    pub form: EscapeForm,
 }
 
 /// A source with a text more for a register, behind all that it says.

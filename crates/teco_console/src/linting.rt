@@ -9,7 +9,7 @@ use teco_base::bytes::control;
 use teco_expansion::{Nodes, expand};
 use teco_explain::{Modes, Slips, place_in};
 use teco_library::Library;
-use teco_source::{Position, Shown, Source};
+use teco_source::{LineAndByte, Shown, Source};
 
 /// How many lines are said at most.
 const MOST: usize = 5;
@@ -76,7 +76,7 @@ impl<'a> SearchDoubts<'a> {
         self.left -= 1;
         if let Some(place) = place_in(self.source.text(), finding.register, finding.place) {
             let name = Shown(self.source.name_at(place).as_bytes());
-            let Position { line, column } = self.source.position(place);
+            let LineAndByte { line, column } = self.source.position(place);
             voice.say(format_args!("{name}:{line}:{column}: {what}"));
         }
     }

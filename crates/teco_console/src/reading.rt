@@ -15,7 +15,7 @@ use teco_base::bytes::{ESC, LF};
 use teco_base::{LIMIT, Reg};
 use teco_explain::is_plain;
 use teco_library::Library;
-use teco_source::{Form, Shown, Source};
+use teco_source::{EscapeForm, Shown, Source};
 
 /// What messages call texts of the command line by.
 const WORDS: &str = "-e";
@@ -35,7 +35,7 @@ pub fn read_text<R: Shelf>(
 fn empty(alloc: Global, name: &str) -> Result<Source, AnswerFault>
     ensures { IfOk result (λ text. text ≡ []) }
 {
-    Ok(Source::new(alloc, name, Vec::new(alloc), Form::Readable)?)
+    Ok(Source::new(alloc, name, Vec::new(alloc), EscapeForm::Readable)?)
 }
 
 // The source that is the macro A alone, by what bytes say.
@@ -44,7 +44,7 @@ fn macro_source(
     source: Source,
     name: &str,
     bytes: Vec<u8>,
-    form: Form,
+    form: EscapeForm,
 ) -> Result<Source, AnswerFault>
     ensures { IfOk result (λ text. IsGivenBehind source 0 form bytes.items text) }
 {
@@ -212,7 +212,7 @@ fn given_of<'a>(alloc: Global, setting: &Setting) -> Result<GivenText<'a>, Alloc
         register: setting.register(),
         name: "--set",
         bytes: setting.text().to_vec(alloc)?,
-        form: Form::Marked(ESC),
+        form: EscapeForm::Marked(ESC),
     })
 }
 

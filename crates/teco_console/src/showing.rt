@@ -11,7 +11,7 @@ use teco_explain::{
     CODES, Outline, REFUSALS, SECTIONS, code_named, command_named, near_words, note_of_code,
     note_of_refusal, number_of, refusal_numbered,
 };
-use teco_source::{Form, Shown, Source};
+use teco_source::{EscapeForm, Shown, Source};
 
 /// Prints the text of a file as its elements, safe for a terminal, with a character for ESC.
 pub fn show<R: Shelf, O: Write + Drop, E: Write + Drop>(
@@ -59,7 +59,7 @@ fn tell_unwritten<O: Write + Drop, E: Write + Drop>(
 fn print_in<O: Write + Drop, E: Write + Drop>(
     console: &mut Console<O, E>,
     source: &Source,
-    form: Form,
+    form: EscapeForm,
 ) -> Result<Outcome, AnswerFault> {
     match form.write(console.alloc, source.text())? {
         Some(text) => print(console, text.as_slice()),
@@ -74,7 +74,7 @@ pub fn show_source<R: Shelf, O: Write + Drop, E: Write + Drop>(
     rt: &R,
     console: &mut Console<O, E>,
     name: &str,
-    form: Form,
+    form: EscapeForm,
 ) -> Result<Outcome, AnswerFault> {
     let source = read_text(rt, console.alloc, name, Escape::ByName)?;
     print_in(console, &source, form)

@@ -1,35 +1,35 @@
 //! Claims in a reader's words.
 use std::alloc::{AllocError, Global};
 use std::fmt;
-use teco_claims::{Claim, Fraction, Measure, Single, Term};
+use teco_claims::{Claim, ClaimMeasure, ClaimSingle, ClaimTerm, Fraction};
 
 // What a measure that a state has once is called.
-fn name_of(single: Single) -> &'static str {
+fn name_of(single: ClaimSingle) -> &'static str {
     match single {
-        Single::Steps => "commands",
-        Single::Pointer => ".",
-        Single::Size => "Z",
-        Single::Held => "held",
-        Single::LineEnd => "line end",
-        Single::LineStart => "line start",
-        Single::LastLength => "last length",
-        Single::Typed => "typed",
+        ClaimSingle::Steps => "commands",
+        ClaimSingle::Pointer => ".",
+        ClaimSingle::Size => "Z",
+        ClaimSingle::Held => "held",
+        ClaimSingle::LineEnd => "line end",
+        ClaimSingle::LineStart => "line start",
+        ClaimSingle::LastLength => "last length",
+        ClaimSingle::Typed => "typed",
     }
 }
 
 // A measure as it is written.
 #[derive(Clone, Copy)]
-struct Name(Measure);
+struct Name(ClaimMeasure);
 
 impl fmt::Display for Name {
     fn fmt<W: fmt::Write>(&self, f: &mut fmt::Formatter<W>) -> fmt::Result {
         match self.0 {
-            Measure::One(single) => f.write_str(name_of(single)),
-            Measure::Number(register) => write!(f, "Q{}", char::from(register.name())),
-            Measure::Length(register) => write!(f, ":Q{}", char::from(register.name())),
-            Measure::Turns(number) => write!(f, "turns left of {number}"),
-            Measure::PushedNumber(before) => write!(f, "number pushed behind {before}"),
-            Measure::PushedLength(before) => write!(f, "length pushed behind {before}"),
+            ClaimMeasure::One(single) => f.write_str(name_of(single)),
+            ClaimMeasure::Number(register) => write!(f, "Q{}", char::from(register.name())),
+            ClaimMeasure::Length(register) => write!(f, ":Q{}", char::from(register.name())),
+            ClaimMeasure::Turns(number) => write!(f, "turns left of {number}"),
+            ClaimMeasure::PushedNumber(before) => write!(f, "number pushed behind {before}"),
+            ClaimMeasure::PushedLength(before) => write!(f, "length pushed behind {before}"),
         }
     }
 }
@@ -77,11 +77,11 @@ impl fmt::Display for Power {
 
 // A term without its sign.
 #[derive(Clone, Copy)]
-struct Amount(Term);
+struct Amount(ClaimTerm);
 
 impl fmt::Display for Amount {
     fn fmt<W: fmt::Write>(&self, f: &mut fmt::Formatter<W>) -> fmt::Result {
-        let Term {
+        let ClaimTerm {
             is_negative: _,
             coefficient,
             power,

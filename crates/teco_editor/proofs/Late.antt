@@ -2,11 +2,12 @@
 use Rattle.std.proofs.Common.{◌≡◌, inl, inr, ℕ, ℤ, Bool, true, false, Result, Ok, Err, Option, Some, None, length}
 use Rattle.std.proofs.Common.{nat_le, refl}
 use Rattle.std.specs.Prelude.{IsOk, if◌then◌else◌}
+use Rattle.teco_base.specs.Does.{Does, FailsWith, IsDoneOrFull, memory_where}
 use Rattle.teco_base.specs.Text.{text_after_replacement}
 use Rattle.teco_base.specs.declared.TheConstants.{LIMIT}
 use Rattle.teco_base.specs.declared.code.Code.{Code}
 use Rattle.teco_base.specs.declared.code.Code.TheVariants as code
-use Rattle.teco_find.specs.Reading.{Reads}
+use Rattle.teco_find.specs.Reading.{pattern_cause}
 use Rattle.teco_find.specs.declared.fault.FindFault.{FindFault}
 use Rattle.teco_find.specs.declared.fault.FindFault.TheVariants as fault
 use Rattle.teco_model.specs.Checked.{◌>>=◌}
@@ -21,7 +22,8 @@ use Rattle.teco_model.specs.declared.kind.Search.TheVariants as search_kind
 use Rattle.teco_model.specs.declared.pattern.Sought.{Sought}
 use Rattle.teco_model.specs.declared.pattern.Sought.TheVariants.{Last, Wanted}
 use Rattle.teco_model.specs.declared.pattern.Span.{Span}
-use Rattle.teco_editor.specs.Searches.{IsDoneOrFull, Looks, Searches, stuck_by_pattern}
+use Rattle.teco_editor.specs.Commands.{stuck_cause}
+use Rattle.teco_editor.specs.Searches.{finding_seen, here_seen, stuck_by_pattern}
 
 either-late : {X : Type 0} (fits : Bool) (x : X) → IsDoneOrFull (if fits then Ok x else Err code.Ful)
 either-late true x = inl refl
@@ -60,8 +62,9 @@ module _ (s : Search) (e : Element) (taken : Taken) (kept : Kept) (n : ℤ)
 
   -- a search text that is refused
   pub search-refused : (fault : FindFault)
-      → Reads {X = Pattern} (Err fault) (model.pattern_of (model.search_text_of e.text kept) kept)
-      → Searches e.text kept kept (model.search s e taken kept) (Err (stuck_by_pattern fault))
+      → FailsWith (memory_where IsOk) (model.pattern_of (model.search_text_of e.text kept) kept) (pattern_cause fault)
+      → Does stuck_cause (memory_where IsDoneOrFull) (finding_seen e.text kept) kept kept (model.search s e taken kept)
+      (Err (stuck_by_pattern fault))
   search-refused fault.Ice h = (rw (counted, h) refl, refl)
   search-refused fault.Iqn h = (rw (counted, h) refl, refl)
   search-refused fault.Memory h = (search-late h, refl)
@@ -83,8 +86,9 @@ module _ (s : Search) (e : Element) (n : ℕ) (kept : Kept) where
   look_late_by (Err c) said h = cc
 
   pub look-refused : (old : Kept) (fault : FindFault)
-      → Reads {X = Pattern} (Err fault) (model.pattern_of kept.search_text kept)
-      → Looks old old (look_here s e n kept) (Err (stuck_by_pattern fault))
+      → FailsWith (memory_where IsOk) (model.pattern_of kept.search_text kept) (pattern_cause fault)
+      → Does stuck_cause (memory_where IsDoneOrFull) here_seen old old (look_here s e n kept)
+      (Err (stuck_by_pattern fault))
   look-refused old fault.Ice h = (rw h refl, refl)
   look-refused old fault.Iqn h = (rw h refl, refl)
   look-refused old fault.Memory h = (look_late_by (model.pattern_of kept.search_text kept) refl h, refl)

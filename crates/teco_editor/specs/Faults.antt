@@ -1,4 +1,4 @@
--- What a fault of the text, of the arguments or of the registers comes to.
+-- The reason that a fault of the text, of the arguments or of the registers is.
 use Rattle.teco_base.specs.declared.code.Code.TheVariants as code
 use Rattle.teco_expr.specs.declared.args.ArgFault.{ArgFault}
 use Rattle.teco_expr.specs.declared.args.ArgFault.TheVariants as argument_fault

@@ -15,7 +15,7 @@ pub use Rattle.teco_model.specs.Registers
 pub use Rattle.teco_regs.specs.Texts
 pub use Rattle.teco_model.specs.Places
 pub mod Faults
-pub mod Does
+pub mod Commands
 pub mod Turning
 pub use Rattle.teco_model.specs.Search
 pub mod Searches

@@ -1,6 +1,5 @@
--- What a search did, beside its definition.
-use Rattle.std.specs.Prelude.{ℕ, ◌≡◌, ◌⊎◌, List, Option, Some, None, Result, Ok, Err, IsOk}
-use Rattle.teco_base.specs.declared.code.Code.{Code}
+-- How what a search did is seen.
+use Rattle.std.specs.Prelude.{ℕ, List, Option, Some, None}
 use Rattle.teco_base.specs.declared.code.Code.TheVariants as code
 use Rattle.teco_find.specs.declared.fault.FindFault.{FindFault}
 use Rattle.teco_find.specs.declared.fault.FindFault.TheVariants as fault
@@ -18,30 +17,12 @@ stuck_by_pattern fault.Ice = stuck.Code code.Ice
 stuck_by_pattern fault.Iqn = stuck.Code code.Iqn
 stuck_by_pattern fault.Memory = stuck.Memory
 
--- what is done, or FUL
-abbrev pub IsDoneOrFull : {X : Type 0} → Result X Code → Type 0
-IsDoneOrFull r = IsOk r ⊎ (r ≡ Err code.Ful)
+-- what a search of a text came to: it found, and left this; or it missed in what was kept before
+abbrev pub finding_seen : List ℕ → Kept → Kept → Finding → model.Finding
+finding_seen text old new Found = model.Found new
+finding_seen text old new Missed = model.Missed (record old { search_text = model.search_text_of text old })
 
--- The call left what the definition does at a match; or is the definition's code, or wants memory, and left all as
--- it was. Want of memory comes before no code but FUL.
-abbrev pub Settles : Kept → Kept → Result Kept Code → Result (Unit {0}) Stuck → Type 0
-Settles old new defined (Ok done) = defined ≡ Ok new
-Settles old new defined (Err (stuck.Code c)) = (defined ≡ Err c) × (new ≡ old)
-Settles old new defined (Err stuck.Memory) = IsDoneOrFull defined × (new ≡ old)
-
--- A search found what the definition finds, and left what that says; or missed it as the definition does, or is the
--- definition's code, or wants memory, and left all as it was. Want of memory comes before no code but FUL.
-abbrev pub Searches : List ℕ → Kept → Kept → Result model.Finding Code → Result Finding Stuck → Type 0
-Searches text old new defined (Ok Found) = defined ≡ Ok (model.Found new)
-Searches text old new defined (Ok Missed) =
-    (defined ≡ Ok (model.Missed (record old { search_text = model.search_text_of text old }))) × (new ≡ old)
-Searches text old new defined (Err (stuck.Code c)) = (defined ≡ Err c) × (new ≡ old)
-Searches text old new defined (Err stuck.Memory) = IsDoneOrFull defined × (new ≡ old)
-
--- The buffer has the last match, and what is kept there is the definition's; or so many more are wanted, or it is
--- the definition's code, or memory is wanted, and all is as it was.
-abbrev pub Looks : Kept → Kept → Result Here Code → Result (Option ℕ) Stuck → Type 0
-Looks old new defined (Ok None) = defined ≡ Ok (MetHere new)
-Looks old new defined (Ok (Some n)) = (defined ≡ Ok (WantedYet n)) × (new ≡ old)
-Looks old new defined (Err (stuck.Code c)) = (defined ≡ Err c) × (new ≡ old)
-Looks old new defined (Err stuck.Memory) = IsDoneOrFull defined × (new ≡ old)
+-- the buffer has the last match, and this is left there; or so many more are wanted
+abbrev pub here_seen : Kept → Option ℕ → Here
+here_seen new None = MetHere new
+here_seen new (Some n) = WantedYet n

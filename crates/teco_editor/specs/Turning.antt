@@ -1,4 +1,4 @@
--- What goes out to a host.
+-- Bytes that go out to a host.
 use Rattle.std.specs.Prelude.{ℕ, ◌≡◌, ◌<◌, List, Result, Ok, Err}
 use Rattle.teco_pages.specs.HostFiles.{Telling, Becomes, after_writing}
 use Rattle.teco_pages.specs.PageCalls.{WritesFront}

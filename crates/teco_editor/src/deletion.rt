@@ -1,7 +1,7 @@
 //! Commands that delete.
-ghost use Rattle.std.specs.Prelude.{◌≡◌};
+ghost use Rattle.teco_base.specs.Does.{Does, code_cause, codes_alone};
 ghost use Rattle.teco_model.specs.Deletion as model;
-ghost use Rattle.teco_editor.specs.Does.{Does};
+ghost use Rattle.teco_editor.specs.Commands.{effect_seen};
 
 use crate::editor::Editor;
 use teco_base::Code;
@@ -12,7 +12,8 @@ use teco_text::TextStore;
 impl<T: TextStore> Editor<T> {
     // Deletes characters after the pointer, or before it where the number is negative.
     fn delete_characters(&mut self, n: i32) -> Result<Option<i32>, Code>
-        ensures { Does self.old self.new (model.character_deletion n self.old) result }
+        ensures { Does code_cause codes_alone effect_seen self.old self.new
+            (model.character_deletion n self.old) result }
     {
         let dot = self.dot();
         let count = n.unsigned_abs() as usize;
@@ -31,7 +32,8 @@ impl<T: TextStore> Editor<T> {
 
     // Deletes lines or a range, and puts the pointer where they began.
     fn delete_part(&mut self, taken: Taken) -> Result<Option<i32>, Code>
-        ensures { Does self.old self.new (model.part_deletion taken.first taken.value self.old)
+        ensures { Does code_cause codes_alone effect_seen self.old self.new
+            (model.part_deletion taken.first taken.value self.old)
             result }
     {
         let Span { start, end } = self.part(taken)?;
@@ -44,7 +46,8 @@ impl<T: TextStore> Editor<T> {
     /// `D` deletes characters, `K` lines, and both a range.
     #[inline(never)]
     pub fn deletion(&mut self, unit: Unit, taken: Taken) -> Result<Option<i32>, Code>
-        ensures { Does self.old self.new (model.deletion unit taken self.old) result }
+        ensures { Does code_cause codes_alone effect_seen self.old self.new
+            (model.deletion unit taken self.old) result }
     {
         match (unit, taken.first, taken.value) {
             (Unit::Characters, None, value) => self.delete_characters(value.unwrap_or(1)),

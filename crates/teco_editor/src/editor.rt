@@ -1,3 +1,4 @@
+//! The editor, and what always holds of it.
 ghost use Rattle.std.specs.Prelude.{◌≡◌, ◌≤◌, ◌++◌, [], length, All, OnOk, OnErr};
 ghost use Rattle.teco_base.specs.declared.TheConstants.{LIMIT};
 ghost use Rattle.teco_model.specs.Registers.{with_texts};
@@ -13,9 +14,9 @@ use teco_model::{fits, pieces_are_bytes};
 use teco_regs::Regs;
 use teco_text::TextStore;
 
-/// What stays between two runs: the buffer with its pointer, the registers, the last search text
-/// and the search mode, the length of the last text found or inserted, and the bytes that are
-/// typed.
+/// The state that stays between two runs: the buffer with its pointer, the registers, the last
+/// search text and the search mode, the length of the last text found or inserted, and the bytes
+/// that are typed.
 #[derive(Drop)]
 pub struct Editor<T: TextStore> {
     pub(crate) screen: Screen<T>,
@@ -67,7 +68,7 @@ impl<T: TextStore> Editor<T> {
         }
     }
 
-    /// What always holds: the pointer is in the text, numbers fit 32 bits, characters are bytes,
+    /// These always hold: the pointer is in the text, numbers fit 32 bits, characters are bytes,
     /// and no text is longer than `LIMIT`. It takes time by the depth of the push-down list.
     pub fn is_whole(&self)
         ensures { IsWhole self.now }

@@ -1,7 +1,8 @@
 //! What searches leave.
-ghost use Rattle.std.specs.Prelude.{◌≡◌, ◌≤◌, ◌++◌, length, OnOk, OnErr, vec_capacity};
+ghost use Rattle.std.specs.Prelude.{◌≡◌, ◌≤◌, ◌++◌, ⊤, length, OnOk, OnErr, vec_capacity};
+ghost use Rattle.teco_base.specs.Does.{Updates, memory_where};
 ghost use Rattle.teco_model.specs.Search as model;
-ghost use Rattle.teco_editor.specs.Does.{Replaces};
+ghost use Rattle.teco_editor.specs.Commands.{stuck_cause};
 ghost use Rattle.teco_text.specs.Answers.{IsPart};
 
 use crate::editor::Editor;
@@ -102,7 +103,10 @@ impl<T: TextStore> Editor<T> {
     #[inline(always)]
     pub fn replace(&mut self, found: Span, new: &[u8], text: &[u8]) -> Result<(), Stuck>
         requires { IsPart self.old.text found.start found.end }
-        ensures { Replaces self.old self.new found new.now text.now result }
+        ensures { Updates stuck_cause (memory_where (λ _. ⊤)) self.old self.new
+            (model.replacement found new.now (record self.old {
+              search_text = model.search_text_of text.now self.old;
+            })) result }
     {
         make_room(&mut self.search_text, text.len())?;
         self.screen.replace(found.start, found.end, new)?;

@@ -1,7 +1,8 @@
 //! Commands that insert.
-ghost use Rattle.std.specs.Prelude.{◌∷◌, true};
+ghost use Rattle.std.specs.Prelude.{◌∷◌, IsOk};
+ghost use Rattle.teco_base.specs.Does.{Does, memory_where};
 ghost use Rattle.teco_model.specs.Insertion as model;
-ghost use Rattle.teco_editor.specs.Does.{DoesIfMemory};
+ghost use Rattle.teco_editor.specs.Commands.{effect_seen, stuck_cause};
 
 use crate::editor::Editor;
 use crate::stuck::Stuck;
@@ -15,7 +16,8 @@ use teco_text::TextStore;
 impl<T: TextStore> Editor<T> {
     // Inserts before the pointer.
     pub(crate) fn insert(&mut self, new: &[u8]) -> Result<Option<i32>, Stuck>
-        ensures { DoesIfMemory true self.old self.new (model.insertion_of new.now self.old) result }
+        ensures { Does stuck_cause (memory_where IsOk) effect_seen self.old self.new
+            (model.insertion_of new.now self.old) result }
     {
         self.screen.insert(new)?;
         self.last_length = new.len();
@@ -24,7 +26,7 @@ impl<T: TextStore> Editor<T> {
 
     // Inserts a byte and then a text, both or none.
     fn insert_behind(&mut self, byte: u8, text: &[u8]) -> Result<Option<i32>, Stuck>
-        ensures { DoesIfMemory true self.old self.new
+        ensures { Does stuck_cause (memory_where IsOk) effect_seen self.old self.new
             (model.insertion_of (byte ∷ text.now) self.old) result }
     {
         let length = self.size() + 1 + text.len();
@@ -43,7 +45,7 @@ impl<T: TextStore> Editor<T> {
         text: &[u8],
         taken: Taken,
     ) -> Result<Option<i32>, Stuck>
-        ensures { DoesIfMemory true self.old self.new
+        ensures { Does stuck_cause (memory_where IsOk) effect_seen self.old self.new
             (model.insertion_with insertion text.now taken.value self.old) result }
     {
         match (insertion, taken.value) {

@@ -1,11 +1,12 @@
 //! Commands that move the pointer.
 ghost use Rattle.std.specs.Prelude.{◌≡◌, ◌≤◌, length, is_some, MatchOption};
 ghost use Rattle.teco_base.specs.declared.TheConstants.{LIMIT};
+ghost use Rattle.teco_base.specs.Does.{Does, code_cause, codes_alone};
 ghost use Rattle.teco_model.specs.Element.{seen};
 ghost use Rattle.teco_model.specs.Motion as model;
 ghost use Rattle.teco_model.specs.Effect.{no_answer};
 ghost use Rattle.teco_model.specs.Places.{place_in};
-ghost use Rattle.teco_editor.specs.Does.{Does};
+ghost use Rattle.teco_editor.specs.Commands.{effect_seen};
 
 use crate::editor::Editor;
 use teco_base::Code;
@@ -67,7 +68,8 @@ impl<T: TextStore> Editor<T> {
         element: &Element<'_>,
         taken: Taken,
     ) -> Result<Option<i32>, Code>
-        ensures { Does self.old self.new (model.motion motion (seen element.now) taken self.old)
+        ensures { Does code_cause codes_alone effect_seen self.old self.new
+            (model.motion motion (seen element.now) taken self.old)
             result }
     {
         if let Motion::Lines = motion {

@@ -1,9 +1,10 @@
 //! Pages that come into the buffer.
-ghost use Rattle.std.specs.Prelude.{◌≡◌, ◌≤◌, ◌++◌, [], length, true, Ok, Err, MatchResult};
+ghost use Rattle.std.specs.Prelude.{◌≡◌, ◌≤◌, ◌++◌, [], length, IsOk, Ok, Err, MatchResult};
+ghost use Rattle.teco_base.specs.Does.{Updates, memory_where};
 ghost use Rattle.teco_base.specs.declared.TheConstants.{LIMIT};
 ghost use Rattle.teco_model.specs.Paging.{kept_with_page, page_added};
 ghost use Rattle.teco_model.specs.Places.{text_between};
-ghost use Rattle.teco_editor.specs.Does.{KeepsIfMemory};
+ghost use Rattle.teco_editor.specs.Commands.{stuck_cause};
 
 use crate::editor::Editor;
 use crate::stuck::Stuck;
@@ -12,7 +13,7 @@ use teco_model::Span;
 use teco_text::{TextStore, pieces};
 
 impl<T: TextStore> Editor<T> {
-    /// Whether a form feed ended the last page in the buffer.
+    /// Did a form feed end the last page in the buffer?
     pub fn form_feed(&self) -> bool
         ensures { result ≡ self.now.form_feed }
     {
@@ -45,7 +46,7 @@ impl<T: TextStore> Editor<T> {
     /// A page comes behind the buffer, and the pointer stays. A buffer that would be longer than
     /// `LIMIT` is FUL.
     pub fn add_page(&mut self, page: &[u8], form_feed: bool) -> Result<(), Stuck>
-        ensures { KeepsIfMemory true self.old self.new
+        ensures { Updates stuck_cause (memory_where IsOk) self.old self.new
             (page_added (record { text = page.now; ff = form_feed }) self.old) result }
     {
         let dot = self.dot();

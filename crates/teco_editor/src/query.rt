@@ -1,10 +1,11 @@
 //! `Q`, `^X` and `\\`: what they give, and what they do with a value.
 ghost use Rattle.std.specs.Prelude.{◌≡◌, ◌≤◌, length};
+ghost use Rattle.teco_base.specs.Does.{Does};
 ghost use Rattle.teco_model.specs.Character as character;
 ghost use Rattle.teco_model.specs.Memory.{query_grows};
 ghost use Rattle.teco_model.specs.Query as model;
 ghost use Rattle.teco_model.specs.declared.kind.Query.TheVariants as query_kind;
-ghost use Rattle.teco_editor.specs.Does.{DoesIfMemory};
+ghost use Rattle.teco_editor.specs.Commands.{effect_seen, growing_if, stuck_cause};
 
 use crate::editor::Editor;
 use crate::stuck::Stuck;
@@ -12,7 +13,7 @@ use teco_base::{Reg, decimal};
 use teco_model::kind::Query;
 use teco_text::TextStore;
 
-/// What is given without a value.
+/// The answer where no value is given.
 #[derive(Clone, Copy)]
 pub struct Reply {
     /// The value.
@@ -88,8 +89,8 @@ impl<T: TextStore> Editor<T> {
     /// `n\\` inserts the number in decimal.
     #[inline(never)]
     pub fn query_with(&mut self, query: Query, n: i32) -> Result<Option<i32>, Stuck>
-        ensures { DoesIfMemory (query_grows query (Some n)) self.old self.new
-            (model.query_with query n self.old) result }
+        ensures { Does stuck_cause (growing_if (query_grows query (Some n))) effect_seen
+            self.old self.new (model.query_with query n self.old) result }
     {
         match query {
             Query::Number(reg) => Ok(Some(code_at(self.regs.text(reg), i64::from(n)))),

@@ -1,5 +1,5 @@
 //! The text that is edited, and what was typed of it.
-ghost use Rattle.std.specs.Prelude.{◌≡◌, ◌+◌, ◌-◌, ◌≤◌, [], ◌++◌, false, true, length, OnOk, OnErr, vec_len};
+ghost use Rattle.std.specs.Prelude.{◌≡◌, ◌+◌, ◌-◌, ◌≤◌, [], ◌++◌, false, true, length, OnOk, OnErr};
 ghost use Rattle.std.specs.Prelude.{vec_capacity};
 ghost use Rattle.teco_base.specs.Text.{range, text_after_replacement, text_after_deletion, text_after_insertion};
 ghost use Rattle.teco_base.specs.Text.{pointer_after_deletion};
@@ -211,7 +211,7 @@ impl<T: TextStore> Screen<T> {
         self.store.reserve(n)
     }
 
-    // What a vector holds becomes the text, with the pointer at its start. The smaller of the two
+    // A vector becomes the text, with the pointer at its start. The smaller of the two
     // memories is handed back, with nothing in it.
     pub(crate) fn exchange(&mut self, text: Vec<u8>) -> Vec<u8>
         requires { length text.items ≤ LIMIT }

@@ -1,11 +1,14 @@
-// What S and FS do.
-ghost use Rattle.std.specs.Prelude.{◌≡◌, Some, ◌≤◌, ◌≢◌, length, pos, IfSome, IfOk, IfErr, Ok, Err, OnOk};
+//! Searches in the buffer, by `S`, `FS`, `N` and `FN`.
+ghost use Rattle.std.specs.Prelude.{◌≡◌, Some, ◌≤◌, ◌≢◌, length, pos, IfSome, IfOk, IfErr, IsOk, Ok, OnOk};
+ghost use Rattle.teco_base.specs.Does.{Does, FailsWith, IsDoneOrFull, Updates, memory_where};
 ghost use Rattle.teco_find.specs.Pieces.{joined};
-ghost use Rattle.teco_find.specs.Reading.{Reads};
+ghost use Rattle.teco_find.specs.Reading.{pattern_cause};
 ghost use Rattle.teco_model.specs.Element.{seen};
 ghost use Rattle.teco_model.specs.Paging.{look_here};
 ghost use Rattle.teco_model.specs.Search as model;
-ghost use Rattle.teco_editor.specs.Searches.{Looks, Searches, Settles, stuck_by_pattern};
+ghost use Rattle.teco_editor.specs.Commands.{stuck_cause};
+ghost use Rattle.teco_editor.specs.Searches.{finding_seen, here_seen, stuck_by_pattern};
+ghost use Rattle.teco_editor.specs.declared.searching.Finding.TheVariants.{Missed};
 ghost use Rattle.teco_text.specs.Answers.{IsPart};
 
 use crate::{Editor, Stuck};
@@ -15,7 +18,7 @@ use teco_model::kind::Search;
 use teco_model::{Element, Sought, Span, Taken};
 use teco_text::TextStore;
 
-/// What a search comes to.
+/// The outcome of a search.
 #[derive(Clone, Copy, Debug, PartialEq, Eq)]
 pub enum Finding {
     /// The text was found.
@@ -24,7 +27,7 @@ pub enum Finding {
     Missed,
 }
 
-/// What `N` and `FN` look for: a text, where an empty one means the last, and how many matches.
+/// The text that `N` and `FN` look for, where an empty one means the last, and how many matches.
 #[derive(Clone, Copy)]
 pub struct Wanted<'a> {
     pub text: &'a [u8],
@@ -79,8 +82,9 @@ fn read_pattern<T: TextStore>(
 ) -> Result<(), FindFault>
     ensures ok { OnOk result (model.pattern_of (model.search_text_of text.now editor.now) editor.now
         ≡ Ok last.new) }
-    ensures err { IfErr result (λ fault. Reads (Err fault)
-        (model.pattern_of (model.search_text_of text.now editor.now) editor.now)) }
+    ensures err { IfErr result (λ fault. FailsWith (memory_where IsOk)
+        (model.pattern_of (model.search_text_of text.now editor.now) editor.now)
+        (pattern_cause fault)) }
 {
     let text = if text.is_empty() {
         editor.search_text()
@@ -101,7 +105,8 @@ fn settle<T: TextStore>(
     found: Span,
 ) -> Result<(), Stuck>
     requires { IsPart editor.old.text found.start found.end }
-    ensures { Settles editor.old editor.new (model.kept_after search (seen element.now) found
+    ensures { Updates stuck_cause (memory_where IsDoneOrFull) editor.old editor.new
+        (model.kept_after search (seen element.now) found
         (record editor.old { search_text = model.search_text_of text.now editor.old })) result }
 {
     match search {
@@ -127,8 +132,10 @@ pub fn search<T: TextStore>(
     element: &Element<'_>,
     taken: Taken,
 ) -> Result<Finding, Stuck>
-    ensures { Searches element.now.text.now editor.old editor.new
+    ensures searches { Does stuck_cause (memory_where IsDoneOrFull)
+        (finding_seen element.now.text.now editor.old) editor.old editor.new
         (model.search search (seen element.now) taken editor.old) result }
+    ensures missed { result ≡ Ok Missed → editor.new ≡ editor.old }
 {
     let n = count(taken)?;
     if let Err(fault) = read_pattern(last, editor, element.text) {
@@ -160,11 +167,13 @@ pub fn look<T: TextStore>(
     wanted: &Wanted<'_>,
 ) -> Result<Option<u32>, Stuck>
     requires { 1 ≤ wanted.now.matches }
-    ensures looks { Looks editor.old editor.new (look_here search (seen element.now)
+    ensures looks { Does stuck_cause (memory_where IsDoneOrFull) here_seen editor.old editor.new
+        (look_here search (seen element.now)
         wanted.now.matches
         (record editor.old { search_text = model.search_text_of wanted.now.text.now editor.old }))
         result }
     ensures some { IfOk result (λ more. IfSome more (λ n. 1 ≤ n)) }
+    ensures wanted { IfOk result (λ more. IfSome more (λ _. editor.new ≡ editor.old)) }
 {
     if let Err(fault) = read_pattern(last, editor, wanted.text) {
         return Err(stuck(fault));

@@ -1,11 +1,12 @@
 //! Commands on registers.
-ghost use Rattle.std.specs.Prelude.{◌≡◌, true};
+ghost use Rattle.std.specs.Prelude.{◌≡◌, IsOk};
+ghost use Rattle.teco_base.specs.Does.{Does, Updates, memory_where};
 ghost use Rattle.teco_model.specs.Effect.{with_answer};
 ghost use Rattle.teco_model.specs.Element.{seen};
 ghost use Rattle.teco_model.specs.Memory.{command_grows, stack_grows};
 ghost use Rattle.teco_model.specs.Storage as model;
 ghost use Rattle.teco_model.specs.declared.kind.Command.TheVariants as command;
-ghost use Rattle.teco_editor.specs.Does.{DoesIfMemory, KeepsIfMemory};
+ghost use Rattle.teco_editor.specs.Commands.{effect_seen, growing_if, stuck_cause};
 
 use crate::editor::Editor;
 use crate::stuck::Stuck;
@@ -36,7 +37,7 @@ impl<T: TextStore> Editor<T> {
     // Stores a text in a register, or with a colon appends it.
     #[inline(never)]
     fn store_text(&mut self, colons: u8, reg: Reg, text: &[u8]) -> Result<Option<i32>, Stuck>
-        ensures { DoesIfMemory true self.old self.new
+        ensures { Does stuck_cause (memory_where IsOk) effect_seen self.old self.new
             (model.text_storage colons reg text.now self.old) result }
     {
         if colons == 0 {
@@ -50,7 +51,7 @@ impl<T: TextStore> Editor<T> {
     // Copies lines or a range of the buffer into a register.
     #[inline(never)]
     fn copy(&mut self, colons: u8, reg: Reg, taken: Taken) -> Result<Option<i32>, Stuck>
-        ensures { DoesIfMemory true self.old self.new
+        ensures { Does stuck_cause (memory_where IsOk) effect_seen self.old self.new
             (model.copy colons reg taken self.old) result }
     {
         let Span { start, end } = self.part(taken)?;
@@ -66,7 +67,8 @@ impl<T: TextStore> Editor<T> {
     // Inserts the text of a register, or with a colon types it.
     #[inline(never)]
     fn get(&mut self, colons: u8, reg: Reg) -> Result<Option<i32>, Stuck>
-        ensures { DoesIfMemory true self.old self.new (model.retrieval colons reg self.old) result }
+        ensures { Does stuck_cause (memory_where IsOk) effect_seen self.old self.new
+            (model.retrieval colons reg self.old) result }
     {
         if colons > 0 {
             self.keep_typed_cap(self.regs.text(reg).len())?;
@@ -83,7 +85,7 @@ impl<T: TextStore> Editor<T> {
     /// them off into a register.
     #[inline(never)]
     pub fn stack(&mut self, stack: Stack) -> Result<(), Stuck>
-        ensures { KeepsIfMemory (stack_grows stack) self.old self.new
+        ensures { Updates stuck_cause (growing_if (stack_grows stack)) self.old self.new
             (model.stack stack self.old) result }
     {
         match stack {
@@ -102,8 +104,8 @@ impl<T: TextStore> Editor<T> {
         element: &Element<'_>,
         taken: Taken,
     ) -> Result<Option<i32>, Stuck>
-        ensures { DoesIfMemory (command_grows (command.Storage storage)) self.old self.new
-            (model.storage storage (seen element.now) taken self.old) result }
+        ensures { Does stuck_cause (growing_if (command_grows (command.Storage storage)))
+            effect_seen self.old self.new (model.storage storage (seen element.now) taken self.old) result }
     {
         match storage {
             Storage::SetNumber(reg) => {

@@ -1,3 +1,4 @@
+//! Why a command is not executed.
 ghost use Rattle.std.specs.Prelude.{◌≡◌};
 ghost use Rattle.teco_editor.specs.declared.stuck.Stuck.TheVariants as stuck;
 ghost use Rattle.teco_editor.specs.Faults.{stuck_by, stuck_by_arguments, stuck_by_registers};

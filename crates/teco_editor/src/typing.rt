@@ -1,8 +1,9 @@
 //! Commands that type.
-ghost use Rattle.std.specs.Prelude.{◌≡◌, ◌++◌, true, Ok};
+ghost use Rattle.std.specs.Prelude.{◌≡◌, ◌++◌, IsOk, Ok};
+ghost use Rattle.teco_base.specs.Does.{Does, memory_where};
 ghost use Rattle.teco_model.specs.Element.{seen};
 ghost use Rattle.teco_model.specs.Typing as model;
-ghost use Rattle.teco_editor.specs.Does.{DoesIfMemory};
+ghost use Rattle.teco_editor.specs.Commands.{effect_seen, stuck_cause};
 
 use crate::editor::Editor;
 use crate::stuck::Stuck;
@@ -26,7 +27,7 @@ fn number_text(radix: Radix, n: i32) -> NumberText
 impl<T: TextStore> Editor<T> {
     // Types bytes.
     fn type_bytes(&mut self, bytes: &[u8]) -> Result<Option<i32>, Stuck>
-        ensures { DoesIfMemory true self.old self.new
+        ensures { Does stuck_cause (memory_where IsOk) effect_seen self.old self.new
             (Ok (model.typing_of bytes.now self.old)) result }
     {
         self.keep_typed_cap(bytes.len())?;
@@ -36,7 +37,7 @@ impl<T: TextStore> Editor<T> {
 
     // Types a number and, without a colon, the end of its line.
     fn type_number(&mut self, radix: Radix, n: i32, colons: u8) -> Result<Option<i32>, Stuck>
-        ensures { DoesIfMemory true self.old self.new
+        ensures { Does stuck_cause (memory_where IsOk) effect_seen self.old self.new
             (Ok (model.typing_of (model.number_text radix n ++ model.line_end colons) self.old))
             result }
     {
@@ -52,7 +53,8 @@ impl<T: TextStore> Editor<T> {
 
     // Types lines or a range of the buffer.
     fn type_part(&mut self, taken: Taken) -> Result<Option<i32>, Stuck>
-        ensures { DoesIfMemory true self.old self.new (model.part_typing taken self.old) result }
+        ensures { Does stuck_cause (memory_where IsOk) effect_seen self.old self.new
+            (model.part_typing taken self.old) result }
     {
         let part = self.part(taken)?;
         self.keep_typed_cap(part.end - part.start)?;
@@ -62,7 +64,8 @@ impl<T: TextStore> Editor<T> {
 
     // Types the lines round the pointer.
     fn view(&mut self, n: i32) -> Result<Option<i32>, Stuck>
-        ensures { DoesIfMemory true self.old self.new (Ok (model.view_typing n self.old)) result }
+        ensures { Does stuck_cause (memory_where IsOk) effect_seen self.old self.new
+            (Ok (model.view_typing n self.old)) result }
     {
         let first = self.lines(1 - i64::from(n));
         let second = self.lines(i64::from(n));
@@ -80,7 +83,7 @@ impl<T: TextStore> Editor<T> {
         element: &Element<'_>,
         taken: Taken,
     ) -> Result<Option<i32>, Stuck>
-        ensures { DoesIfMemory true self.old self.new
+        ensures { Does stuck_cause (memory_where IsOk) effect_seen self.old self.new
             (model.typing typing (seen element.now) taken self.old) result }
     {
         match typing {

@@ -23,7 +23,7 @@ use teco_applied::{
     Job, OneWork, Replaced, Subject, Task, read_subject, refuse_empty, refuse_subject, rewrite_by,
     say_findings,
 };
-use teco_apply::{Drops, Ending, NAME, Pages, Replaces};
+use teco_apply::{Drops, Ending, NAME, PageChoice, Replaces};
 use teco_base::bytes::{ESC, LF};
 use teco_console::{Console, Outcome, Premise, Sourced, Voice};
 use teco_pages::{Backup, Closed, Closing, FileHost, Handling, Host, ProcessFacts, System};
@@ -540,7 +540,7 @@ fn refuse_whole<E: Write + Drop>(voice: &mut Voice<E>, task: &Task<'_, '_>) -> O
 
 // Does a macro that turns pages itself edit whole files?
 fn is_lost(job: Job<'_>) -> bool {
-    matches!(job.task.pages, Pages::Whole) && job.turns_pages()
+    matches!(job.task.pages, PageChoice::Whole) && job.turns_pages()
 }
 
 // Edits files by a macro that was accepted.

@@ -2,7 +2,7 @@
 use crate::example::Example;
 use std::alloc::{AllocError, Global};
 use teco_applied::{Names, call, open_pages};
-use teco_apply::Pages;
+use teco_apply::PageChoice;
 use teco_base::{Code, Reg};
 use teco_console::Sourced;
 use teco_library::Library;
@@ -34,7 +34,7 @@ pub struct TextRun {
     /// How searches treat case as it begins.
     pub case: Option<LetterCase>,
     /// The pages that it is run on: the first, if it turns pages itself, and else all as one.
-    pub pages: Pages,
+    pub pages: PageChoice,
 }
 
 impl TextRun {
@@ -51,19 +51,19 @@ impl TextRun {
 }
 
 // The pages that a macro of a library is run on.
-fn pages_of(alloc: Global, sourced: &Sourced, entry: Reg) -> Pages {
+fn pages_of(alloc: Global, sourced: &Sourced, entry: Reg) -> PageChoice {
     match verified_by(alloc, &sourced.library, entry, sourced.method) {
         Ok(accepted) => pages_for(accepted.promise().needs()),
-        Err(_) => Pages::Whole,
+        Err(_) => PageChoice::Whole,
     }
 }
 
 // The pages that a macro is run on which needs these files.
-fn pages_for(needs: Needs) -> Pages {
+fn pages_for(needs: Needs) -> PageChoice {
     if needs.input || needs.output {
-        Pages::First
+        PageChoice::First
     } else {
-        Pages::Whole
+        PageChoice::Whole
     }
 }
 

@@ -9,7 +9,7 @@ use teco_base::{Code, Reg};
 use teco_console::{Console, Outcome, Request, Sourced, letters};
 use teco_edits::{Look, write_diff};
 use teco_explain::note_of_code;
-use teco_source::{Position, Shown, Source};
+use teco_source::{LineAndByte, Shown, Source};
 use teco_tools::{LetterCase, ToolFault};
 use teco_verdicts::read_library;
 
@@ -44,7 +44,7 @@ struct ExampleSite<'a> {
 impl fmt::Display for ExampleSite<'_> {
     fn fmt<W: fmt::Write>(&self, f: &mut fmt::Formatter<W>) -> fmt::Result {
         let name = Shown(self.source.name_at(self.place).as_bytes());
-        let Position { line, column } = self.source.position(self.place);
+        let LineAndByte { line, column } = self.source.position(self.place);
         write!(f, "{name}:{line}:{column}")
     }
 }

@@ -1,9 +1,8 @@
 -- A search through a list, from a place on.
-use Rattle.std.proofs.Common.{◌≡◌, ℕ, zero, suc, ◌+◌, List, [], ◌∷◌, drop, Bool, ◌||◌, Some, refl, ap, ◌∙◌, ◌==◌}
-use Rattle.std.proofs.Common.{true, slice_get, arith}
+use Rattle.teco_expansion.proofs.Prelude.{◌≡◌, ℕ, zero, suc, ◌+◌, List, [], ◌∷◌, drop, Bool, ◌||◌, Some, refl, ap, ◌∙◌}
+use Rattle.teco_expansion.proofs.Prelude.{true, slice_get, arith, list_any, is_open}
+use Rattle.std.proofs.Common.{◌==◌}
 use Rattle.std.proofs.lemmas.Bool.{eq-eqb}
-use Rattle.std.specs.List.{list_any}
-use Rattle.teco_verifier.specs.expansion.Expansion.{is_open}
 
 any_at : {X : Type 0} (p : X → Bool) (xs : List X) (k : ℕ) (x : X) → slice_get xs k ≡ Some x
     → list_any p (drop k xs) ≡ (p x || list_any p (drop (suc k) xs))

@@ -1,11 +1,10 @@
 -- The table of command strings has them.
-use Rattle.std.proofs.Common.{◌≡◌, refl, ℕ, zero, suc, ◌*◌, ◌<◌, List, take, drop, Bool, true, false, bytes_eq, ◌&&◌}
-use Rattle.std.proofs.Common.{codes, ⊎_elim, sym, ap, ◌∙◌, ◌≤◌, [], ◌∷◌, map, length, Option, None, Bor}
-use Rattle.std.proofs.Common.{slice_index_or, arith}
-use Rattle.std.specs.Option.{option_copied}
-use Rattle.teco_model.specs.Macros.{macro, call_of}
-use Rattle.std.proofs.lemmas.Bool.{cases_lt}
-use Rattle.std.proofs.lemmas.Slice.Eq.{bytes_eq-Decides}
+use Rattle.teco_expansion.proofs.Prelude.{◌≡◌, refl, ℕ, zero, suc, ◌*◌, ◌<◌, List, take, drop, Bool, true, false}
+use Rattle.teco_expansion.proofs.Prelude.{bytes_eq, ◌&&◌, ⊎_elim, sym, ap, ◌∙◌, ◌≤◌, [], ◌∷◌, map, length, Option, None}
+use Rattle.teco_expansion.proofs.Prelude.{arith, option_copied, macro, cases_lt, bytes_eq-Decides}
+use Rattle.std.proofs.Common.{codes, Bor}
+use Rattle.std.proofs.Common.{slice_index_or}
+use Rattle.teco_model.specs.Macros.{call_of}
 use Rattle.teco_base.specs.declared.TheConstants.{REGISTERS}
 
 abbrev pub calls : List ℕ

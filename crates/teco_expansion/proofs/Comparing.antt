@@ -1,14 +1,9 @@
 -- Comparisons, in whichever order.
-use Rattle.std.proofs.Common.{◌≡◌, ℕ, zero, suc, ◌+◌, ◌≤◌, List, [], ◌∷◌, map, drop, length, reverse, Bool, true}
-use Rattle.std.proofs.Common.{false, ◌&&◌, refl, sym, ap, ◌∙◌, slice_get, bytes_eq, arith}
+use Rattle.teco_expansion.proofs.Prelude.{◌≡◌, ℕ, zero, suc, ◌+◌, ◌≤◌, List, [], ◌∷◌, map, drop, length, reverse, Bool}
+use Rattle.teco_expansion.proofs.Prelude.{true, false, ◌&&◌, refl, sym, ap, ◌∙◌, slice_get, bytes_eq, arith, drop_all}
+use Rattle.teco_expansion.proofs.Prelude.{bytes_eq-Decides, same_spots, same_waiting, spot_seen, Spot, Texts}
 use Rattle.std.proofs.lemmas.Bool.Decides.{same_from_decides}
-use Rattle.std.proofs.lemmas.List.{reverse-reverse, drop_all}
-use Rattle.std.proofs.lemmas.Slice.Eq.{bytes_eq-Decides}
-use Rattle.teco_verifier.specs.expansion.Expansion.{same_spots}
-use Rattle.teco_expansion.specs.Same.{same_waiting}
-use Rattle.teco_expansion.specs.Seen.{spot_seen}
-use Rattle.teco_expansion.specs.declared.spot.Spot.{Spot}
-use Rattle.teco_expansion.specs.declared.texts.Texts.{Texts}
+use Rattle.std.proofs.lemmas.List.{reverse-reverse}
 
 turned : (xs ys : List ℕ) → reverse xs ≡ reverse ys → xs ≡ ys
 turned xs ys h = sym (reverse-reverse xs) ∙ ap reverse h ∙ reverse-reverse ys

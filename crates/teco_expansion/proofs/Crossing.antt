@@ -1,12 +1,8 @@
 -- What is crossed on a way, one reading after another.
-use Rattle.std.proofs.Common.{◌≡◌, ℕ, ◌<◌, List, length, true, false, nat_le, Some, None, refl}
-use Rattle.teco_base.specs.declared.code.Code.{Code}
-use Rattle.teco_model.specs.declared.skip.Pairs.TheVariants.{Iterations}
-use Rattle.teco_model.specs.Ahead.{Whole, Faulty, reading_at, readings}
-use Rattle.teco_model.specs.Element.{Element}
-use Rattle.teco_model.specs.Skip.{bracket}
-use Rattle.teco_model.proofs.Ahead.{readings-some, readings-none}
-use Rattle.teco_verifier.specs.expansion.Overlap.{Crossed, not_crossed, behind_bracket, crossed_to, crossed}
+use Rattle.teco_expansion.proofs.Prelude.{◌≡◌, ℕ, ◌<◌, List, length, true, false, nat_le, Some, None, refl, Code}
+use Rattle.teco_expansion.proofs.Prelude.{Iterations, Whole, Faulty, reading_at, readings, Element, bracket}
+use Rattle.teco_expansion.proofs.Prelude.{readings-some, readings-none, Crossed, not_crossed, behind_bracket}
+use Rattle.teco_expansion.proofs.Prelude.{crossed_to, crossed}
 use Rattle.teco_expansion.proofs.Elements.{none_behind}
 
 pub crossed-none : (to : ℕ) (c : Crossed) (text : List ℕ) (at : ℕ) → reading_at text at ≡ None →

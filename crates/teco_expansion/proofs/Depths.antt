@@ -1,13 +1,8 @@
 -- How many iterations are open in the texts that wait.
-use Rattle.std.proofs.Common.{◌≡◌, ℕ, zero, suc, ◌+◌, ◌≤◌, List, [], ◌∷◌, map, drop, length, refl, ap, ◌∙◌, slice_get}
-use Rattle.std.proofs.Common.{length-append, arith}
-use Rattle.std.proofs.lemmas.List.{drop_all}
-use Rattle.teco_verifier.specs.expansion.Position.{starts_in}
-use Rattle.teco_expansion.specs.Few.{listed}
+use Rattle.teco_expansion.proofs.Prelude.{◌≡◌, ℕ, zero, suc, ◌+◌, ◌≤◌, List, [], ◌∷◌, map, drop, length, refl, ap, ◌∙◌}
+use Rattle.teco_expansion.proofs.Prelude.{slice_get, length-append, arith, drop_all, starts_in, listed, spot_seen, Spot}
+use Rattle.teco_expansion.proofs.Prelude.{Texts}
 use Rattle.teco_expansion.specs.Linking.{open_in}
-use Rattle.teco_expansion.specs.Seen.{spot_seen}
-use Rattle.teco_expansion.specs.declared.spot.Spot.{Spot}
-use Rattle.teco_expansion.specs.declared.texts.Texts.{Texts}
 
 -- how many starts the callers from a place on have
 abbrev pub left_from : Texts → List Spot → ℕ → ℕ

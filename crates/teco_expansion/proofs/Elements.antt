@@ -1,12 +1,10 @@
 -- What is read of a text.
-use Rattle.std.proofs.Common.{◌≡◌, ℕ, ◌<◌, List, [], length, drop, true, Some, None, Ok, nat_le, refl, ap, ◌∙◌, arith}
-use Rattle.std.proofs.lemmas.Bool.{le-leb}
-use Rattle.std.proofs.lemmas.List.{drop_all}
-use Rattle.teco_model.specs.Ahead.{Whole, reading_at}
-use Rattle.teco_model.specs.Element.{Element, blank_len, blank_end, element_at}
+use Rattle.teco_expansion.proofs.Prelude.{◌≡◌, ℕ, ◌<◌, List, [], length, drop, true, Some, None, Ok, nat_le, refl, ap}
+use Rattle.teco_expansion.proofs.Prelude.{◌∙◌, arith, le-leb, drop_all, Whole, reading_at, Element, blank_end}
+use Rattle.teco_expansion.proofs.Prelude.{element_at, element_at-again, skip_of, skip_at}
+use Rattle.teco_model.specs.Element.{blank_len}
 use Rattle.teco_model.specs.Searching.{is_leave}
-use Rattle.teco_model.proofs.Ahead.{element_at-again}
-use Rattle.teco_model.specs.Skip.{no_skip, skip_of, skip_at}
+use Rattle.teco_model.specs.Skip.{no_skip}
 
 -- behind the end nothing is read
 pub none_behind : (text : List ℕ) (at : ℕ) → length text < at → element_at text at ≡ Ok None

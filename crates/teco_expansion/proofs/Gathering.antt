@@ -1,11 +1,8 @@
 -- Nodes, one after another.
-use Rattle.std.proofs.Common.{◌≡◌, ℕ, zero, suc, ◌+◌, ◌<◌, ◌≤◌, List, [], ◌∷◌, ◌++◌, map, drop, length, get_or}
-use Rattle.std.proofs.Common.{Result, Ok, Err, refl, sym, ap, ◌∙◌, append_assoc, arith}
-use Rattle.std.proofs.lemmas.List.{append-nil, drop_all, length-map}
-use Rattle.teco_verifier.specs.expansion.Expansion.{Visit, Walk, node_at, nodes_at}
-use Rattle.teco_model.specs.Macros.{Library}
-use Rattle.teco_verifier.specs.expansion.Node.{Node}
-use Rattle.teco_verifier.specs.expansion.Refusal.{Refusal, ◌>>=◌}
+use Rattle.teco_expansion.proofs.Prelude.{◌≡◌, ℕ, zero, suc, ◌+◌, ◌<◌, ◌≤◌, List, [], ◌∷◌, ◌++◌, map, drop, length}
+use Rattle.teco_expansion.proofs.Prelude.{get_or, Result, Ok, Err, refl, sym, ap, ◌∙◌, append_assoc, arith, append-nil}
+use Rattle.teco_expansion.proofs.Prelude.{drop_all, length-map, Visit, Walk, node_at, nodes_at, Library, Node, Refusal}
+use Rattle.teco_expansion.proofs.Prelude.{◌>>=◌}
 
 -- nodes before those that follow
 abbrev pub before : List Node → Result (List Node) Refusal → Result (List Node) Refusal

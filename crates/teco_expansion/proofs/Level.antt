@@ -1,29 +1,23 @@
 -- As many texts wait as registers are open, and as many iterations are open as the texts have; so there is room for
 -- one more.
-use Rattle.std.proofs.Common.{◌≡◌, ℕ, ◌≤◌, List, [], ◌∷◌, ◌++◌, map, drop, length, Bool, true, false, not, Option}
-use Rattle.std.proofs.Common.{Some, None, Ok, refl, sym, ap, ◌∙◌, subst, nat_le, ◌&&◌, length-append, length-drop}
-use Rattle.std.proofs.Common.{arith}
-use Rattle.std.proofs.lemmas.List.{length-map}
+use Rattle.teco_expansion.proofs.Prelude.{◌≡◌, ℕ, ◌≤◌, List, [], ◌∷◌, ◌++◌, map, drop, length, Bool, true, false, not}
+use Rattle.teco_expansion.proofs.Prelude.{Option, Some, None, Ok, refl, sym, ap, ◌∙◌, nat_le, ◌&&◌, length-append}
+use Rattle.teco_expansion.proofs.Prelude.{length-drop, arith, length-map, Kind, Element, Visit, is_within, next_visit}
+use Rattle.teco_expansion.proofs.Prelude.{Library, macro, Stand, Position, starts_in, depth, Reason, TooLarge, unless}
+use Rattle.teco_expansion.proofs.Prelude.{listed, HasRoom, spot_seen, visit_seen, Texts}
+use Rattle.std.proofs.Common.{subst}
 use Rattle.std.proofs.lemmas.Bool.{leb-true}
 use Rattle.teco_model.specs.declared.kind.Flow.TheVariants as flow
-use Rattle.teco_model.specs.declared.kind.Kind.{Kind}
 use Rattle.teco_model.specs.declared.kind.Kind.TheVariants as kind
-use Rattle.teco_model.specs.Element.{Element}
-use Rattle.teco_verifier.specs.expansion.Expansion.{Visit, MOST_OPEN, first_visit, open_behind_kind, visit_behind}
-use Rattle.teco_verifier.specs.expansion.Expansion.{is_recursion, is_within, next_visit}
-use Rattle.teco_model.specs.Macros.{Library, macro}
-use Rattle.teco_verifier.specs.expansion.Node.{Stand}
+use Rattle.teco_verifier.specs.expansion.Expansion.{MOST_OPEN, first_visit, open_behind_kind, visit_behind}
+use Rattle.teco_verifier.specs.expansion.Expansion.{is_recursion}
 use Rattle.teco_verifier.specs.expansion.Order.{position_in_text, position_behind_call, stand_behind_kind}
 use Rattle.teco_verifier.specs.expansion.Overlap.{overlaps}
-use Rattle.teco_verifier.specs.expansion.Position.{Spot, Position, starts_in, depth}
-use Rattle.teco_verifier.specs.expansion.Refusal.{Reason, Unpaired, Recursion, TooLarge, unless}
+use Rattle.teco_verifier.specs.expansion.Position.{Spot}
+use Rattle.teco_verifier.specs.expansion.Refusal.{Unpaired, Recursion}
 use Rattle.teco_verifier.specs.expansion.Ways.{read_at, end_ways, flow_ways, return_ways, call_ways, element_ways}
 use Rattle.teco_verifier.specs.expansion.Ways.{ways_at}
 use Rattle.teco_model.proofs.Chains.{bound, ok}
-use Rattle.teco_expansion.specs.Few.{listed}
-use Rattle.teco_expansion.specs.Room.{HasRoom}
-use Rattle.teco_expansion.specs.Seen.{spot_seen, visit_seen}
-use Rattle.teco_expansion.specs.declared.texts.Texts.{Texts}
 use Rattle.teco_expansion.specs.declared.visit.Visit as declared
 
 -- as many as

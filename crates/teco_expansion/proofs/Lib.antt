@@ -1,3 +1,4 @@
+mod Prelude
 mod Any
 mod Calls
 mod Comparing

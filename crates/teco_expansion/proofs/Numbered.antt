@@ -1,6 +1,6 @@
 -- The node of a number, among those that are seen.
-use Rattle.std.proofs.Common.{◌≡◌, ℕ, zero, suc, List, ◌∷◌, map, Option, Some, sym, ap, ◌∙◌, arith}
-use Rattle.teco_verifier.specs.expansion.Node.{numbered}
+use Rattle.teco_expansion.proofs.Prelude.{◌≡◌, ℕ, zero, suc, List, ◌∷◌, map, Option, Some, sym, ap, ◌∙◌, arith}
+use Rattle.teco_expansion.proofs.Prelude.{numbered}
 
 same : {X : Type 0} (x y : X) → Path (Option X) (Some x) (Some y) → x ≡ y
 same x y h = cc

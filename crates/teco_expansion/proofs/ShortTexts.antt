@@ -1,11 +1,10 @@
 -- The texts of an element are no longer than what it is read of.
-use Rattle.std.proofs.Common.{◌≡◌, ℕ, ◌≤◌, List, length, Option, Some, Result, Ok, Err, ap, ◌∙◌, arith, option_map}
-use Rattle.std.proofs.Common.{IfOk, rules}
+use Rattle.teco_expansion.proofs.Prelude.{◌≡◌, ℕ, ◌≤◌, List, length, Option, Some, Result, Ok, Err, ap, ◌∙◌, arith}
+use Rattle.teco_expansion.proofs.Prelude.{option_map, rules, Code, Element, seen, blank_end, element_at}
+use Rattle.std.proofs.Common.{IfOk}
 use Rattle.std.specs.Option.{ForSome}
 use Rattle.teco_lex.specs.Reading.{Gives}
-use Rattle.teco_base.specs.declared.code.Code.{Code}
 use Rattle.teco_model.specs.declared.element.Element as declared
-use Rattle.teco_model.specs.Element.{Element, seen, blank_end, element_at}
 use Rattle.teco_model.proofs.Standing.{found_read, text_within, second_within}
 
 text_short : (text : List ℕ) (at : ℕ) (e : Element) → element_at text at ≡ Ok (Some e) → length e.text ≤ length text

@@ -1,7 +1,6 @@
 -- Visits, step by step.
-use Rattle.std.proofs.Common.{◌≡◌, ℕ, Bool, true, false, not, Ok, Err, refl}
-use Rattle.teco_verifier.specs.expansion.Expansion.{Visit, is_within}
-use Rattle.teco_verifier.specs.expansion.Refusal.{TooLarge, unless, ◌>>=◌}
+use Rattle.teco_expansion.proofs.Prelude.{◌≡◌, ℕ, Bool, true, false, not, Ok, Err, refl, Visit, is_within, TooLarge}
+use Rattle.teco_expansion.proofs.Prelude.{unless, ◌>>=◌}
 use Rattle.teco_expansion.specs.Walks.{limited}
 
 within : (b : Bool) (v : Visit) → b ≡ true → unless (not b) TooLarge >>= (λ few. Ok v) ≡ Ok v

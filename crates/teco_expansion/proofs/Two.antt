@@ -1,9 +1,7 @@
 -- The numbers of two ways.
-use Rattle.std.proofs.Common.{◌≡◌, ℕ, List, [], ◌∷◌, Result, Ok, Err, ap, ◌∙◌}
-use Rattle.teco_verifier.specs.expansion.Expansion.{Visit, Walk, way_numbers}
-use Rattle.teco_model.specs.Macros.{Library}
-use Rattle.teco_verifier.specs.expansion.Position.{Position}
-use Rattle.teco_verifier.specs.expansion.Refusal.{Refusal, ◌>>=◌}
+use Rattle.teco_expansion.proofs.Prelude.{◌≡◌, ℕ, List, [], ◌∷◌, Result, Ok, Err, ap, ◌∙◌, Visit, Walk, Library}
+use Rattle.teco_expansion.proofs.Prelude.{Position, Refusal, ◌>>=◌}
+use Rattle.teco_verifier.specs.expansion.Expansion.{way_numbers}
 use Rattle.teco_expansion.specs.Linking.{way_number}
 
 after : (r : Result ℕ Refusal) (way : ℕ) (f : ℕ → Result (List ℕ) Refusal) → r ≡ Ok way → r >>= f ≡ f way

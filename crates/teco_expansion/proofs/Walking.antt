@@ -1,16 +1,10 @@
 -- The walk, from a visit on.
-use Rattle.std.proofs.Common.{◌≡◌, ℕ, zero, suc, ◌+◌, ◌<◌, List, [], ◌∷◌, ◌++◌, length, Option, Some, None, Result}
-use Rattle.std.proofs.Common.{Ok, Err, refl, sym, ap, ◌∙◌, append_assoc, map, arith}
-use Rattle.std.specs.Prelude.{All}
-use Rattle.std.proofs.lemmas.List.{map-append}
+use Rattle.teco_expansion.proofs.Prelude.{◌≡◌, ℕ, zero, suc, ◌+◌, ◌<◌, List, [], ◌∷◌, ◌++◌, length, Option, Some, None}
+use Rattle.teco_expansion.proofs.Prelude.{Result, Ok, Err, refl, sym, ap, ◌∙◌, append_assoc, map, arith, All}
+use Rattle.teco_expansion.proofs.Prelude.{map-append, Visit, Walk, next_visit, walk, Library, Reason, TooLarge, Refusal}
+use Rattle.teco_expansion.proofs.Prelude.{HasRoom, visit_seen, behind, Texts}
 use Rattle.std.proofs.lemmas.List.Elements.{All-append, All-cons}
-use Rattle.teco_verifier.specs.expansion.Expansion.{Visit, Walk, next_visit, refusal_at, walk_while, walk_behind, walk}
-use Rattle.teco_model.specs.Macros.{Library}
-use Rattle.teco_verifier.specs.expansion.Refusal.{Reason, TooLarge, Refusal}
-use Rattle.teco_expansion.specs.Room.{HasRoom}
-use Rattle.teco_expansion.specs.Seen.{visit_seen}
-use Rattle.teco_expansion.specs.Walks.{behind}
-use Rattle.teco_expansion.specs.declared.texts.Texts.{Texts}
+use Rattle.teco_verifier.specs.expansion.Expansion.{refusal_at, walk_while, walk_behind}
 use Rattle.teco_expansion.specs.declared.visit.Visit as declared
 
 -- visits that end with one, and why no others follow

@@ -7,7 +7,7 @@ use Rattle.teco_verifier.specs.expansion.Node as model
 use Rattle.teco_verifier.specs.expansion.Position as position
 use Rattle.teco_expansion.specs.declared.node.Node.{Node}
 use Rattle.teco_expansion.specs.declared.spot.Spot.{Spot}
-use Rattle.teco_expansion.specs.declared.spot.Position.{Position}
+use Rattle.teco_expansion.specs.declared.spot.TextPosition.{TextPosition}
 use Rattle.teco_expansion.specs.declared.spot.Stand.{Stand}
 use Rattle.teco_expansion.specs.declared.texts.Texts.{Texts}
 use Rattle.teco_expansion.specs.declared.visit.Visit.{Visit}
@@ -20,7 +20,7 @@ abbrev pub spot_seen : Texts → Spot → position.Spot
 spot_seen texts s =
     record { text = text_of texts s.register; place = s.place; starts = listed s.starts }
 
-abbrev pub position_seen : Texts → Position → position.Position
+abbrev pub position_seen : Texts → TextPosition → position.Position
 position_seen texts p = record {
   running = spot_seen texts p.running;
   callers = map (spot_seen texts) (listed p.callers);

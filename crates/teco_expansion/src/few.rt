@@ -8,33 +8,33 @@ use std::alloc::AllocError;
 pub const ROOM: usize = 7;
 
 /// A list of a few; what is at its front stands last in the array.
-pub struct Few<T: Copy> {
+pub struct OpenList<T: Copy> {
     items: [T; ROOM],
     len: usize,
     ghost whole: { length items ≡ ROOM },
     ghost within: { len ≤ ROOM },
 }
 
-impl<T: Copy> Copy for Few<T> {}
+impl<T: Copy> Copy for OpenList<T> {}
 
-impl<T: Copy> Clone for Few<T> {
+impl<T: Copy> Clone for OpenList<T> {
     ghost is_clone = { λ few copy. copy ≡ few };
 
     ghost is_infallible = { λ few. ⊤ };
 
-    fn clone(&self) -> Result<Few<T>, AllocError> {
+    fn clone(&self) -> Result<OpenList<T>, AllocError> {
         Ok(*self)
     }
 }
 
-impl<T: Copy> Few<T> {
+impl<T: Copy> OpenList<T> {
     ghost use Rattle.teco_expansion.specs.Few.{listed};
 
     /// An empty list, with something to fill its places.
-    pub fn empty(filler: T) -> Few<T>
+    pub fn empty(filler: T) -> OpenList<T>
         ensures { listed result ≡ [] }
     {
-        Few {
+        OpenList {
             items: [filler; ROOM],
             len: 0,
         }
@@ -49,13 +49,13 @@ impl<T: Copy> Few<T> {
     }
 
     /// The list with one more at its front.
-    pub fn with(self, item: T) -> Few<T>
+    pub fn with(self, item: T) -> OpenList<T>
         requires { length (listed self) < ROOM }
         ensures { listed result ≡ item ∷ listed self }
     {
         let mut items = self.items;
         items[self.len] = item;
-        Few {
+        OpenList {
             items,
             len: self.len + 1,
         }
@@ -81,10 +81,10 @@ impl<T: Copy> Few<T> {
     }
 
     /// The list without so many at its front.
-    pub fn without(self, count: usize) -> Few<T>
+    pub fn without(self, count: usize) -> OpenList<T>
         ensures { listed result ≡ drop count (listed self) }
     {
-        Few {
+        OpenList {
             items: self.items,
             len: self.len.saturating_sub(count),
         }

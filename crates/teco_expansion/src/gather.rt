@@ -10,14 +10,14 @@ ghost use Rattle.teco_expansion.specs.Seen.{stand_seen, visit_seen, node_seen};
 ghost use Rattle.teco_expansion.specs.Texts.{library_of};
 ghost use Rattle.teco_expansion.specs.Walks.{walk_seen};
 
-use crate::few::Few;
+use crate::few::OpenList;
 use crate::link::{Link, base_of, way_numbers};
 use crate::names::names_macro;
 use crate::node::Node;
 use crate::nodes::Nodes;
 use crate::reading::read_at;
-use crate::refusal::{ExpandFault, Refusal};
-use crate::spot::{Position, Spot, Stand};
+use crate::refusal::{ExpandFault, PlacedReason};
+use crate::spot::{Spot, Stand, TextPosition};
 use crate::steps::{refusal_at, register_at};
 use crate::texts::Texts;
 use crate::visit::Visit;
@@ -31,13 +31,13 @@ use teco_library::Library;
 fn over(texts: &Texts<'_>) -> Stand
     ensures { stand_seen texts.now result ≡ node.over texts.now.entry }
 {
-    let spot = Spot::at(texts, None, 2, Few::empty(0));
+    let spot = Spot::at(texts, None, 2, OpenList::empty(0));
     Stand {
-        position: Position {
+        position: TextPosition {
             running: spot,
-            callers: Few::empty(spot),
+            callers: OpenList::empty(spot),
         },
-        iterations: Few::empty(0),
+        iterations: OpenList::empty(0),
     }
 }
 
@@ -61,7 +61,7 @@ fn node_at(
     stands: &[Stand],
     number: usize,
     visit: &Visit,
-) -> Result<Node, Refusal>
+) -> Result<Node, PlacedReason>
     requires stands { AreStandsOf texts.now walk.now stands.now }
     requires room { HasRoom visit.now }
     ensures { Answers (node_seen texts.now) result

@@ -23,4 +23,4 @@ mod ways;
 
 pub use gather::expand;
 pub use nodes::Nodes;
-pub use refusal::{ExpandFault, Reason, Refusal};
+pub use refusal::{ExpandFault, ExpandReason, PlacedReason};

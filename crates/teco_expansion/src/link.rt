@@ -11,10 +11,10 @@ ghost use Rattle.teco_expansion.specs.Seen.{position_seen, stand_seen, visit_see
 ghost use Rattle.teco_expansion.specs.Walks.{walk_seen};
 ghost use Rattle.teco_expansion.specs.declared.few.TheConstants.{ROOM};
 
-use crate::few::{Few, ROOM};
-use crate::refusal::{Reason, Refusal};
+use crate::few::{OpenList, ROOM};
+use crate::refusal::{ExpandReason, PlacedReason};
 use crate::same::{same_place, same_stand};
-use crate::spot::{Position, Spot, Stand};
+use crate::spot::{Spot, Stand, TextPosition};
 use crate::steps::refusal_at;
 use crate::texts::Texts;
 use crate::visit::Visit;
@@ -36,7 +36,7 @@ fn open_in(caller: Option<Spot>) -> usize
 
 // How many iterations are open, in the texts that wait too.
 #[tactic(auto, using(crate::proofs::Depths::left_at))]
-fn depth(texts: &Texts<'_>, position: &Position) -> usize
+fn depth(texts: &Texts<'_>, position: &TextPosition) -> usize
     ensures { result ≡ places.depth (position_seen texts.now position.now) }
 {
     let mut count = position.running.starts.len();
@@ -47,7 +47,7 @@ fn depth(texts: &Texts<'_>, position: &Position) -> usize
 }
 
 // Where a way leads from the node of a number.
-fn stand_at(texts: &Texts<'_>, number: usize, from: &Stand, target: &Position) -> Stand
+fn stand_at(texts: &Texts<'_>, number: usize, from: &Stand, target: &TextPosition) -> Stand
     requires { length (listed from.now.iterations) < ROOM }
     ensures { stand_seen texts.now result
         ≡ node.stand_at number (stand_seen texts.now from.now)
@@ -79,7 +79,7 @@ fn number_behind(texts: &Texts<'_>, number: usize, stands: &[Stand], stand: &Sta
 }
 
 // Is it at the same place?
-fn is_at(texts: &Texts<'_>, position: &Position, stand: &Stand) -> bool
+fn is_at(texts: &Texts<'_>, position: &TextPosition, stand: &Stand) -> bool
     ensures { result ≡ model.same_place (position_seen texts.now position.now)
         (stand_seen texts.now stand.now).position }
 {
@@ -87,7 +87,7 @@ fn is_at(texts: &Texts<'_>, position: &Position, stand: &Stand) -> bool
 }
 
 // Does any behind a number stand at the same place?
-fn any_place(texts: &Texts<'_>, number: usize, stands: &[Stand], position: &Position) -> bool
+fn any_place(texts: &Texts<'_>, number: usize, stands: &[Stand], position: &TextPosition) -> bool
     ensures { result ≡ has_place number (map (stand_seen texts.now) stands.now)
         (position_seen texts.now position.now) }
 {
@@ -111,13 +111,13 @@ pub struct Link<'a> {
 }
 
 // Why a way leads nowhere: pairs overlap, or the walk was refused before it came there.
-fn refusal_of_way(link: &Link<'_>, first: usize, stand: &Stand) -> Refusal
+fn refusal_of_way(link: &Link<'_>, first: usize, stand: &Stand) -> PlacedReason
     ensures { refusal_seen result ≡ model.refusal_of_way first
         (map (stand_seen link.now.texts.now) link.now.stands.now)
         (option_map refusal_seen link.now.walk.now.refusal)
         (overlap_of link.now) (stand_seen link.now.texts.now stand.now) }
 {
-    let overlap = refusal_at(link.texts, link.visit, Reason::Unpaired);
+    let overlap = refusal_at(link.texts, link.visit, ExpandReason::Unpaired);
     if any_place(link.texts, first, link.stands, &stand.position) {
         return overlap;
     }
@@ -125,7 +125,11 @@ fn refusal_of_way(link: &Link<'_>, first: usize, stand: &Stand) -> Refusal
 }
 
 // The number that one way leads to.
-fn number_of_way(link: &Link<'_>, first: usize, target: &Position) -> Result<usize, Refusal>
+fn number_of_way(
+    link: &Link<'_>,
+    first: usize,
+    target: &TextPosition,
+) -> Result<usize, PlacedReason>
     requires { IsLink link.now }
     ensures { Answers (λ way. way) result
         (way_number link.now.texts.now.entry (walk_seen link.now.texts.now link.now.walk.now)
@@ -141,25 +145,33 @@ fn number_of_way(link: &Link<'_>, first: usize, target: &Position) -> Result<usi
 
 // The number of the only way that is left.
 #[tactic(auto, unfolding(teco_verifier::specs::expansion::Expansion::way_numbers))]
-fn last_number(link: &Link<'_>, first: usize, target: &Position) -> Result<Few<usize>, Refusal>
+fn last_number(
+    link: &Link<'_>,
+    first: usize,
+    target: &TextPosition,
+) -> Result<OpenList<usize>, PlacedReason>
     requires { IsLink link.now }
     ensures value { Answers listed result
         (numbers_of first (position_seen link.now.texts.now target.now ∷ []) link.now) }
     ensures few { IfOk result (λ ways. length (listed ways) ≡ 1) }
 {
     let way = number_of_way(link, first, target)?;
-    Ok(Few::empty(0).with(way))
+    Ok(OpenList::empty(0).with(way))
 }
 
 /// The numbers that ways lead to, the first of them behind a number of its own.
 #[tactic(auto, unfolding(teco_verifier::specs::expansion::Expansion::way_numbers))]
-pub fn way_numbers(link: &Link<'_>, first: usize, ways: &Ways) -> Result<Few<usize>, Refusal>
+pub fn way_numbers(
+    link: &Link<'_>,
+    first: usize,
+    ways: &Ways,
+) -> Result<OpenList<usize>, PlacedReason>
     requires { IsLink link.now }
     ensures { Answers listed result
         (numbers_of first (ways_seen link.now.texts.now ways.now) link.now) }
 {
     match ways {
-        Ways::End => Ok(Few::empty(0)),
+        Ways::End => Ok(OpenList::empty(0)),
         Ways::One(target) => last_number(link, first, target),
         Ways::Two(one, other) => {
             let way = number_of_way(link, first, one)?;
@@ -172,7 +184,7 @@ pub fn way_numbers(link: &Link<'_>, first: usize, ways: &Ways) -> Result<Few<usi
 }
 
 /// The number behind which the first way leads.
-pub fn base_of(read: &Option<Element<'_>>, number: usize, iterations: &Few<usize>) -> usize
+pub fn base_of(read: &Option<Element<'_>>, number: usize, iterations: &OpenList<usize>) -> usize
     ensures { result ≡ node.base_of (option_map seen read.now) number (listed iterations.now) }
 {
     let Some(element) = read else {

@@ -1,5 +1,5 @@
 //! One node.
-use crate::few::Few;
+use crate::few::OpenList;
 use crate::spot::Stand;
 
 /// Where it stands, the place of the register whose text that is, and the numbers that its ways
@@ -8,6 +8,6 @@ use crate::spot::Stand;
 pub struct Node {
     pub stand: Stand,
     pub register: usize,
-    pub ways: Few<usize>,
+    pub ways: OpenList<usize>,
     pub names_macro: bool,
 }

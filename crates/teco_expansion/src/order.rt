@@ -9,14 +9,14 @@ ghost use Rattle.teco_expansion.specs.Texts.{library_of};
 ghost use Rattle.teco_expansion.specs.declared.few.TheConstants.{ROOM};
 ghost use Rattle.teco_expansion.specs.declared.texts.Texts.{Texts};
 
-use crate::spot::{Position, Stand};
+use crate::spot::{Stand, TextPosition};
 use crate::texts::Texts;
 use crate::ways::{called, past};
 use teco_model::Element;
 use teco_model::kind::{Flow, Kind};
 
 // The stand of another position.
-fn stand_with(position: Position, from: &Stand) -> Stand
+fn stand_with(position: TextPosition, from: &Stand) -> Stand
     ensures { (texts : Texts) → stand_seen texts result
         ≡ record (stand_seen texts from.now) { position = position_seen texts position } }
 {
@@ -57,8 +57,8 @@ fn position_in_text(
     register: usize,
     texts: &Texts<'_>,
     element: &Element<'_>,
-    position: &Position,
-) -> Position
+    position: &TextPosition,
+) -> TextPosition
     requires { length (listed position.now.callers) < ROOM }
     ensures { position_seen texts.now result
         ≡ order.position_in_text (macro (library_of texts.now) register) (seen element.now)
@@ -72,14 +72,14 @@ fn position_in_text(
 }
 
 // A return is followed by what stands behind the call.
-fn position_behind_call(position: &Position) -> Position
+fn position_behind_call(position: &TextPosition) -> TextPosition
     ensures { (texts : Texts) → position_seen texts result
         ≡ order.position_behind_call (map (spot_seen texts) (listed position.now.callers))
         (position_seen texts position.now) }
 {
     match position.callers.get(0) {
         None => *position,
-        Some(caller) => Position {
+        Some(caller) => TextPosition {
             running: caller,
             callers: position.callers.without(1),
         },

@@ -9,7 +9,7 @@ ghost use Rattle.teco_expansion.specs.Crossed.{crossed_seen};
 ghost use Rattle.teco_expansion.specs.Seen.{spot_seen, position_seen, ways_seen};
 ghost use Rattle.teco_expansion.specs.Texts.{text_of};
 
-use crate::spot::{Position, Spot};
+use crate::spot::{Spot, TextPosition};
 use crate::texts::Texts;
 use crate::ways::{Ways, skip_at};
 use teco_lex::{Reading, Readings, bracket};
@@ -182,7 +182,7 @@ pub fn overlaps(
     texts: &Texts<'_>,
     read: &Option<Element<'_>>,
     ways: &Ways,
-    position: &Position,
+    position: &TextPosition,
 ) -> bool
     requires { element_at (text_of texts.now position.now.running.register)
         position.now.running.place ≡ Ok (option_map seen read.now) }

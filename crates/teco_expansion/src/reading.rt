@@ -14,8 +14,8 @@ ghost use Rattle.teco_expansion.specs.Refused.{Passes};
 ghost use Rattle.teco_expansion.specs.Seen.{read_of, position_seen};
 ghost use Rattle.teco_expansion.specs.Texts.{text_of};
 
-use crate::refusal::Reason;
-use crate::spot::Position;
+use crate::refusal::ExpandReason;
+use crate::spot::TextPosition;
 use crate::texts::Texts;
 use teco_base::Code;
 use teco_find::minimum;
@@ -96,21 +96,21 @@ pub fn skip_from(text: &[u8], at: usize) -> Skip
 }
 
 // A search text says a pattern.
-fn check_pattern(element: &Element<'_>) -> Result<(), Reason>
+fn check_pattern(element: &Element<'_>) -> Result<(), ExpandReason>
     ensures { Passes result (ways.as_fault
         (ways.pattern_parts element.now.kind element.now.text.now)) }
 {
     match element.kind {
         Kind::Search(_) => match minimum(element.text) {
             Ok(_) => Ok(()),
-            Err(_) => Err(Reason::Fault),
+            Err(_) => Err(ExpandReason::Fault),
         },
         _ => Ok(()),
     }
 }
 
 // What is read stays, if its search text says a pattern.
-fn check(read: &Option<Element<'_>>) -> Result<(), Reason>
+fn check(read: &Option<Element<'_>>) -> Result<(), ExpandReason>
     ensures { refused.Gives (λ _. option_map seen read.now) result
         (ways.sound (option_map seen read.now)) }
 {
@@ -122,7 +122,10 @@ fn check(read: &Option<Element<'_>>) -> Result<(), Reason>
 
 /// What is read at a position: an element, or the end of the text.
 #[tactic(auto, unfolding(teco_verifier::specs::expansion::Ways::read_at))]
-pub fn read_at<'a>(texts: &Texts<'a>, position: &Position) -> Result<Option<Element<'a>>, Reason>
+pub fn read_at<'a>(
+    texts: &Texts<'a>,
+    position: &TextPosition,
+) -> Result<Option<Element<'a>>, ExpandReason>
     ensures read { refused.Gives (option_map seen) result
         (ways.read_at (position_seen texts.now position.now)) }
     ensures element { IfOk result (λ read. element_at
@@ -135,6 +138,6 @@ pub fn read_at<'a>(texts: &Texts<'a>, position: &Position) -> Result<Option<Elem
             check(&read)?;
             Ok(read)
         }
-        Err(_) => Err(Reason::Fault),
+        Err(_) => Err(ExpandReason::Fault),
     }
 }

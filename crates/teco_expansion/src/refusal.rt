@@ -6,7 +6,7 @@ use std::alloc::AllocError;
 
 /// Why a library is not expanded.
 #[derive(Clone, Copy)]
-pub enum Reason {
+pub enum ExpandReason {
     /// An element, or a search text, has a fault.
     Fault,
     /// A bracket, a pipe or a tag has no partner, or pairs overlap.
@@ -21,8 +21,8 @@ pub enum Reason {
 
 /// A reason, and the register and the place of the element that has it.
 #[derive(Clone, Copy)]
-pub struct Refusal {
-    pub reason: Reason,
+pub struct PlacedReason {
+    pub reason: ExpandReason,
     pub register: usize,
     pub place: usize,
 }
@@ -31,7 +31,7 @@ pub struct Refusal {
 #[derive(Clone, Copy)]
 pub enum ExpandFault {
     /// The definition refuses the library.
-    Refused(Refusal),
+    Refused(PlacedReason),
     /// A growth was refused.
     Memory,
 }

@@ -6,13 +6,13 @@ ghost use Rattle.teco_expansion.specs.Same.{same_waiting};
 ghost use Rattle.teco_expansion.specs.Seen.{spot_seen, position_seen, stand_seen};
 ghost use Rattle.teco_expansion.specs.Texts.{text_of};
 
-use crate::few::{Few, ROOM};
-use crate::spot::{Position, Spot, Stand};
+use crate::few::{OpenList, ROOM};
+use crate::spot::{Spot, Stand, TextPosition};
 use crate::texts::Texts;
 
 // Do both lists have the same numbers in the same order?
 #[tactic(auto, using(crate::proofs::Comparing::reversed))]
-fn same_numbers(first: &Few<usize>, second: &Few<usize>) -> bool
+fn same_numbers(first: &OpenList<usize>, second: &OpenList<usize>) -> bool
     ensures { result ≡ bytes_eq (listed first.now) (listed second.now) }
 {
     first.as_slice() == second.as_slice()
@@ -52,7 +52,7 @@ fn same_caller(texts: &Texts<'_>, first: Option<Spot>, second: Option<Spot>) -> 
 }
 
 // Do the same texts wait, as they stand?
-fn same_callers(texts: &Texts<'_>, first: &Few<Spot>, second: &Few<Spot>) -> bool
+fn same_callers(texts: &Texts<'_>, first: &OpenList<Spot>, second: &OpenList<Spot>) -> bool
     ensures { result ≡ model.same_spots (map (spot_seen texts.now) (listed first.now))
         (map (spot_seen texts.now) (listed second.now)) }
 {
@@ -77,7 +77,7 @@ pub fn same_stand(texts: &Texts<'_>, first: &Stand, second: &Stand) -> bool
 
 /// Do both stand at the same place in the texts, whichever iterations are open there?
 #[tactic(auto, using(crate::proofs::Comparing::place_first))]
-pub fn same_place(texts: &Texts<'_>, first: &Position, second: &Position) -> bool
+pub fn same_place(texts: &Texts<'_>, first: &TextPosition, second: &TextPosition) -> bool
     ensures { result ≡ model.same_place (position_seen texts.now first.now)
         (position_seen texts.now second.now) }
 {

@@ -11,12 +11,12 @@ ghost use Rattle.teco_expansion.specs.Walks.{limited};
 ghost use Rattle.teco_expansion.specs.declared.few.TheConstants.{ROOM};
 ghost use Rattle.teco_expansion.specs.declared.texts.Texts.{Texts};
 
-use crate::few::Few;
+use crate::few::OpenList;
 use crate::order::stand_behind;
 use crate::overlap::overlaps;
 use crate::reading::read_at;
-use crate::refusal::{Reason, Refusal};
-use crate::spot::{Position, Spot, Stand};
+use crate::refusal::{ExpandReason, PlacedReason};
+use crate::spot::{Spot, Stand, TextPosition};
 use crate::texts::Texts;
 use crate::visit::Visit;
 use crate::ways::ways_at;
@@ -30,7 +30,7 @@ pub const MOST_ELEMENTS: usize = 4096;
 pub const MOST_OPEN: usize = 6;
 
 // The registers whose texts are open behind what is read.
-fn open_behind(read: &Option<Element<'_>>, registers: Few<usize>) -> Few<usize>
+fn open_behind(read: &Option<Element<'_>>, registers: OpenList<usize>) -> OpenList<usize>
     requires { length (listed registers) < ROOM }
     ensures { listed result ≡ model.open_behind (option_map seen read.now) (listed registers) }
 {
@@ -63,7 +63,7 @@ fn visit_behind(
 
 // Is the text of a register open?
 #[tactic(auto, using(crate::proofs::Any::any_from, crate::proofs::Any::open_at))]
-fn is_open(register: usize, registers: &Few<usize>) -> bool
+fn is_open(register: usize, registers: &OpenList<usize>) -> bool
     ensures { result ≡ model.is_open register (listed registers.now) }
 {
     for at in 0..registers.len() {
@@ -77,7 +77,7 @@ fn is_open(register: usize, registers: &Few<usize>) -> bool
 }
 
 // A call of a register whose text is open is a recursion.
-fn is_recursion(read: &Option<Element<'_>>, registers: &Few<usize>) -> bool
+fn is_recursion(read: &Option<Element<'_>>, registers: &OpenList<usize>) -> bool
     ensures { result ≡ model.is_recursion (option_map seen read.now) (listed registers.now) }
 {
     match read {
@@ -99,19 +99,19 @@ fn is_within(number: usize, next: &Visit) -> bool
 }
 
 // A visit that is within what there may be.
-fn limited(texts: &Texts<'_>, number: usize, next: Visit) -> Result<Visit, Reason>
+fn limited(texts: &Texts<'_>, number: usize, next: Visit) -> Result<Visit, ExpandReason>
     ensures { Gives (visit_seen texts.now) result (limited number (visit_seen texts.now next)) }
 {
     if is_within(number, &next) {
         Ok(next)
     } else {
-        Err(Reason::TooLarge)
+        Err(ExpandReason::TooLarge)
     }
 }
 
 /// The visit that follows one of a number, or why it is refused.
 #[tactic(auto, unfolding(teco_verifier::specs::expansion::Expansion::next_visit))]
-pub fn next_visit(texts: &Texts<'_>, number: usize, visit: &Visit) -> Result<Visit, Reason>
+pub fn next_visit(texts: &Texts<'_>, number: usize, visit: &Visit) -> Result<Visit, ExpandReason>
     requires { HasRoom visit.now }
     ensures { Gives (visit_seen texts.now) result
         (model.next_visit (library_of texts.now) number (visit_seen texts.now visit.now)) }
@@ -123,10 +123,10 @@ pub fn next_visit(texts: &Texts<'_>, number: usize, visit: &Visit) -> Result<Vis
     };
     let ways = ways_at(texts, &read, position)?;
     if overlaps(texts, &read, &ways, position) {
-        return Err(Reason::Unpaired);
+        return Err(ExpandReason::Unpaired);
     }
     if is_recursion(&read, &visit.registers) {
-        return Err(Reason::Recursion);
+        return Err(ExpandReason::Recursion);
     }
     limited(texts, number, visit_behind(texts, number, &read, visit))
 }
@@ -138,13 +138,13 @@ pub fn first_visit(texts: &Texts<'_>) -> Visit
     let start = Spot::beginning(texts, None);
     Visit {
         stand: Stand {
-            position: Position {
+            position: TextPosition {
                 running: start,
-                callers: Few::empty(start),
+                callers: OpenList::empty(start),
             },
-            iterations: Few::empty(0),
+            iterations: OpenList::empty(0),
         },
-        registers: Few::empty(texts.entry),
+        registers: OpenList::empty(texts.entry),
     }
 }
 
@@ -159,11 +159,11 @@ pub fn register_at(texts: &Texts<'_>, visit: &Visit) -> usize
 }
 
 /// A reason with the place of a visit.
-pub fn refusal_at(texts: &Texts<'_>, visit: &Visit, reason: Reason) -> Refusal
+pub fn refusal_at(texts: &Texts<'_>, visit: &Visit, reason: ExpandReason) -> PlacedReason
     ensures { refusal_seen result ≡ model.refusal_at texts.now.entry
         (visit_seen texts.now visit.now) (reason_seen reason) }
 {
-    Refusal {
+    PlacedReason {
         reason,
         register: register_at(texts, visit),
         place: visit.stand.position.running.place,

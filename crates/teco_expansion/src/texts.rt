@@ -12,7 +12,7 @@ ghost use Rattle.teco_expansion.specs.Scanned.{IsGapOf, IsKeptOf};
 ghost use Rattle.teco_scan.specs.Skips.{crossing, IsStepOf};
 
 use crate::gaps::{Gap, gap_at, keep_gaps};
-use crate::kept::{Kept, keep_steps, kept_at};
+use crate::kept::{KeptStep, keep_steps, kept_at};
 use crate::reading::place_behind_blanks;
 use crate::steps::MOST_ELEMENTS;
 use std::alloc::{AllocError, Global};
@@ -33,7 +33,7 @@ static CALLS: [u8; 72] =
 pub struct Texts<'a> {
     texts: [Option<&'a [u8]>; REGISTERS],
     pub entry: usize,
-    kept: &'a [Kept],
+    kept: &'a [KeptStep],
     gaps: &'a [Gap],
     ghost whole: { length texts ≡ REGISTERS },
     ghost short: { All (λ text. ForSome text (λ shown. length shown.now ≤ LIMIT)) texts },
@@ -116,7 +116,7 @@ fn called_from(texts: &[Option<&[u8]>], entry: usize) -> [bool; REGISTERS]
 fn keep_text(
     alloc: Global,
     texts: &[Option<&[u8]>],
-    kept: &mut Vec<Kept>,
+    kept: &mut Vec<KeptStep>,
     register: usize,
 ) -> Result<(), AllocError>
     requires { All (λ text. ForSome text (λ shown. length shown.now ≤ LIMIT)) texts.now }
@@ -131,7 +131,11 @@ fn keep_text(
 }
 
 /// What is kept of each register whose text may be called.
-fn kept_of(alloc: Global, texts: &[Option<&[u8]>], entry: usize) -> Result<Vec<Kept>, AllocError>
+fn kept_of(
+    alloc: Global,
+    texts: &[Option<&[u8]>],
+    entry: usize,
+) -> Result<Vec<KeptStep>, AllocError>
     requires short { All (λ text. ForSome text (λ shown. length shown.now ≤ LIMIT)) texts.now }
     requires register { entry < REGISTERS }
     ensures { IfOk result (λ kept. All (IsKeptOf (map option_copied texts.now)) kept.items) }
@@ -183,7 +187,7 @@ impl<'a> Texts<'a> {
     }
 
     /// Where the first elements of the texts jump ahead that may be called.
-    pub fn jumps(&self, alloc: Global) -> Result<Vec<Kept>, AllocError>
+    pub fn jumps(&self, alloc: Global) -> Result<Vec<KeptStep>, AllocError>
         ensures { IfOk result (λ kept. All (IsKeptOf (library_of self.now)) kept.items) }
     {
         kept_of(alloc, &self.texts, self.entry)
@@ -197,7 +201,7 @@ impl<'a> Texts<'a> {
     }
 
     /// These texts, with what is kept of them.
-    pub fn with_kept(&self, kept: &'a [Kept], gaps: &'a [Gap]) -> Texts<'a>
+    pub fn with_kept(&self, kept: &'a [KeptStep], gaps: &'a [Gap]) -> Texts<'a>
         requires jumps { All (IsKeptOf (library_of self.now)) kept.now }
         requires gaps { All (IsGapOf (library_of self.now)) gaps.now }
         ensures library { library_of result ≡ library_of self.now }

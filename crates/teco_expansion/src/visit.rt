@@ -1,5 +1,5 @@
 //! What is visited on the walk through the texts.
-use crate::few::Few;
+use crate::few::OpenList;
 use crate::spot::Stand;
 
 /// Where it stands, and the places of the registers whose texts are open there, the innermost
@@ -7,5 +7,5 @@ use crate::spot::Stand;
 #[derive(Clone, Copy)]
 pub struct Visit {
     pub stand: Stand,
-    pub registers: Few<usize>,
+    pub registers: OpenList<usize>,
 }

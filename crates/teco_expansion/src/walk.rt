@@ -5,7 +5,7 @@ ghost use Rattle.teco_expansion.specs.Room.{HasRoom};
 ghost use Rattle.teco_expansion.specs.Texts.{library_of};
 ghost use Rattle.teco_expansion.specs.Walks.{walk_seen};
 
-use crate::refusal::{Reason, Refusal};
+use crate::refusal::{ExpandReason, PlacedReason};
 use crate::steps::{MOST_ELEMENTS, first_visit, next_visit, refusal_at};
 use crate::texts::Texts;
 use crate::visit::Visit;
@@ -15,7 +15,7 @@ use std::alloc::{AllocError, Global};
 #[derive(Drop)]
 pub struct Walk {
     pub visits: Vec<Visit>,
-    pub refusal: Option<Refusal>,
+    pub refusal: Option<PlacedReason>,
 }
 
 /// The walk up to the return of the entry or to a refusal.
@@ -45,6 +45,6 @@ pub fn whole_walk(alloc: Global, texts: &Texts<'_>) -> Result<Walk, AllocError>
         }
     }
     visits.push(visit)?;
-    let refusal = Some(refusal_at(texts, &visit, Reason::TooLarge));
+    let refusal = Some(refusal_at(texts, &visit, ExpandReason::TooLarge));
     Ok(Walk { visits, refusal })
 }

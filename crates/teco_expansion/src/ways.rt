@@ -14,10 +14,10 @@ ghost use Rattle.teco_expansion.specs.Seen.{spot_seen, position_seen, ways_seen}
 ghost use Rattle.teco_expansion.specs.Texts.{library_of, text_of};
 ghost use Rattle.teco_expansion.specs.declared.texts.Texts.{Texts};
 
-use crate::few::Few;
+use crate::few::OpenList;
 use crate::reading::{has_colon, skip_from};
-use crate::refusal::Reason;
-use crate::spot::{Position, Spot};
+use crate::refusal::ExpandReason;
+use crate::spot::{Spot, TextPosition};
 use crate::texts::Texts;
 use teco_model::kind::{Flow, Goal, Kind};
 use teco_model::{Element, Skip};
@@ -27,12 +27,12 @@ use teco_model::{Element, Skip};
 #[derive(Clone, Copy)]
 pub enum Ways {
     End,
-    One(Position),
-    Two(Position, Position),
+    One(TextPosition),
+    Two(TextPosition, TextPosition),
 }
 
 /// Behind an element.
-pub fn past(texts: &Texts<'_>, element: &Element<'_>, position: &Position) -> Position
+pub fn past(texts: &Texts<'_>, element: &Element<'_>, position: &TextPosition) -> TextPosition
     ensures { position_seen texts.now result
         ≡ model.past (seen element.now) (position_seen texts.now position.now) }
 {
@@ -52,7 +52,11 @@ pub fn skip_at(texts: &Texts<'_>, element: &Element<'_>, spot: &Spot) -> Skip
 }
 
 // Where it jumps ahead.
-fn jumped(texts: &Texts<'_>, element: &Element<'_>, position: &Position) -> Result<Position, Reason>
+fn jumped(
+    texts: &Texts<'_>,
+    element: &Element<'_>,
+    position: &TextPosition,
+) -> Result<TextPosition, ExpandReason>
     requires { element_at (text_of texts.now position.now.running.register)
         position.now.running.place ≡ Ok (Some (seen element.now)) }
     ensures { Gives (position_seen texts.now) result
@@ -60,7 +64,7 @@ fn jumped(texts: &Texts<'_>, element: &Element<'_>, position: &Position) -> Resu
 {
     let skip = skip_at(texts, element, &position.running);
     match skip.to {
-        None => Err(Reason::Unpaired),
+        None => Err(ExpandReason::Unpaired),
         Some(place) => {
             let starts = position.running.starts.without(skip.leaves as usize);
             Ok(position.moved_to(texts, place, starts))
@@ -71,10 +75,10 @@ fn jumped(texts: &Texts<'_>, element: &Element<'_>, position: &Position) -> Resu
 // The ways of what goes on, or jumps.
 fn way_or_jump(
     texts: &Texts<'_>,
-    first: Position,
+    first: TextPosition,
     element: &Element<'_>,
-    position: &Position,
-) -> Result<Ways, Reason>
+    position: &TextPosition,
+) -> Result<Ways, ExpandReason>
     requires { element_at (text_of texts.now position.now.running.register)
         position.now.running.place ≡ Ok (Some (seen element.now)) }
     ensures { Gives (ways_seen texts.now) result
@@ -86,14 +90,18 @@ fn way_or_jump(
 }
 
 // `>` goes back to the start of its iteration, or on.
-fn end_ways(texts: &Texts<'_>, element: &Element<'_>, position: &Position) -> Result<Ways, Reason>
+fn end_ways(
+    texts: &Texts<'_>,
+    element: &Element<'_>,
+    position: &TextPosition,
+) -> Result<Ways, ExpandReason>
     ensures { Gives (ways_seen texts.now) result
         (model.end_ways (listed position.now.running.starts) (seen element.now)
         (position_seen texts.now position.now)) }
 {
     let starts = position.running.starts;
     match starts.get(0) {
-        None => Err(Reason::Unpaired),
+        None => Err(ExpandReason::Unpaired),
         Some(start) => Ok(Ways::Two(
             position.moved_to(texts, start, starts),
             position.moved_to(texts, element.next, starts.without(1)),
@@ -102,7 +110,11 @@ fn end_ways(texts: &Texts<'_>, element: &Element<'_>, position: &Position) -> Re
 }
 
 // `;` stands in an iteration of its own text.
-fn leave_ways(texts: &Texts<'_>, element: &Element<'_>, position: &Position) -> Result<Ways, Reason>
+fn leave_ways(
+    texts: &Texts<'_>,
+    element: &Element<'_>,
+    position: &TextPosition,
+) -> Result<Ways, ExpandReason>
     requires { element_at (text_of texts.now position.now.running.register)
         position.now.running.place ≡ Ok (Some (seen element.now)) }
     ensures { Gives (ways_seen texts.now) result
@@ -110,7 +122,7 @@ fn leave_ways(texts: &Texts<'_>, element: &Element<'_>, position: &Position) -> 
         (position_seen texts.now position.now)) }
 {
     if position.running.starts.len() == 0 {
-        return Err(Reason::Unpaired);
+        return Err(ExpandReason::Unpaired);
     }
     way_or_jump(texts, past(texts, element, position), element, position)
 }
@@ -120,8 +132,8 @@ fn ahead_ways(
     goal: Goal,
     texts: &Texts<'_>,
     element: &Element<'_>,
-    position: &Position,
-) -> Result<Ways, Reason>
+    position: &TextPosition,
+) -> Result<Ways, ExpandReason>
     requires { element_at (text_of texts.now position.now.running.register)
         position.now.running.place ≡ Ok (Some (seen element.now)) }
     ensures { Gives (ways_seen texts.now) result
@@ -129,7 +141,7 @@ fn ahead_ways(
         (position_seen texts.now position.now)) }
 {
     if matches!(goal, Goal::EndTurn) && position.running.starts.len() == 0 {
-        return Err(Reason::Unpaired);
+        return Err(ExpandReason::Unpaired);
     }
     Ok(Ways::One(jumped(texts, element, position)?))
 }
@@ -139,8 +151,8 @@ fn flow_ways(
     flow: Flow,
     texts: &Texts<'_>,
     element: &Element<'_>,
-    position: &Position,
-) -> Result<Ways, Reason>
+    position: &TextPosition,
+) -> Result<Ways, ExpandReason>
     requires read { element_at (text_of texts.now position.now.running.register)
         position.now.running.place ≡ Ok (Some (seen element.now)) }
     requires room { length (listed position.now.running.starts) < ROOM }
@@ -166,8 +178,8 @@ fn flow_ways(
 fn search_ways(
     texts: &Texts<'_>,
     element: &Element<'_>,
-    position: &Position,
-) -> Result<Ways, Reason>
+    position: &TextPosition,
+) -> Result<Ways, ExpandReason>
     requires { element_at (text_of texts.now position.now.running.register)
         position.now.running.place ≡ Ok (Some (seen element.now)) }
     ensures { Gives (ways_seen texts.now) result (model.search_ways
@@ -189,15 +201,15 @@ pub fn called(
     register: usize,
     texts: &Texts<'_>,
     element: &Element<'_>,
-    position: &Position,
-) -> Position
+    position: &TextPosition,
+) -> TextPosition
     requires { length (listed position.now.callers) < ROOM }
     ensures { position_seen texts.now result
         ≡ model.called (text_of texts.now (Some register)) (seen element.now)
         (position_seen texts.now position.now) }
 {
     let waiting = past(texts, element, position).running;
-    Position {
+    TextPosition {
         running: Spot::beginning(texts, Some(register)),
         callers: position.callers.with(waiting),
     }
@@ -208,31 +220,31 @@ fn call_ways(
     register: usize,
     texts: &Texts<'_>,
     element: &Element<'_>,
-    position: &Position,
-) -> Result<Ways, Reason>
+    position: &TextPosition,
+) -> Result<Ways, ExpandReason>
     requires { length (listed position.now.callers) < ROOM }
     ensures { Gives (ways_seen texts.now) result
         (model.call_ways (macro (library_of texts.now) register) (seen element.now)
         (position_seen texts.now position.now)) }
 {
     if !texts.contains(register) {
-        return Err(Reason::NoMacro);
+        return Err(ExpandReason::NoMacro);
     }
     Ok(Ways::One(called(register, texts, element, position)))
 }
 
 // The end of a text goes back to the text that waits, if there is one.
-fn return_ways(position: &Position) -> Result<Ways, Reason>
+fn return_ways(position: &TextPosition) -> Result<Ways, ExpandReason>
     ensures { (texts : Texts) → Gives (ways_seen texts) result
         (model.return_ways (listed position.now.running.starts)
         (map (spot_seen texts) (listed position.now.callers))) }
 {
     if position.running.starts.len() > 0 {
-        return Err(Reason::Unpaired);
+        return Err(ExpandReason::Unpaired);
     }
     match position.callers.get(0) {
         None => Ok(Ways::End),
-        Some(caller) => Ok(Ways::One(Position {
+        Some(caller) => Ok(Ways::One(TextPosition {
             running: caller,
             callers: position.callers.without(1),
         })),
@@ -242,8 +254,8 @@ fn return_ways(position: &Position) -> Result<Ways, Reason>
 fn element_ways(
     texts: &Texts<'_>,
     element: &Element<'_>,
-    position: &Position,
-) -> Result<Ways, Reason>
+    position: &TextPosition,
+) -> Result<Ways, ExpandReason>
     requires read { element_at (text_of texts.now position.now.running.register)
         position.now.running.place ≡ Ok (Some (seen element.now)) }
     requires room { length (listed position.now.running.starts) < ROOM }
@@ -265,8 +277,8 @@ fn element_ways(
 pub fn ways_at(
     texts: &Texts<'_>,
     read: &Option<Element<'_>>,
-    position: &Position,
-) -> Result<Ways, Reason>
+    position: &TextPosition,
+) -> Result<Ways, ExpandReason>
     requires read { element_at (text_of texts.now position.now.running.register)
         position.now.running.place ≡ Ok (option_map seen read.now) }
     requires room { length (listed position.now.running.starts) < ROOM }

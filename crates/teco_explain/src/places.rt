@@ -3,7 +3,7 @@ use teco_base::Reg;
 use teco_lex::element;
 use teco_model::kind::{Command, Storage};
 use teco_model::{Element, Kind};
-use teco_source::{Position, Source};
+use teco_source::{LineAndByte, Source};
 
 // The register that an element gives a text, and the place where that text begins.
 fn text_given(found: &Element<'_>) -> Option<(Reg, usize)> {
@@ -55,6 +55,6 @@ pub fn place_in(library: &[u8], register: Option<Reg>, place: usize) -> Option<u
 
 /// The position in a library file of a place in the text of a register, if the file says it; of a
 /// place in the file's own text where no register is named.
-pub fn position_in(source: &Source, register: Option<Reg>, place: usize) -> Option<Position> {
+pub fn position_in(source: &Source, register: Option<Reg>, place: usize) -> Option<LineAndByte> {
     Some(source.position(place_in(source.text(), register, place)?))
 }

@@ -1,7 +1,9 @@
-ghost use Rattle.std.specs.Prelude.{◌≡◌, ◌≤◌, ◌<◌, length, IsOk, OnSome, IfNone, Some};
+//! The arguments that are pending.
+ghost use Rattle.std.specs.Prelude.{◌≡◌, ◌≤◌, ◌<◌, length, Ok, OnOk, OnSome, IfNone, Some};
 ghost use Rattle.teco_model.specs.Arguments as model;
 ghost use Rattle.teco_model.specs.Arguments.{with_level};
-ghost use Rattle.teco_expr.specs.Does.{Does, Takes, Opens};
+ghost use Rattle.teco_base.specs.Does.{Does, Updates, codes_alone, memory_where};
+ghost use Rattle.teco_expr.specs.Faults.{argument_cause};
 
 use crate::level::{self, EMPTY};
 use smallvec::SmallVec;
@@ -50,7 +52,7 @@ impl Args {
 
     /// Gives the number that a run of digits is.
     pub fn digit_run(&mut self, digits: &[u8]) -> Result<(), ArgFault>
-        ensures { Does self.old self.new
+        ensures { Updates argument_cause codes_alone self.old self.new
             (with_level self.old (model.level_with (model.run_value digits.now) self.old.level))
             result }
     {
@@ -59,7 +61,7 @@ impl Args {
 
     /// An operator waits for the next value.
     pub fn op(&mut self, operator: Operator) -> Result<(), ArgFault>
-        ensures { Does self.old self.new
+        ensures { Updates argument_cause codes_alone self.old self.new
             (with_level self.old (model.level_with_operator operator self.old.level)) result }
     {
         self.level = level::operate(operator, self.level).map_err(ArgFault::Code)?;
@@ -68,7 +70,8 @@ impl Args {
 
     /// Opens a parenthesis.
     pub fn open(&mut self) -> Result<(), ArgFault>
-        ensures { Opens self.old self.new result }
+        ensures { Updates argument_cause (memory_where (λ _. 8 ≤ length self.old.outer))
+            self.old self.new (Ok (model.levels_after_open self.old)) result }
     {
         self.outer.push(self.level).map_err(|_| ArgFault::Memory)?;
         self.level = EMPTY;
@@ -77,7 +80,8 @@ impl Args {
 
     /// Closes the innermost parenthesis, and gives its value outside.
     pub fn close(&mut self) -> Result<(), ArgFault>
-        ensures { Does self.old self.new (model.levels_after_close self.old) result }
+        ensures { Updates argument_cause codes_alone self.old self.new
+            (model.levels_after_close self.old) result }
     {
         let Some(outside) = self.outer.last().copied() else {
             return Err(ArgFault::Code(Code::Arg));
@@ -90,7 +94,7 @@ impl Args {
 
     /// Makes the value so far the first of two.
     pub fn comma(&mut self) -> Result<(), ArgFault>
-        ensures { Does self.old self.new
+        ensures { Updates argument_cause codes_alone self.old self.new
             (with_level self.old (model.level_after_comma self.old.level)) result }
     {
         self.level = level::comma(self.level).map_err(ArgFault::Code)?;
@@ -100,7 +104,7 @@ impl Args {
     /// Gives a value.
     #[inline(always)]
     pub fn value(&mut self, value: i32) -> Result<(), ArgFault>
-        ensures { Does self.old self.new
+        ensures { Updates argument_cause codes_alone self.old self.new
             (with_level self.old (model.level_with value self.old.level)) result }
     {
         self.level = level::give(value, self.level).map_err(ArgFault::Code)?;
@@ -154,7 +158,9 @@ impl Args {
     /// Takes the arguments of the innermost level.
     #[inline(always)]
     pub fn take(&mut self) -> Result<Taken, ArgFault>
-        ensures { Takes self.old self.new result }
+        ensures does { Does argument_cause codes_alone (λ _ taken. taken) self.old self.new
+            (model.arguments_of self.old.level) result }
+        ensures taken { OnOk result (self.new ≡ model.levels_after_taking self.old) }
     {
         let taken = level::taken(self.level).map_err(ArgFault::Code)?;
         self.level = EMPTY;

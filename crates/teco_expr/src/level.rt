@@ -26,7 +26,7 @@ pub fn run_value(digits: &[u8]) -> i32
     value
 }
 
-/// What an operator makes of two numbers.
+/// The result of an operator on two numbers.
 pub fn applied(operator: Operator, x: i32, y: i32) -> Result<i32, Code>
     ensures { result ≡ model.result_of operator x y }
 {

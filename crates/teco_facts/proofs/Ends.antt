@@ -1,10 +1,7 @@
 -- The ends of a number's range have 32 bits.
-use Rattle.std.proofs.Common.{◌≡◌, refl, ℤ, ◌+ℤ◌, ◌≤ℤ◌, arith}
-use Rattle.std.proofs.lemmas.Int.{ints}
-use Rattle.teco_verifier.specs.facts.Values.{least_share, most_share, interval_of}
-use Rattle.teco_verifier.specs.declared.values.Distances.{Distances}
-use Rattle.teco_verifier.specs.declared.values.Value.{Value}
-use Rattle.teco_facts.specs.Numbers.{IsNumber, IsShare, IsRange}
+use Rattle.teco_facts.proofs.Prelude.{◌≡◌, refl, ℤ, ◌+ℤ◌, ◌≤ℤ◌, arith, ints, least_share, most_share, interval_of}
+use Rattle.teco_facts.proofs.Prelude.{Distances, Value, IsNumber, IsRange}
+use Rattle.teco_facts.specs.Numbers.{IsShare}
 
 module _ (x y u v a b lo hi : ℤ) (number : IsNumber a b lo hi) (f : IsShare x a) (g : IsShare y b) (h : IsShare u a)
     (i : IsShare v b) where

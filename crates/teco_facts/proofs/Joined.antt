@@ -1,12 +1,11 @@
 -- Ways that meet: what is known of the registers comes last.
-use Rattle.std.proofs.Common.{◌≡◌, refl, ap, ◌∙◌, List, Result, Ok, Err}
+use Rattle.teco_facts.proofs.Prelude.{◌≡◌, refl, ap, ◌∙◌, List, Result, Ok, Err, Refusal, ◌>>=◌, Facts, Position}
+use Rattle.teco_facts.proofs.Prelude.{Pushed, join_of, hulls, joined_lengths, joined_pushes}
 use Rattle.teco_poly.specs.Polynomial.{Polynomial}
-use Rattle.teco_verifier.specs.declared.refusal.Refusal.{Refusal}
-use Rattle.teco_verifier.specs.facts.Attempt.{◌>>=◌}
-use Rattle.teco_verifier.specs.facts.Facts.{Facts, Position, Pushed, join_of, without_arguments}
-use Rattle.teco_verifier.specs.facts.Joins.{hulls, joined, joined_lengths, joined_position, joined_pushes, none_pending}
-use Rattle.teco_facts.specs.declared.fault.Fault.{Fault}
-use Rattle.teco_facts.specs.declared.fault.Fault.TheVariants as fault
+use Rattle.teco_verifier.specs.facts.Facts.{without_arguments}
+use Rattle.teco_verifier.specs.facts.Joins.{joined, joined_position, none_pending}
+use Rattle.teco_facts.specs.declared.fault.FactFault.{FactFault}
+use Rattle.teco_facts.specs.declared.fault.FactFault.TheVariants as fault
 use Rattle.teco_facts.specs.Does.{Gives, Leaves}
 use Rattle.teco_facts.specs.Joined.{joined_but_registers, with_registers_joined}
 use Rattle.teco_facts.proofs.Joins.{ok_of}
@@ -45,12 +44,12 @@ refused_before facts others why e =
     (λ pushes c. fails_on (joined_position facts.position others.position) _ _ why
     (λ position d. fails_on (join_of facts.held others.held) _ _ why (λ held h. absurd (cc)) d) c) b) a) e
 
-pub fails_before : (facts others : Facts) (why : Fault) → Gives (joined_but_registers facts others) (Err why)
+pub fails_before : (facts others : Facts) (why : FactFault) → Gives (joined_but_registers facts others) (Err why)
     → Gives (joined facts others) (Err why)
 fails_before facts others (fault.Refused why) e = refused_before facts others why e
 fails_before facts others fault.Memory e = tt
 
-pub registers_fail : (facts others j new : Facts) (why : Fault) → joined_but_registers facts others ≡ Ok j
+pub registers_fail : (facts others j new : Facts) (why : FactFault) → joined_but_registers facts others ≡ Ok j
     → Leaves (with_registers_joined j others) new (Err why) → Gives (joined facts others) (Err why)
 registers_fail facts others j new (fault.Refused why) e l = then_registers facts others j e ∙ l
 registers_fail facts others j new fault.Memory e l = tt

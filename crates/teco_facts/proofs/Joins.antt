@@ -1,11 +1,8 @@
 -- Lists that are joined one after another.
-use Rattle.std.proofs.Common.{◌≡◌, refl, sym, ap, ◌∙◌, ℕ, zero, suc, ◌<◌, List, [], ◌∷◌, length, take, drop, set}
-use Rattle.std.proofs.Common.{get_or, drop-cons, Result, Ok, Err, arith}
+use Rattle.teco_facts.proofs.Prelude.{◌≡◌, refl, sym, ap, ◌∙◌, ℕ, zero, suc, ◌<◌, List, [], ◌∷◌, length, take, drop}
+use Rattle.teco_facts.proofs.Prelude.{set, get_or, Result, Ok, Err, arith, Refusal, ◌>>=◌, join_of, joined_lengths}
+use Rattle.std.proofs.Common.{drop-cons}
 use Rattle.std.proofs.lemmas.List.{drop-set-lt, length-set}
-use Rattle.teco_verifier.specs.declared.refusal.Refusal.{Refusal}
-use Rattle.teco_verifier.specs.facts.Attempt.{◌>>=◌}
-use Rattle.teco_verifier.specs.facts.Facts.{join_of}
-use Rattle.teco_verifier.specs.facts.Joins.{joined_lengths}
 
 -- of two lists the first ones are joined
 pub record AreJoined {A : Type 0} (join : List A → List A → Result (List A) Refusal) (xs ys zs : List A) (count : ℕ) :

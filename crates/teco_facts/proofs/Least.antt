@@ -1,11 +1,11 @@
 -- Falls by the numbers that they are kept as.
-use Rattle.std.proofs.Common.{◌≡◌, refl, subst, List, [], ◌∷◌, length, get_or, zero, suc, ◌+◌, ◌<◌, ℤ}
-use Rattle.std.proofs.Common.{◌+ℤ◌, ◌≤ℤ◌, ◌<ℤ◌, ℕ, int_lt, Option, Some, None}
-use Rattle.std.proofs.Common.{true, false, arith}
-use Rattle.std.proofs.lemmas.Int.{ints, by_lt_z}
-use Rattle.teco_verifier.specs.facts.Shifts.{fall_after}
-use Rattle.teco_facts.specs.Least.{known, kept, unknown}
-use Rattle.teco_facts.specs.Numbers.{IsModest, IsSmallFall}
+use Rattle.teco_facts.proofs.Prelude.{◌≡◌, refl, subst, List, [], ◌∷◌, length, get_or, zero, suc, ◌+◌, ◌<◌, ℤ, ◌+ℤ◌}
+use Rattle.teco_facts.proofs.Prelude.{◌≤ℤ◌, ◌<ℤ◌, ℕ, Option, Some, None, true, false, arith, ints, fall_after, unknown}
+use Rattle.teco_facts.proofs.Prelude.{IsSmallFall}
+use Rattle.std.proofs.Common.{int_lt}
+use Rattle.std.proofs.lemmas.Int.{by_lt_z}
+use Rattle.teco_facts.specs.Least.{known, kept}
+use Rattle.teco_facts.specs.Numbers.{IsModest}
 
 -- one that is known, and one that is not
 pub some_known : (v : ℤ) → unknown <ℤ v → known v ≡ Some v

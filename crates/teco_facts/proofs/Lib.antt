@@ -1,4 +1,5 @@
 -- What the proofs of the functions share.
+mod Prelude
 pub mod Least
 pub mod Ends
 pub mod Linear

@@ -1,9 +1,8 @@
 -- What is linear may be kept.
-use Rattle.std.proofs.Common.{◌≡◌, refl, ℤ, pos, negsuc, ◌-ℤ◌, ◌≤ℤ◌, Bool, true, false, int_le, ◌&&◌, arith}
-use Rattle.std.proofs.lemmas.Int.{ints}
-use Rattle.teco_verifier.specs.declared.values.Value.{Value}
-use Rattle.teco_verifier.specs.facts.Values.{least_share, most_share, is_sign, is_linear}
-use Rattle.teco_facts.specs.Numbers.{IsNumber}
+use Rattle.teco_facts.proofs.Prelude.{◌≡◌, refl, ℤ, pos, negsuc, ◌-ℤ◌, ◌≤ℤ◌, Bool, true, false, ◌&&◌, arith, ints}
+use Rattle.teco_facts.proofs.Prelude.{Value, least_share, most_share, is_linear, IsNumber}
+use Rattle.std.proofs.Common.{int_le}
+use Rattle.teco_verifier.specs.facts.Values.{is_sign}
 
 both : (x y : Bool) → (x && y) ≡ true → (x ≡ true) × (y ≡ true)
 both true y h = (refl, h)

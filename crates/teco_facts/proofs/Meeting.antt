@@ -1,13 +1,11 @@
 -- Lists whose items are joined or replaced one after another.
-use Rattle.std.proofs.Common.{◌≡◌, refl, ap, ℕ, ℤ, Option, zero, suc, ◌<◌, min, Bool, true, false, ◌&&◌}
-use Rattle.std.proofs.Common.{if◌then◌else◌, List, []}
-use Rattle.std.proofs.Common.{◌∷◌, ◌++◌, length, take, drop, set, get_or, arith}
+use Rattle.teco_facts.proofs.Prelude.{◌≡◌, refl, ap, ℕ, ℤ, Option, zero, suc, ◌<◌, min, Bool, true, false, ◌&&◌}
+use Rattle.teco_facts.proofs.Prelude.{if◌then◌else◌, List, [], ◌∷◌, ◌++◌, length, take, drop, set, get_or, arith}
+use Rattle.teco_facts.proofs.Prelude.{Interval, hulls, each_met, replaced_where}
 use Rattle.std.proofs.lemmas.List.{take_all}
-use Rattle.teco_verifier.specs.declared.values.Interval.{Interval}
 use Rattle.teco_verifier.specs.facts.Bodies.{unknown_where, unsaved_where}
-use Rattle.teco_verifier.specs.facts.Joins.{hull, hulls, joined_saved, smaller_fall, smaller_falls}
+use Rattle.teco_verifier.specs.facts.Joins.{hull, joined_saved, smaller_fall, smaller_falls}
 use Rattle.teco_verifier.specs.facts.Values.{any_number}
-use Rattle.teco_facts.specs.Each.{each_met, replaced_where}
 
 -- the first items are joined, and one more
 pub met_more : {X : Type 0} (met : X → X → X) (xs ys : List X) (i : ℕ) (x y : X) → i < length xs → i < length ys

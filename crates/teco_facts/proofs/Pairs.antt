@@ -1,7 +1,5 @@
 -- Pairs that are joined from the top down.
-use Rattle.std.proofs.Common.{◌++◌, List, Result, Ok, Err}
-use Rattle.teco_verifier.specs.declared.refusal.Refusal.{Refusal}
-use Rattle.teco_verifier.specs.facts.Facts.{Pushed}
+use Rattle.teco_facts.proofs.Prelude.{◌++◌, List, Result, Ok, Err, Refusal, Pushed}
 
 -- these pairs, and behind them what is joined
 abbrev pub behind : List Pushed → Result (List Pushed) Refusal → Result (List Pushed) Refusal

@@ -1,9 +1,6 @@
 -- Sums and differences of numbers are places.
-use Rattle.std.proofs.Common.{◌≡◌, refl, ℤ, ◌+ℤ◌, ◌-ℤ◌, false, arith}
-use Rattle.std.proofs.lemmas.Int.{ints}
+use Rattle.teco_facts.proofs.Prelude.{◌≡◌, refl, ℤ, ◌+ℤ◌, ◌-ℤ◌, false, arith, ints, Value, IsNumber, IsPlace}
 use Rattle.teco_verifier.specs.facts.Values.{plus, minus}
-use Rattle.teco_verifier.specs.declared.values.Value.{Value}
-use Rattle.teco_facts.specs.Numbers.{IsNumber, IsPlace}
 
 pub number_is_place : (a b lo hi : ℤ) → IsNumber a b lo hi → IsPlace a b lo hi
 number_is_place a b lo hi n =

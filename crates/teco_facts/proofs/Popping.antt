@@ -1,8 +1,8 @@
 -- What a pop leaves.
-use Rattle.std.proofs.Common.{◌≡◌, refl, ℕ, List, ◌∷◌, length, Bool, false, Ok, Err}
+use Rattle.teco_facts.proofs.Prelude.{◌≡◌, refl, ℕ, List, ◌∷◌, length, Bool, false, Ok, Err, Facts, Pushed}
 use Rattle.std.specs.List.{list_all}
 use Rattle.std.specs.Prelude.{nat_lt, if◌then◌else◌}
-use Rattle.teco_verifier.specs.facts.Facts.{Facts, Iteration, Pushed}
+use Rattle.teco_verifier.specs.facts.Facts.{Iteration}
 use Rattle.teco_verifier.specs.facts.Storages.{with_popped, with_number, with_text}
 use Rattle.teco_verifier.specs.declared.refusal.Refusal.TheVariants as refusal
 

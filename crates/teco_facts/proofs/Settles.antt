@@ -1,16 +1,13 @@
 -- Levels that settle once more, and levels that stay as they are.
-use Rattle.std.proofs.Common.{◌≡◌, refl, ap, ◌∙◌, ℤ, pos, ◌+ℤ◌, ◌*ℤ◌, Bool, true, false, ◌||◌, ◌&&◌, is_none, List}
-use Rattle.std.proofs.Common.{[], ◌∷◌, map, Option, Some, None, if◌then◌else◌}
+use Rattle.teco_facts.proofs.Prelude.{◌≡◌, refl, ap, ◌∙◌, ℤ, pos, ◌+ℤ◌, ◌*ℤ◌, Bool, true, false, ◌&&◌, List, [], ◌∷◌}
+use Rattle.teco_facts.proofs.Prelude.{map, Option, Some, None, if◌then◌else◌, LIMIT, covers_level, interval_of}
+use Rattle.teco_facts.proofs.Prelude.{Interval, Value, Distances}
+use Rattle.std.proofs.Common.{◌||◌, is_none}
 use Rattle.std.proofs.Math.IntN.{*ℤ-zero, +ℤ_idl}
-use Rattle.teco_base.specs.declared.TheConstants.{LIMIT}
 use Rattle.teco_model.specs.declared.arguments.Operator.{Operator}
 use Rattle.teco_verifier.specs.facts.Arguments.{KnownLevel, empty_level, settled_value, settled_level}
-use Rattle.teco_verifier.specs.facts.Covers.{covers_level}
 use Rattle.teco_verifier.specs.facts.Joins.{is_empty_level}
-use Rattle.teco_verifier.specs.facts.Values.{interval_of, value_in}
-use Rattle.teco_verifier.specs.declared.values.Interval.{Interval}
-use Rattle.teco_verifier.specs.declared.values.Value.{Value}
-use Rattle.teco_verifier.specs.declared.values.Distances.{Distances}
+use Rattle.teco_verifier.specs.facts.Values.{value_in}
 use Rattle.teco_facts.specs.Settled.{SettlesAgain, SettlesBoth, settled_by, settled_since}
 use Rattle.teco_facts.specs.declared.settling.Settling.{Settling}
 

@@ -1,9 +1,9 @@
 -- What a distance counts, if it counts a few times, has 35 bits.
-use Rattle.std.proofs.Common.{◌≡◌, refl, ℕ, ℤ, pos, negsuc, suc, ◌*ℤ◌, ◌≤ℤ◌, ◌≤◌, ◌^◌, FitsSigned, w64, to_z, of_z}
-use Rattle.std.proofs.Common.{arith}
-use Rattle.std.proofs.lemmas.Int.{ints, to_z_pos, to_z-of_z}
+use Rattle.teco_facts.proofs.Prelude.{◌≡◌, refl, ℕ, ℤ, pos, negsuc, suc, ◌*ℤ◌, ◌≤ℤ◌, ◌≤◌, FitsSigned, w64, to_z, of_z}
+use Rattle.teco_facts.proofs.Prelude.{arith, ints, to_z-of_z, LIMIT}
+use Rattle.std.proofs.Common.{◌^◌}
+use Rattle.std.proofs.lemmas.Int.{to_z_pos}
 use Rattle.std.proofs.lemmas.Nat.{mul-le}
-use Rattle.teco_base.specs.declared.TheConstants.{LIMIT}
 use Rattle.teco_facts.specs.Numbers.{IsSmall}
 
 pub record IsModestShare (z : ℤ) : Type 0 where

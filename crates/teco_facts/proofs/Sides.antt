@@ -1,7 +1,6 @@
 -- Two lists that are gone through side by side.
-use Rattle.std.proofs.Common.{◌≡◌, refl, ℕ, zero, suc, ◌<◌, Bool, true, false, ◌&&◌, List, [], ◌∷◌, length, get_or}
-use Rattle.std.proofs.Common.{arith}
-use Rattle.teco_verifier.specs.facts.Covers.{each_covers}
+use Rattle.teco_facts.proofs.Prelude.{◌≡◌, refl, ℕ, zero, suc, ◌<◌, Bool, true, false, ◌&&◌, List, [], ◌∷◌, length}
+use Rattle.teco_facts.proofs.Prelude.{get_or, arith, each_covers}
 
 and_false : (b : Bool) → false ≡ (b && false)
 and_false true = refl

@@ -1,7 +1,6 @@
 -- A number of 64 bits is the number that it is read as.
-use Rattle.std.proofs.Common.{◌≡◌, refl, ◌∙◌, ℤ, ◌+ℤ◌, ◌-ℤ◌, ◌≤ℤ◌, FitsSigned, w64, to_z, of_z, arith}
-use Rattle.std.proofs.lemmas.Int.{ints, to_z-of_z}
-use Rattle.teco_facts.specs.Numbers.{IsRange, IsPlace}
+use Rattle.teco_facts.proofs.Prelude.{◌≡◌, refl, ◌∙◌, ℤ, ◌+ℤ◌, ◌-ℤ◌, ◌≤ℤ◌, FitsSigned, w64, to_z, of_z, arith, ints}
+use Rattle.teco_facts.proofs.Prelude.{to_z-of_z, IsRange, IsPlace}
 
 pub ruleset wholes = (to_z-of_z)
 

@@ -1,8 +1,8 @@
 -- What is known where two ways meet, but of the registers, and then of those.
 use Rattle.std.specs.Borrow.{Bor}
 use Rattle.std.specs.Prelude.{◌≡◌, ◌≤◌, ℕ, List, length, take, ◌++◌, Result, Ok, Err}
-use Rattle.teco_facts.specs.declared.fault.Fault.{Fault}
-use Rattle.teco_facts.specs.declared.fault.Fault.TheVariants as fault
+use Rattle.teco_facts.specs.declared.fault.FactFault.{FactFault}
+use Rattle.teco_facts.specs.declared.fault.FactFault.TheVariants as fault
 use Rattle.teco_verifier.specs.declared.refusal.Refusal.{Refusal}
 use Rattle.teco_verifier.specs.facts.Attempt.{◌>>=◌}
 use Rattle.teco_verifier.specs.facts.Facts.{Facts, Pushed, join_of, without_arguments}
@@ -30,7 +30,7 @@ pub record AreShared (pairs shared : List Pushed) (changed : ℕ) : Type 0 where
   pub within : changed ≤ length pairs
   pub same : pairs ≡ take changed pairs ++ shared
 
-abbrev pub JoinsPairs : List Pushed → List Pushed → List Pushed → Result (ℕ × Bor (List Pushed)) Fault → Type 0
+abbrev pub JoinsPairs : List Pushed → List Pushed → List Pushed → Result (ℕ × Bor (List Pushed)) FactFault → Type 0
 JoinsPairs first second pairs (Ok found) =
     (joined_pushes first second ≡ Ok pairs) × AreShared pairs found.1.now found.0
 JoinsPairs first second pairs (Err (fault.Refused why)) = joined_pushes first second ≡ Err why

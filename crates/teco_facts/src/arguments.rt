@@ -8,7 +8,7 @@ ghost use Rattle.teco_verifier.specs.facts.Joins as joins;
 ghost use Rattle.teco_facts.specs.Does.{Closes};
 
 use crate::settling::{Opened, Settling, both, covers_levels, settled, settled_again};
-use crate::{Fault, Level, Margins, Number};
+use crate::{FactFault, LevelFacts, Margins, Number};
 use std::alloc::{AllocError, Global};
 use std::marker::Model;
 use teco_model::ArgumentRange;
@@ -18,7 +18,7 @@ use teco_verifier::Refusal;
 /// The innermost level, and those outside it.
 #[derive(Drop)]
 pub struct Arguments {
-    level: Level,
+    level: LevelFacts,
     // as they were when a parenthesis opened behind each
     outer: Stack<Opened>,
     // what has become of them since
@@ -40,8 +40,8 @@ impl Arguments {
         ensures { result ≡ option_map_or given.known_in argument rules.no_arguments }
     {
         let level = match argument {
-            None => Level::empty(),
-            Some(range) => Level::of(Number::declared(range)),
+            None => LevelFacts::empty(),
+            Some(range) => LevelFacts::of(Number::declared(range)),
         };
         Arguments {
             level,
@@ -62,14 +62,14 @@ impl Arguments {
     }
 
     /// The innermost level.
-    pub fn level(&self) -> Level
+    pub fn level(&self) -> LevelFacts
         ensures { result ≡ self.now.level }
     {
         self.level
     }
 
     /// Puts another level in the place of the innermost.
-    pub fn put_level(&mut self, level: Level)
+    pub fn put_level(&mut self, level: LevelFacts)
         ensures { self.new ≡ record self.old { level = level } }
     {
         self.level = level;
@@ -88,7 +88,7 @@ impl Arguments {
     pub fn drop_all(&mut self)
         ensures { self.new ≡ rules.no_arguments }
     {
-        self.level = Level::empty();
+        self.level = LevelFacts::empty();
         self.outer.clear();
         self.settling = None;
     }
@@ -104,17 +104,17 @@ impl Arguments {
         };
         self.outer = self.outer.copied()?.with(opened)?;
         self.settling = None;
-        self.level = Level::empty();
+        self.level = LevelFacts::empty();
         Ok(())
     }
 
     /// Closes the innermost parenthesis, and gives its value outside.
-    pub fn close(&mut self, margins: Margins) -> Result<(), Fault>
+    pub fn close(&mut self, margins: Margins) -> Result<(), FactFault>
         ensures { Closes (rules.levels_closed_onto margins self.old.level self.old.outer)
             self.new result }
     {
         let Some(opened) = self.outer.pop()? else {
-            return Err(Fault::Refused(Refusal::Argument));
+            return Err(FactFault::Refused(Refusal::Argument));
         };
         let outside = settled(self.settling, opened.level);
         let value = self.level.inner()?;
@@ -128,7 +128,7 @@ impl Arguments {
         ensures { self.new ≡ rules.levels_after_answer answer self.old }
     {
         if let Some(value) = answer {
-            self.level = Level::of(value);
+            self.level = LevelFacts::of(value);
         }
     }
 

@@ -3,7 +3,7 @@ ghost use Rattle.std.specs.Prelude.{◌≡◌, ◌&&◌};
 ghost use Rattle.teco_verifier.specs.facts.Covers as covers;
 
 use crate::{
-    Answer, Covers, Facts, Fall, Iteration, Level, Margins, Number, Position, Pushed, Range,
+    Answer, Covers, Facts, Fall, Iteration, LevelFacts, Margins, Number, Position, Pushed, Range,
     each_covers,
 };
 use teco_model::Operator;
@@ -90,9 +90,9 @@ fn is_same_operator(one: Option<Operator>, edge: Option<Operator>) -> bool
     )
 }
 
-impl Level {
+impl LevelFacts {
     /// Whether the level covers that of an edge, which has the same shape.
-    pub(crate) fn covers(self, edge: Level, margins: Margins) -> bool
+    pub(crate) fn covers(self, edge: LevelFacts, margins: Margins) -> bool
         ensures { result ≡ covers.covers_level margins self edge }
     {
         covers_if_any(margins, self.first, edge.first)

@@ -16,7 +16,9 @@ ghost use Rattle.teco_facts.specs.Room.{innermost};
 ghost use Rattle.teco_facts.specs.Searched as searched;
 
 use crate::registers::Registers;
-use crate::{Arguments, Fault, Few, Level, Margins, Number, Position, Range, Shift, sum_of};
+use crate::{
+    Arguments, FactFault, Few, LevelFacts, Margins, Number, Position, Range, Shift, sum_of,
+};
 use std::alloc::{AllocError, Global};
 use std::marker::Model;
 use std::rc::Rc;
@@ -132,12 +134,12 @@ impl Model for Pushed {
 #[derive(Drop)]
 pub struct Facts {
     pub(crate) alloc: Global,
-    pub(crate) known: Box<Known>,
+    pub(crate) known: Box<FactsSaid>,
 }
 
 // What facts say.
 #[derive(Drop)]
-pub(crate) struct Known {
+pub(crate) struct FactsSaid {
     pub arguments: Arguments,
     pub answer: Option<Answer>,
     pub position: Position,
@@ -180,7 +182,7 @@ impl Facts {
             texts: [Poly::variable(); REGISTERS],
         };
         let registers = Rc::new(alloc, registers)?;
-        let known = Known {
+        let known = FactsSaid {
             arguments: Arguments::declared(alloc, argument),
             answer: None,
             position: Position::start(),
@@ -205,7 +207,7 @@ impl Facts {
         let pushes = known.pushes.copied()?;
         let arguments = known.arguments.copied()?;
         let answer = answer_copied(self.alloc, &known.answer)?;
-        let copy = Known {
+        let copy = FactsSaid {
             arguments,
             answer,
             position,
@@ -243,7 +245,7 @@ impl Facts {
     }
 
     /// The innermost level of the arguments.
-    pub fn level(&self) -> Level
+    pub fn level(&self) -> LevelFacts
         ensures { result ≡ self.now.arguments.level }
     {
         self.known.arguments.level()
@@ -357,11 +359,11 @@ impl Facts {
         ensures { result ≡ rules.with_arguments (arguments.levels_after_taking self.arguments)
             self }
     {
-        self.with_level(Level::empty())
+        self.with_level(LevelFacts::empty())
     }
 
     /// The facts with another innermost level.
-    pub fn with_level(mut self, level: Level) -> Facts
+    pub fn with_level(mut self, level: LevelFacts) -> Facts
         ensures { result ≡ rules.with_arguments (record self.arguments { level = level }) self }
     {
         let known = &mut *self.known;
@@ -382,7 +384,7 @@ impl Facts {
     }
 
     /// The facts where the innermost parenthesis closes, and its value is given outside.
-    pub fn closed(mut self) -> Result<Facts, Fault>
+    pub fn closed(mut self) -> Result<Facts, FactFault>
         ensures { Gives (transfer.facts_after_levels (arguments.levels_closed_onto
             self.position.distances self.arguments.level self.arguments.outer) self) result }
     {

@@ -1,31 +1,31 @@
 //! Why a call on facts gives none.
 ghost use Rattle.std.specs.Prelude.{◌≡◌};
-ghost use Rattle.teco_facts.specs.declared.fault.Fault.TheVariants as fault;
+ghost use Rattle.teco_facts.specs.declared.fault.FactFault.TheVariants as fault;
 
 use std::alloc::AllocError;
 use teco_verifier::Refusal;
 
 /// Why there are no edges.
 #[derive(Clone, Copy)]
-pub enum Fault {
+pub enum FactFault {
     /// The rules refuse.
     Refused(Refusal),
     /// A growth was refused.
     Memory,
 }
 
-impl From<Refusal> for Fault {
+impl From<Refusal> for FactFault {
     ghost from_gives = { λ why told. told ≡ fault.Refused why };
 
-    fn from(why: Refusal) -> Fault {
-        Fault::Refused(why)
+    fn from(why: Refusal) -> FactFault {
+        FactFault::Refused(why)
     }
 }
 
-impl From<AllocError> for Fault {
+impl From<AllocError> for FactFault {
     ghost from_gives = { λ _ told. told ≡ fault.Memory };
 
-    fn from(_refused: AllocError) -> Fault {
-        Fault::Memory
+    fn from(_refused: AllocError) -> FactFault {
+        FactFault::Memory
     }
 }

@@ -5,7 +5,7 @@ ghost use Rattle.teco_facts.specs.Does.{Gives, Leaves};
 ghost use Rattle.teco_facts.specs.Joined.{JoinsPairs, joined_but_registers, with_registers_joined};
 
 use crate::registers::Registers;
-use crate::{Facts, Fault, Meets, Pushed, join_of, meet_each};
+use crate::{FactFault, Facts, Meets, Pushed, join_of, meet_each};
 use std::alloc::{AllocError, Global};
 use std::rc::Rc;
 use teco_base::REGISTERS;
@@ -53,7 +53,7 @@ fn join_pairs<'a>(
     first: &'a Chain<Pushed>,
     second: &Chain<Pushed>,
     pairs: &mut Vec<Pushed>,
-) -> Result<(usize, &'a Chain<Pushed>), Fault>
+) -> Result<(usize, &'a Chain<Pushed>), FactFault>
     requires { pairs.old.items ≡ [] }
     ensures { JoinsPairs first.now second.now pairs.new.items result }
 {
@@ -61,11 +61,11 @@ fn join_pairs<'a>(
     let (mut one, mut two, mut shared) = (first, second, first);
     while let Some((of_one, one_below)) = one.parts() {
         let Some((of_two, two_below)) = two.parts() else {
-            return Err(Fault::Refused(Refusal::Pop));
+            return Err(FactFault::Refused(Refusal::Pop));
         };
         let pair = joined_pair(of_one, of_two)?;
         if pairs.push(pair).is_err() {
-            return Err(Fault::Memory);
+            return Err(FactFault::Memory);
         }
         if !of_one.number.is(pair.number) || of_one.text != pair.text {
             changed = pairs.len();
@@ -75,7 +75,7 @@ fn join_pairs<'a>(
         two = two_below;
     }
     if two.parts().is_some() {
-        return Err(Fault::Refused(Refusal::Pop));
+        return Err(FactFault::Refused(Refusal::Pop));
     }
     Ok((changed, shared))
 }
@@ -85,7 +85,7 @@ fn joined_pairs(
     alloc: Global,
     first: &Chain<Pushed>,
     second: &Chain<Pushed>,
-) -> Result<Stack<Pushed>, Fault>
+) -> Result<Stack<Pushed>, FactFault>
     ensures { Gives (joins.joined_pushes first.now second.now) result }
 {
     let mut pairs = Vec::new(alloc);
@@ -96,7 +96,7 @@ fn joined_pairs(
 
 impl Facts {
     /// What is known where two ways meet, but of the registers: of these what is known on this way.
-    pub fn joined_but_registers(mut self, other: &Facts) -> Result<Facts, Fault>
+    pub fn joined_but_registers(mut self, other: &Facts) -> Result<Facts, FactFault>
         ensures { Gives (joined_but_registers self other.now) result }
     {
         let (known, other) = (&mut *self.known, &*other.known);
@@ -116,7 +116,7 @@ impl Facts {
 
     // Puts what is known of the registers on both ways in the place of what is known on this one.
     #[tactic(auto, using(crate::proofs::Meeting::hulls_are))]
-    fn join_registers(&mut self, other: &Facts) -> Result<(), Fault>
+    fn join_registers(&mut self, other: &Facts) -> Result<(), FactFault>
         ensures { Leaves (with_registers_joined self.old other.now) self.new result }
     {
         let (one, two) = (&*self.known.registers, &*other.known.registers);
@@ -128,7 +128,7 @@ impl Facts {
     }
 
     /// What is known where two ways meet: on both, with nothing pending.
-    pub fn joined(self, other: &Facts) -> Result<Facts, Fault>
+    pub fn joined(self, other: &Facts) -> Result<Facts, FactFault>
         ensures { Gives (joins.joined self other.now) result }
     {
         let mut joined = self.joined_but_registers(other)?;

@@ -12,13 +12,13 @@ use teco_verifier::{Refusal, Value};
 
 /// A level of arguments.
 #[derive(Clone, Copy)]
-pub struct Level {
+pub struct LevelFacts {
     pub(crate) first: Option<Number>,
     pub(crate) value: Option<Number>,
     pub(crate) operator: Option<Operator>,
 }
 
-impl Model for Level {
+impl Model for LevelFacts {
     ghost use Rattle.teco_verifier.specs.facts.Arguments.{KnownLevel};
 
     ghost Value = { KnownLevel };
@@ -30,12 +30,12 @@ impl Model for Level {
 
 /// What a command takes.
 #[derive(Clone, Copy)]
-pub struct Taken {
+pub struct TakenFacts {
     pub first: Option<Number>,
     pub value: Option<Number>,
 }
 
-impl Model for Taken {
+impl Model for TakenFacts {
     ghost use Rattle.teco_verifier.specs.facts.Arguments.{KnownTaken};
 
     ghost Value = { KnownTaken };
@@ -71,12 +71,12 @@ fn finished(value: Option<Number>, operator: Option<Operator>) -> Result<Option<
     }
 }
 
-impl Level {
+impl LevelFacts {
     /// Nothing is pending.
-    pub(crate) fn empty() -> Level
+    pub(crate) fn empty() -> LevelFacts
         ensures { result ≡ rules.empty_level }
     {
-        Level {
+        LevelFacts {
             first: None,
             value: None,
             operator: None,
@@ -84,10 +84,10 @@ impl Level {
     }
 
     /// A value alone is pending.
-    pub fn of(value: Number) -> Level
+    pub fn of(value: Number) -> LevelFacts
         ensures { result ≡ record rules.empty_level { value = Some value } }
     {
-        Level {
+        LevelFacts {
             first: None,
             value: Some(value),
             operator: None,
@@ -123,7 +123,7 @@ impl Level {
     }
 
     /// The level with a value given to it, to which a pending operator is applied.
-    pub fn given(mut self, value: Number, margins: Margins) -> Result<Level, Refusal>
+    pub fn given(mut self, value: Number, margins: Margins) -> Result<LevelFacts, Refusal>
         ensures { result ≡ rules.level_with margins value self }
     {
         let standing = self.value.unwrap_or(Number::single(0));
@@ -142,7 +142,7 @@ impl Level {
     }
 
     /// The level with an operator that waits for a value.
-    pub fn operating(mut self, operator: Operator) -> Result<Level, Refusal>
+    pub fn operating(mut self, operator: Operator) -> Result<LevelFacts, Refusal>
         ensures { result ≡ rules.level_with_operator operator self }
     {
         if self.operator.is_some() {
@@ -153,7 +153,7 @@ impl Level {
     }
 
     /// The level behind a comma; what cannot be negative may stand in front of it.
-    pub fn parted(self, margins: Margins) -> Result<Level, Refusal>
+    pub fn parted(self, margins: Margins) -> Result<LevelFacts, Refusal>
         ensures { result ≡ rules.level_after_comma margins self }
     {
         if self.first.is_some() {
@@ -165,7 +165,7 @@ impl Level {
         if !first.range(margins).is_natural() {
             return Err(Refusal::Argument);
         }
-        Ok(Level {
+        Ok(LevelFacts {
             first: Some(first),
             value: None,
             operator: None,
@@ -183,14 +183,14 @@ impl Level {
     }
 
     /// What a command takes.
-    pub fn taken(self) -> Result<Taken, Refusal>
+    pub fn taken(self) -> Result<TakenFacts, Refusal>
         ensures { result ≡ rules.arguments_of self }
     {
         let (first, value) = (self.first, finished(self.value, self.operator)?);
         if first.is_some() && value.is_none() {
             return Err(Refusal::Argument);
         }
-        Ok(Taken { first, value })
+        Ok(TakenFacts { first, value })
     }
 
     /// The value that stands, with no operator behind it.
@@ -205,10 +205,10 @@ impl Level {
 
     /// The level where Z or the pointer may change: linear values become intervals, and where all
     /// that is saved is ended, saved values too.
-    pub(crate) fn settled(self, margins: Margins, ends: bool) -> Level
+    pub(crate) fn settled(self, margins: Margins, ends: bool) -> LevelFacts
         ensures { result ≡ rules.settled_level margins ends self }
     {
-        Level {
+        LevelFacts {
             first: settled(self.first, margins, ends),
             value: settled(self.value, margins, ends),
             operator: self.operator,

@@ -3,7 +3,7 @@ ghost use Rattle.std.specs.Prelude.{◌≡◌, ◌||◌};
 ghost use Rattle.teco_facts.specs.Settled.{SettlesAgain, SettlesBoth, levels_since, settled_by};
 ghost use Rattle.teco_verifier.specs.facts.Covers as covers;
 
-use crate::{Level, Margins};
+use crate::{LevelFacts, Margins};
 use teco_stack::Chain;
 
 /// Where the pointer was when levels settled first, and whether all that was saved has ended since.
@@ -16,12 +16,12 @@ pub struct Settling {
 /// A level behind which a parenthesis opened, and what had become by then of those outside it.
 #[derive(Clone, Copy)]
 pub struct Opened {
-    pub level: Level,
+    pub level: LevelFacts,
     pub below: Option<Settling>,
 }
 
 /// A level as it is by now.
-pub fn settled(settling: Option<Settling>, level: Level) -> Level
+pub fn settled(settling: Option<Settling>, level: LevelFacts) -> LevelFacts
     ensures { result ≡ settled_by settling level }
 {
     match settling {

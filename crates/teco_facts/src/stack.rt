@@ -5,7 +5,7 @@ ghost use Rattle.teco_facts.specs.Does.{Gives, Pops};
 ghost use Rattle.teco_verifier.specs.facts.Facts as rules;
 ghost use Rattle.teco_verifier.specs.facts.Storages as storages;
 
-use crate::{Facts, Fault, Pushed};
+use crate::{FactFault, Facts, Pushed};
 use std::alloc::AllocError;
 use std::mem;
 use teco_base::Reg;
@@ -83,22 +83,22 @@ pub fn push(register: Reg, mut facts: Facts) -> Result<Facts, AllocError>
 
 /// A pair is popped into a register whose text is none of the library's, but none from below the
 /// entry, or from below the < of an open iteration.
-pub fn pop(library: bool, register: Reg, mut facts: Facts) -> Result<Facts, Fault>
+pub fn pop(library: bool, register: Reg, mut facts: Facts) -> Result<Facts, FactFault>
     ensures { Gives (storages.pop library register facts) result }
 {
     if library {
-        return Err(Fault::Refused(Refusal::Written));
+        return Err(FactFault::Refused(Refusal::Written));
     }
     let above = facts.is_above(facts.pushed());
     let popped = facts.pop_pushed()?;
     match popped {
-        None => Err(Fault::Refused(Refusal::Pop)),
+        None => Err(FactFault::Refused(Refusal::Pop)),
         Some(pair) => {
             if above {
                 let facts = facts.with_number(register, pair.number, false)?;
                 Ok(facts.with_text(register, pair.text)?)
             } else {
-                Err(Fault::Refused(Refusal::Pop))
+                Err(FactFault::Refused(Refusal::Pop))
             }
         }
     }

@@ -1,5 +1,5 @@
-// Files that are compared.
-use crate::trouble::Reason;
+//! Files that are compared.
+use crate::trouble::TroubleReason;
 use std::alloc::Global;
 use std::fs::Files;
 use std::io::{BufRead, BufReader};
@@ -11,7 +11,7 @@ pub fn is_same_file<R: Files>(
     alloc: Global,
     one: &str,
     other: &str,
-) -> Result<bool, Reason> {
+) -> Result<bool, TroubleReason> {
     if !fs::exists(rt, other)? {
         return Ok(false);
     }

@@ -1,4 +1,4 @@
-// Descriptors of the files that are opened.
+//! Descriptors of the files that are opened.
 use crate::system::System;
 use std::fs::OpenFile;
 use std::io;

@@ -1,4 +1,4 @@
-// Which file a name stands for.
+//! Which file a name stands for.
 use std::fs::Metadata;
 use std::os::unix::fs::MetadataExt;
 

@@ -1,4 +1,4 @@
-// What a new file inherits of the file that it will replace.
+//! What a new file inherits of the file that it will replace.
 use crate::system::System;
 use std::fs::{Metadata, Permissions};
 use std::os::unix::fs::{MetadataExt, PermissionsExt};

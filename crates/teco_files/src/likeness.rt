@@ -1,4 +1,4 @@
-// Whether what is written is what was read.
+//! Whether what is written is what was read.
 use std::alloc::Global;
 
 // How many bytes of an input are kept to compare with.

@@ -1,6 +1,6 @@
-// Names that lead to files that a process has open.
+//! Names that lead to files that a process has open.
 use crate::target::{entry_of, folder_of};
-use crate::trouble::Reason;
+use crate::trouble::TroubleReason;
 use std::alloc::Global;
 use std::fs::Files;
 
@@ -9,7 +9,11 @@ const LINKS: usize = 40;
 
 /// Does a name lead to a file that a process has open, as `/dev/stdout` does? What such a link is
 /// resolved to is the file behind it, which somebody else is writing.
-pub fn leads_to_open_file<R: Files>(rt: &R, alloc: Global, name: &str) -> Result<bool, Reason> {
+pub fn leads_to_open_file<R: Files>(
+    rt: &R,
+    alloc: Global,
+    name: &str,
+) -> Result<bool, TroubleReason> {
     let mut path = String::from_str(alloc, name)?;
     for _ in 0..LINKS {
         if is_among_open_files(rt, alloc, &path)? {
@@ -20,11 +24,11 @@ pub fn leads_to_open_file<R: Files>(rt: &R, alloc: Global, name: &str) -> Result
             None => return Ok(false),
         }
     }
-    Err(Reason::NoPlace)
+    Err(TroubleReason::NoPlace)
 }
 
 // Is a name in a folder where the system keeps the links to a process's open files?
-fn is_among_open_files<R: Files>(rt: &R, alloc: Global, path: &str) -> Result<bool, Reason> {
+fn is_among_open_files<R: Files>(rt: &R, alloc: Global, path: &str) -> Result<bool, TroubleReason> {
     let folder = rt.canonicalize(alloc, folder_of(path))?;
     Ok(is_open_files(folder.as_str()))
 }
@@ -34,7 +38,7 @@ fn is_open_files(folder: &str) -> bool {
 }
 
 // Where a link leads, or none where the path is no link.
-fn next_of<R: Files>(rt: &R, alloc: Global, path: &str) -> Result<Option<String>, Reason> {
+fn next_of<R: Files>(rt: &R, alloc: Global, path: &str) -> Result<Option<String>, TroubleReason> {
     match entry_of(rt, path)? {
         Some(metadata) if metadata.is_symlink() => Ok(Some(led_to(rt, alloc, path)?)),
         _ => Ok(None),
@@ -42,7 +46,7 @@ fn next_of<R: Files>(rt: &R, alloc: Global, path: &str) -> Result<Option<String>
 }
 
 // The path that a link leads to.
-fn led_to<R: Files>(rt: &R, alloc: Global, path: &str) -> Result<String, Reason> {
+fn led_to<R: Files>(rt: &R, alloc: Global, path: &str) -> Result<String, TroubleReason> {
     let link = rt.read_link(alloc, path)?.into_string();
     if link.starts_with('/') {
         return Ok(link);

@@ -1,4 +1,4 @@
-// What the hosts of a process have in common.
+//! What the hosts of a process have in common.
 use crate::size_limit::size_limit;
 use crate::system::System;
 use std::alloc::{AllocError, Global};

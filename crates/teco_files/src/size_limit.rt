@@ -1,4 +1,4 @@
-// The limit that the system sets on the size of files.
+//! The limit that the system sets on the size of files.
 use std::fs::Files;
 use std::io::Read;
 use std::{fs, io, str};

@@ -1,4 +1,4 @@
-// The file that is read.
+//! The file that is read.
 ghost use Rattle.std.specs.Prelude.{◌≡◌, ◌≤◌, ◌<◌, [], length, IfOk};
 ghost use Rattle.std.specs.Io.KnownBytes.{ReadConsumes};
 ghost use Rattle.teco_files.specs.Buffers.{source_ahead, source_remaining, source_room};
@@ -6,7 +6,7 @@ ghost use Rattle.teco_files.specs.Buffers.{source_ahead, source_remaining, sourc
 use crate::descriptor::above_standard;
 use crate::identity::Identity;
 use crate::system::System;
-use crate::trouble::Reason;
+use crate::trouble::TroubleReason;
 use std::alloc::Global;
 use std::fs::{Metadata, OpenFile};
 use std::io::{BufReader, Read};
@@ -19,7 +19,7 @@ const MOST: usize = 1 << 16;
 
 /// A file that is read, with what was read ahead of it.
 #[derive(Drop)]
-pub struct Source<F: Drop> {
+pub struct ReadFile<F: Drop> {
     reader: BufReader<F>,
     // the length that a regular file had when it was opened
     length: Option<u64>,
@@ -29,7 +29,7 @@ pub struct Source<F: Drop> {
     is_past: bool,
 }
 
-impl<F: OpenFile + Read + Drop> Source<F> {
+impl<F: OpenFile + Read + Drop> ReadFile<F> {
     /// Opens the file of a name. A folder is none, and where it is asked for no file that is not a
     /// regular one; that is looked at before it is opened, since opening may wait for ever.
     pub fn open<R: System<File = F>>(
@@ -37,7 +37,7 @@ impl<F: OpenFile + Read + Drop> Source<F> {
         alloc: Global,
         name: &[u8],
         is_regular: bool,
-    ) -> Result<Source<F>, Reason>
+    ) -> Result<ReadFile<F>, TroubleReason>
         ensures ahead { IfOk result (λ s. 0 < source_room s) }
         ensures none { IfOk result (λ s. source_ahead s ≡ []) }
     {
@@ -48,27 +48,27 @@ impl<F: OpenFile + Read + Drop> Source<F> {
         let file = above_standard(rt, fs::open(rt, name)?)?;
         let metadata = file.metadata()?;
         if metadata.is_dir() {
-            return Err(Reason::Folder);
+            return Err(TroubleReason::Folder);
         }
         if is_regular {
             check_regular(&metadata)?;
         }
-        Source::over(alloc, file, &metadata)
+        ReadFile::over(alloc, file, &metadata)
     }
 
     // The open file of some metadata.
-    fn over(alloc: Global, file: F, metadata: &Metadata) -> Result<Source<F>, Reason>
+    fn over(alloc: Global, file: F, metadata: &Metadata) -> Result<ReadFile<F>, TroubleReason>
         ensures ahead { IfOk result (λ s. 0 < source_room s) }
         ensures none { IfOk result (λ s. source_ahead s ≡ []) }
     {
         match BufReader::with_capacity(alloc, room_ahead(metadata.len()), file) {
-            Ok(reader) => Ok(Source {
+            Ok(reader) => Ok(ReadFile {
                 reader,
                 length: metadata.is_file().then_some(metadata.len()),
                 identity: Identity::of(metadata),
                 is_past: false,
             }),
-            Err(_) => Err(Reason::Memory),
+            Err(_) => Err(TroubleReason::Memory),
         }
     }
 
@@ -95,13 +95,13 @@ impl<F: OpenFile + Read + Drop> Source<F> {
 
     /// Reads the next bytes, but no more than are left of what the file may give. Where none are it
     /// must be at its end.
-    pub fn read_within(&mut self, left: usize, buf: &mut [u8]) -> Result<usize, Reason>
+    pub fn read_within(&mut self, left: usize, buf: &mut [u8]) -> Result<usize, TroubleReason>
         ensures bound { IfOk result (λ n. n ≤ length buf.new) }
         ensures left { IfOk result (λ n. n ≤ left) }
     {
         if left == 0 {
             return if self.is_more() {
-                Err(Reason::Long)
+                Err(TroubleReason::Long)
             } else {
                 Ok(0)
             };
@@ -120,14 +120,14 @@ impl<F: OpenFile + Read + Drop> Source<F> {
 }
 
 // Refuses a file that is not a regular one.
-fn check_regular(metadata: &Metadata) -> Result<(), Reason> {
+fn check_regular(metadata: &Metadata) -> Result<(), TroubleReason> {
     if metadata.is_dir() {
-        return Err(Reason::Folder);
+        return Err(TroubleReason::Folder);
     }
     if metadata.is_file() {
         Ok(())
     } else {
-        Err(Reason::NotRegular)
+        Err(TroubleReason::NotRegular)
     }
 }
 

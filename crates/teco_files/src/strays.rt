@@ -1,4 +1,4 @@
-// Unfinished outputs that runs of the program left which were killed.
+//! Unfinished outputs that runs of the program left which were killed.
 ghost use Rattle.std.specs.Prelude.{◌≤◌, length, IfOk};
 
 use crate::process::ProcessFacts;

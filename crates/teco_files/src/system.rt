@@ -1,4 +1,4 @@
-// What a host needs of the system beside its files and its clock.
+//! What a host needs of the system beside its files and its clock.
 use std::fs::{File, Files};
 use std::os::unix::fs::fchown;
 use std::os::unix::io::AsRawFd;

@@ -1,6 +1,6 @@
-// Where an output will be.
+//! Where an output will be.
 use crate::links::leads_to_open_file;
-use crate::trouble::Reason;
+use crate::trouble::TroubleReason;
 use std::alloc::Global;
 use std::fs::{Files, Metadata};
 use std::{fs, io};
@@ -16,7 +16,7 @@ impl Target {
     /// Finds where the output of a name will be. A name that leads by links to a regular file is
     /// that file's; what exists and is no regular file is refused, and what leads to a file that a
     /// process has open.
-    pub fn of<R: Files>(rt: &R, alloc: Global, name: &str) -> Result<Target, Reason> {
+    pub fn of<R: Files>(rt: &R, alloc: Global, name: &str) -> Result<Target, TroubleReason> {
         let Some(entry) = entry_of(rt, name)? else {
             return Target::new(alloc, name);
         };
@@ -25,7 +25,7 @@ impl Target {
         }
         // only links lead to open files
         if leads_to_open_file(rt, alloc, name)? {
-            return Err(Reason::InUse);
+            return Err(TroubleReason::InUse);
         }
         let path = rt.canonicalize(alloc, name)?.into_string();
         let metadata = fs::symlink_metadata(rt, &path)?;
@@ -33,9 +33,9 @@ impl Target {
     }
 
     // The file at a path, which is no link.
-    fn existing(path: String, metadata: Metadata) -> Result<Target, Reason> {
+    fn existing(path: String, metadata: Metadata) -> Result<Target, TroubleReason> {
         if !metadata.is_file() {
-            return Err(Reason::NotRegular);
+            return Err(TroubleReason::NotRegular);
         }
         Ok(Target {
             path,
@@ -44,9 +44,9 @@ impl Target {
     }
 
     // A target that does not exist yet. It has a name in its folder.
-    fn new(alloc: Global, name: &str) -> Result<Target, Reason> {
+    fn new(alloc: Global, name: &str) -> Result<Target, TroubleReason> {
         if name.is_empty() || name.ends_with('/') {
-            return Err(Reason::NotRegular);
+            return Err(TroubleReason::NotRegular);
         }
         Ok(Target {
             path: String::from_str(alloc, name)?,

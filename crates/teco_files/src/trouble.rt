@@ -1,4 +1,4 @@
-// What kept a host of the system's files from its last call that failed.
+//! What kept a host of the system's files from its last call that failed.
 use std::alloc::{AllocError, AllocFailed, Global};
 use std::str::Utf8Error;
 use std::{fmt, io};
@@ -6,7 +6,7 @@ use thiserror::Error;
 
 /// Why a file of the system could not be used.
 #[derive(Debug, Drop, Error)]
-pub enum Reason {
+pub enum TroubleReason {
     /// The system refused.
     #[error("{0}")]
     System(io::Error),
@@ -54,27 +54,27 @@ pub enum Reason {
     Memory,
 }
 
-impl From<AllocError> for Reason {
-    fn from(_refused: AllocError) -> Reason {
-        Reason::Memory
+impl From<AllocError> for TroubleReason {
+    fn from(_refused: AllocError) -> TroubleReason {
+        TroubleReason::Memory
     }
 }
 
-impl<T: Drop> From<AllocFailed<T>> for Reason {
-    fn from(_refused: AllocFailed<T>) -> Reason {
-        Reason::Memory
+impl<T: Drop> From<AllocFailed<T>> for TroubleReason {
+    fn from(_refused: AllocFailed<T>) -> TroubleReason {
+        TroubleReason::Memory
     }
 }
 
-impl From<io::Error> for Reason {
-    fn from(error: io::Error) -> Reason {
-        Reason::System(error)
+impl From<io::Error> for TroubleReason {
+    fn from(error: io::Error) -> TroubleReason {
+        TroubleReason::System(error)
     }
 }
 
-impl From<Utf8Error> for Reason {
-    fn from(_error: Utf8Error) -> Reason {
-        Reason::Name
+impl From<Utf8Error> for TroubleReason {
+    fn from(_error: Utf8Error) -> TroubleReason {
+        TroubleReason::Name
     }
 }
 
@@ -109,12 +109,12 @@ pub struct Trouble {
     pub purpose: Purpose,
     /// The name of the file; empty where memory for it was refused.
     pub name: Vec<u8>,
-    pub reason: Reason,
+    pub reason: TroubleReason,
 }
 
 impl Trouble {
     /// What could not be done with the file of a name.
-    pub fn of(alloc: Global, purpose: Purpose, name: &[u8], reason: Reason) -> Trouble {
+    pub fn of(alloc: Global, purpose: Purpose, name: &[u8], reason: TroubleReason) -> Trouble {
         Trouble {
             purpose,
             name: name_to_tell(alloc, name),

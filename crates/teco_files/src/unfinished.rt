@@ -1,4 +1,4 @@
-// Outputs that are not closed yet.
+//! Outputs that are not closed yet.
 ghost use Rattle.std.specs.Prelude.{◌≡◌, ◌≤◌, ◌<◌, [], length, IfOk, OnOk};
 ghost use Rattle.std.specs.Io.KnownBytes.{Keeps, WriteAppends};
 ghost use Rattle.teco_files.specs.Buffers.{unfinished_contents, unfinished_kept};
@@ -11,7 +11,7 @@ use crate::inheritance::inherit_owner;
 use crate::process::ProcessFacts;
 use crate::system::System;
 use crate::target::{Target, folder_of};
-use crate::trouble::Reason;
+use crate::trouble::TroubleReason;
 use std::alloc::Global;
 use std::fs::{Files, OpenFile, OpenOptions, Permissions};
 use std::io::{BufWriter, Write};
@@ -96,7 +96,7 @@ impl<F: OpenFile + Write + Drop> Unfinished<F> {
         name: &[u8],
         facts: ProcessFacts,
         only: Option<Identity>,
-    ) -> Result<Unfinished<F>, Reason>
+    ) -> Result<Unfinished<F>, TroubleReason>
         ensures { IfOk result (λ o. unfinished_kept o ≡ []) }
     {
         let target = Target::of(rt, alloc, str::from_utf8(name)?)?;
@@ -105,7 +105,7 @@ impl<F: OpenFile + Write + Drop> Unfinished<F> {
         let permissions = permissions_for(rt, &file, &target);
         let Ok(writer) = BufWriter::with_capacity(alloc, KEPT, file) else {
             let _removed = fs::remove_file(rt, &beside);
-            return Err(Reason::Memory);
+            return Err(TroubleReason::Memory);
         };
         Ok(Unfinished {
             writer,
@@ -119,7 +119,7 @@ impl<F: OpenFile + Write + Drop> Unfinished<F> {
 
     /// Writes the first of some bytes, one at least of any: keeps them for later, or sends them on
     /// behind what was kept. What a failure leaves of that is kept on, and none of the bytes.
-    pub fn write_some(&mut self, bytes: &[u8]) -> Result<usize, Reason>
+    pub fn write_some(&mut self, bytes: &[u8]) -> Result<usize, TroubleReason>
         ensures bound { IfOk result (λ n. n ≤ length bytes.now) }
         ensures some { IfOk result (λ n. 0 < length bytes.now → 0 < n) }
         ensures bytes { WriteAppends (unfinished_contents F.contents self.old)
@@ -129,7 +129,7 @@ impl<F: OpenFile + Write + Drop> Unfinished<F> {
             .len()
             .min(usize::try_from(self.room).unwrap_or(usize::MAX));
         if most == 0 && !bytes.is_empty() {
-            return Err(Reason::SizeLimit);
+            return Err(TroubleReason::SizeLimit);
         }
         match self.writer.write(&bytes[..most])? {
             0 if most > 0 => Err(no_room()),
@@ -157,7 +157,7 @@ impl<F: OpenFile + Write + Drop> Unfinished<F> {
         rt: &R,
         alloc: Global,
         how: Finish<'_>,
-    ) -> Result<Ended, Reason> {
+    ) -> Result<Ended, TroubleReason> {
         match self.settle(rt, alloc, how) {
             Ok(Settled::Moved) => Ok(self.moved()),
             Ok(Settled::Left(closed)) => self.left(rt, closed),
@@ -177,7 +177,7 @@ impl<F: OpenFile + Write + Drop> Unfinished<F> {
     }
 
     // It is not needed.
-    fn left<R: Files>(self, rt: &R, closed: Closed) -> Result<Ended, Reason> {
+    fn left<R: Files>(self, rt: &R, closed: Closed) -> Result<Ended, TroubleReason> {
         self.abandon(rt)?;
         Ok(Ended {
             closed,
@@ -191,7 +191,7 @@ impl<F: OpenFile + Write + Drop> Unfinished<F> {
         rt: &R,
         alloc: Global,
         how: Finish<'_>,
-    ) -> Result<Settled, Reason>
+    ) -> Result<Settled, TroubleReason>
         ensures sent { OnOk result (unfinished_kept self.new ≡ []) }
         ensures bytes { Keeps (unfinished_contents F.contents self.old)
             (unfinished_contents F.contents self.new) }
@@ -212,7 +212,7 @@ impl<F: OpenFile + Write + Drop> Unfinished<F> {
         rt: &R,
         alloc: Global,
         how: Finish<'_>,
-    ) -> Result<Option<Closed>, Reason> {
+    ) -> Result<Option<Closed>, TroubleReason> {
         let closing = how.handling.closing;
         if closing == Closing::Replaces {
             return Ok(None);
@@ -228,13 +228,18 @@ impl<F: OpenFile + Write + Drop> Unfinished<F> {
     }
 
     // Moves it over its target, which is kept first where that is asked for.
-    fn move_over<R: Files>(&self, rt: &R, alloc: Global, how: Finish<'_>) -> Result<(), Reason> {
+    fn move_over<R: Files>(
+        &self,
+        rt: &R,
+        alloc: Global,
+        how: Finish<'_>,
+    ) -> Result<(), TroubleReason> {
         let is_durable = how.handling.is_durable;
         if is_durable {
             self.writer.get_ref().sync_all()?;
         }
         if !self.is_in_place(rt) {
-            return Err(Reason::Taken);
+            return Err(TroubleReason::Taken);
         }
         self.check_target(rt)?;
         let kept = match how.backup {
@@ -245,7 +250,7 @@ impl<F: OpenFile + Write + Drop> Unfinished<F> {
             if let Some(kept) = kept {
                 kept.undo(rt, &self.target);
             }
-            return Err(Reason::System(error));
+            return Err(TroubleReason::System(error));
         }
         if is_durable {
             // the name is there, and may only be lost with the power
@@ -255,7 +260,7 @@ impl<F: OpenFile + Write + Drop> Unfinished<F> {
     }
 
     // Is what it will replace still the file that it may replace, as it was?
-    fn check_target<R: Files>(&self, rt: &R) -> Result<(), Reason> {
+    fn check_target<R: Files>(&self, rt: &R) -> Result<(), TroubleReason> {
         let Some(only) = self.only else {
             return Ok(());
         };
@@ -263,14 +268,14 @@ impl<F: OpenFile + Write + Drop> Unfinished<F> {
         if found == only {
             Ok(())
         } else if found.is_same_file(only) {
-            Err(Reason::Changed)
+            Err(TroubleReason::Changed)
         } else {
-            Err(Reason::Replaced)
+            Err(TroubleReason::Replaced)
         }
     }
 
     /// Removes it. What is still kept is dropped.
-    pub fn abandon<R: Files>(self, rt: &R) -> Result<(), Reason> {
+    pub fn abandon<R: Files>(self, rt: &R) -> Result<(), TroubleReason> {
         let is_in_place = self.is_in_place(rt);
         let Self {
             writer,
@@ -316,19 +321,19 @@ enum Settled {
 }
 
 // Refuses a target that is not the one file that may be replaced.
-fn check_only(target: &Target, only: Option<Identity>) -> Result<(), Reason> {
+fn check_only(target: &Target, only: Option<Identity>) -> Result<(), TroubleReason> {
     let Some(only) = only else {
         return Ok(());
     };
     match &target.replaced {
         Some(replaced) if Identity::of(replaced).is_same_file(only) => Ok(()),
-        _ => Err(Reason::Replaced),
+        _ => Err(TroubleReason::Replaced),
     }
 }
 
 // A write that took nothing.
-fn no_room() -> Reason {
-    Reason::System(io::ErrorKind::WriteZero.into())
+fn no_room() -> TroubleReason {
+    TroubleReason::System(io::ErrorKind::WriteZero.into())
 }
 
 // Makes a file in the target's folder, under a name that no file has.
@@ -337,7 +342,7 @@ fn make_beside<R: System>(
     alloc: Global,
     target: &Target,
     facts: ProcessFacts,
-) -> Result<(R::File, String), Reason> {
+) -> Result<(R::File, String), TroubleReason> {
     let mut options = OpenOptions::new();
     options.write(true).create_new(true);
     if target.replaced.is_some() {
@@ -350,7 +355,7 @@ fn make_beside<R: System>(
             return Ok((file, beside));
         }
     }
-    Err(Reason::NoPlace)
+    Err(TroubleReason::NoPlace)
 }
 
 // The new file of a name, unless some file has it.

@@ -1,4 +1,4 @@
--- What ends with nothing.
-use Rattle.std.proofs.lemmas.List.{append-nil}
+-- Texts that end with nothing.
+use Rattle.teco_filing.proofs.Prelude.{append-nil}
 
 pub ruleset ends = (append-nil)

@@ -1,3 +1,4 @@
+mod Prelude
 mod Ends
 mod Touched
 mod Turned

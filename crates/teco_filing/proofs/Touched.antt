@@ -1,11 +1,10 @@
--- What is touched where the host fails.
-use Rattle.std.proofs.Common.{◌≡◌, ℕ, List, [], ◌∷◌, Option, Err, refl}
+-- The events where the host fails.
+use Rattle.teco_filing.proofs.Prelude.{◌≡◌, ℕ, List, [], Option, Err, refl, Fault, halt_of}
+use Rattle.std.proofs.Common.{◌∷◌}
 use Rattle.teco_model.specs.declared.kind.File.TheVariants as file
 use Rattle.teco_pages.specs.Events.{dropped}
 use Rattle.teco_pages.specs.PageCalls.{OkOrInOut}
-use Rattle.teco_pages.specs.declared.fault.Fault.{Fault}
 use Rattle.teco_pages.specs.declared.fault.Fault.TheVariants as fault
-use Rattle.teco_filing.specs.Halts.{halt_of}
 use Rattle.teco_filing.specs.Touched.{touched_in}
 
 -- an output that all goes to is dropped

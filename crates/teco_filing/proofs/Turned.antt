@@ -1,24 +1,26 @@
 -- Pages that are written, by what the host did.
-use Rattle.std.proofs.Common.{rules, ◌≡◌, ℕ, ℤ, ◌≤◌, List, ◌++◌, length, true, nat_le, Option, Some, None, inl, refl}
-use Rattle.std.proofs.Common.{sym, ap, subst, ◌∙◌}
-use Rattle.std.specs.Prelude.{Result, Ok, Err, IfSome, IsSome, option_map}
+use Rattle.teco_filing.proofs.Prelude.{rules, ◌≡◌, ℕ, List, ◌++◌, Option, Some, None, refl, sym, ap, subst, ◌∙◌, IsSome}
+use Rattle.teco_filing.proofs.Prelude.{Updates, Output, with_written, Page, written_page, page_of_buffer, unread, Kept}
+use Rattle.teco_filing.proofs.Prelude.{told-on, told-same, Held, IsSameOutput, files_of, unread_bytes, HostFiles}
+use Rattle.teco_filing.proofs.Prelude.{Telling, Told, after_writing, Fault, writing, halt_cause, halt_of, world}
+use Rattle.std.proofs.Common.{◌≤◌, length, true, nat_le, inl}
+use Rattle.std.specs.Prelude.{Result, Ok, Err, IfSome, option_map}
 use Rattle.teco_base.specs.declared.TheConstants.{LIMIT}
 use Rattle.teco_base.specs.declared.code.Code as base
-use Rattle.teco_model.specs.Files.{Files, Input, Output, with_written}
-use Rattle.teco_model.specs.Pages.{Page, behind_first_page, first_page, written_page}
-use Rattle.teco_model.specs.Paging.{files_behind_page, kept_with_page, looked_through, page_of_buffer, page_turned}
-use Rattle.teco_model.specs.Paging.{unread, world_after_writing, world_seeking}
+use Rattle.teco_base.specs.Does.{IsDoneOrFull}
+use Rattle.teco_model.specs.Files.{Files, Input}
+use Rattle.teco_model.specs.Pages.{behind_first_page, first_page}
+use Rattle.teco_model.specs.Paging.{files_behind_page, kept_with_page, looked_through, page_turned}
+use Rattle.teco_model.specs.Paging.{world_after_writing, world_seeking}
 use Rattle.teco_model.specs.Search.{search_text_of}
-use Rattle.teco_model.specs.State.{Kept, World}
+use Rattle.teco_model.specs.State.{World}
 use Rattle.teco_model.specs.declared.stop.HostFault.TheVariants as host_fault
-use Rattle.teco_pages.proofs.Told.{same-files, told-map, told-on, told-same}
-use Rattle.teco_pages.specs.Held.{Held, IsSameOutput, behind_held, files_of, input_of, unread_bytes, written_if_any}
-use Rattle.teco_pages.specs.HostFiles.{HostFiles, Telling, Told, after_writing}
+use Rattle.teco_pages.proofs.Told.{same-files, told-map}
+use Rattle.teco_pages.specs.Held.{behind_held, input_of, written_if_any}
 use Rattle.teco_pages.specs.PageCalls.{MakesReady}
-use Rattle.teco_pages.specs.declared.fault.Fault.{Fault}
 use Rattle.teco_pages.specs.declared.fault.Fault.TheVariants as fault
-use Rattle.teco_filing.specs.Halts.{halt_of}
-use Rattle.teco_filing.specs.Worlds.{IsDoneOrFull, PutsOut, Together, Turns, Writes, with_typed, world}
+use Rattle.teco_filing.specs.Failures.{turning}
+use Rattle.teco_filing.specs.Worlds.{PutsOut, Together, with_typed}
 use Rattle.teco_filing.specs.declared.halt.Halt.{Halt}
 use Rattle.teco_filing.specs.declared.halt.Halt.TheVariants.{Code, Memory, Host}
 use Rattle.teco_editor.specs.Turning.{GoesOut}
@@ -27,7 +29,8 @@ use Rattle.teco_editor.specs.Turning.{GoesOut}
 abbrev Written : Kept → Held → (World → Result World base.Code) → Result (Unit {0}) Halt → HostFiles → HostFiles
     → Type 0
 Written kept held defined r files left =
-    IsSameOutput held files → Writes (world kept held files) (world kept held left) (defined (world kept held files)) r
+    IsSameOutput held files → Updates halt_cause writing (world kept held files) (world kept held left)
+    (defined (world kept held files)) r
     × IsSameOutput held left
 
 -- whatever command defines them
@@ -35,7 +38,7 @@ module _ (kept : Kept) (held : Held) (defined : World → Result World base.Code
     (done : (files : HostFiles) → defined (world kept held files) ≡ Ok
     (world_after_writing bytes (world kept held files))) where
   pub is-written : (r : Result (Unit {0}) Halt) (x y : Telling) (f g : ℕ) → PutsOut bytes r x y f g
-      → Together (λ old new. Writes old new (defined old) r) kept held kept held x y
+      → Together (λ old new. Updates halt_cause writing old new (defined old) r) kept held kept held x y
   is-written (Ok u) x y f g p = told-map (λ files left. left ≡ after_writing bytes files)
       (Written kept held defined (Ok u)) (λ files left written. rw (done files) (search rules)) x y p.0
   is-written (Err (Code c)) x y f g p = absurd p
@@ -50,7 +53,7 @@ module _ (kept : Kept) (held : Held) (defined : World → Result World base.Code
 -- ---- no input is unread
 abbrev Looks : Kept → Held → List ℕ → List ℕ → Result (Unit {0}) Halt → HostFiles → HostFiles → Type 0
 Looks kept held text message r files left =
-    IsSameOutput held files → Turns (world kept held files) (world kept held left)
+    IsSameOutput held files → Updates halt_cause turning (world kept held files) (world kept held left)
     (Ok (with_typed message (looked_through (world_seeking text (world kept held files))))) r
     × IsSameOutput held left
 
@@ -72,7 +75,7 @@ look-stopped kept held text message fault.Out x y f g w =
 -- ---- a page is turned
 abbrev Turn : Kept → Held → Kept → Held → List ℕ → Result (Unit {0}) Halt → HostFiles → HostFiles → Type 0
 Turn kept held kept' held' text r files left =
-    IsSameOutput held files → Turns (world kept held files) (world kept' held' left)
+    IsSameOutput held files → Updates halt_cause turning (world kept held files) (world kept' held' left)
     (page_turned (world_seeking text (world kept held files))) r × IsSameOutput held' left
 
 abbrev beside : Files → Kept → World

@@ -1,15 +1,9 @@
 -- Bytes that go to an output one after the other.
-use Rattle.std.proofs.Common.{◌≡◌, ℕ, List, [], ◌++◌, Option, Some, None, Result, Ok, Err, append_assoc, refl, sym}
-use Rattle.std.proofs.Common.{ap, ◌∙◌}
-use Rattle.std.proofs.lemmas.List.{append-nil}
-use Rattle.teco_model.specs.Files.{Output, with_written}
-use Rattle.teco_model.specs.Pages.{written_page}
-use Rattle.teco_model.specs.Paging.{page_of_buffer, unread}
-use Rattle.teco_model.specs.State.{Kept}
-use Rattle.teco_pages.specs.Held.{Held, files_of}
-use Rattle.teco_pages.specs.HostFiles.{HostFiles, Telling, Told, Becomes, after_closing, after_dropping, after_writing}
-use Rattle.teco_pages.specs.declared.fault.Fault.{Fault}
-use Rattle.teco_pages.proofs.Told.{told-on}
+use Rattle.teco_filing.proofs.Prelude.{◌≡◌, ℕ, List, [], ◌++◌, Option, Some, None, Ok, Err, refl, sym, ap, ◌∙◌}
+use Rattle.teco_filing.proofs.Prelude.{append-nil, Output, with_written, written_page, page_of_buffer, unread, Kept}
+use Rattle.teco_filing.proofs.Prelude.{Held, files_of, HostFiles, Telling, Told, after_writing, Fault, told-on}
+use Rattle.std.proofs.Common.{Result, append_assoc}
+use Rattle.teco_pages.specs.HostFiles.{Becomes, after_closing, after_dropping}
 use Rattle.teco_pages.specs.HostCalls.{Closes}
 use Rattle.teco_filing.specs.Files.{ClosesAll, WritesAll, WritesUnread, bytes_of_all}
 

@@ -1,6 +1,8 @@
--- What a fault comes to.
+-- The reason that a fault is, and its cause.
 use Rattle.std.specs.Prelude.{ℕ, ◌≡◌, ◌<◌, Result, Ok, Err}
+use Rattle.teco_base.specs.Does as base
 use Rattle.teco_base.specs.declared.code.Code.TheVariants as code
+use Rattle.teco_model.specs.declared.stop.HostFault.{HostFault}
 use Rattle.teco_model.specs.declared.stop.HostFault.TheVariants as host_fault
 use Rattle.teco_pages.specs.declared.fault.Fault.{Fault}
 use Rattle.teco_pages.specs.declared.fault.Fault.TheVariants as fault
@@ -20,6 +22,12 @@ halt_of fault.In = Host host_fault.In
 halt_of fault.Out = Host host_fault.Out
 halt_of fault.Full = Code code.Ful
 halt_of fault.Memory = Memory
+
+-- why a command is not done
+abbrev pub halt_cause : Halt → base.Cause HostFault
+halt_cause (Code c) = base.Refused c
+halt_cause Memory = base.Memory
+halt_cause (Host fault) = base.Host fault
 
 -- A fault of the host comes only where its count of failures rose, from f to g; and in no other case does it rise.
 abbrev pub Counts : {X : Type 0} → Result X Halt → ℕ → ℕ → Type 0

@@ -7,7 +7,7 @@ use Rattle.teco_pages.specs.declared.fault.Fault.{Fault}
 use Rattle.teco_filing.specs.declared.halt.Halt.{Halt}
 use Rattle.teco_filing.specs.declared.halt.Halt.TheVariants.{Code, Memory, Host}
 
--- What a command does that is done, where an output of a name is open, or none. ER and EW open a file.
+-- The events of a command that is done, where an output of a name is open, or none. ER and EW open a file.
 abbrev pub touched_by : File → List ℕ → Option (List ℕ) → List Event
 touched_by file.Read name output = opened_input name ∷ []
 touched_by file.Write name output = opened_output name ∷ []

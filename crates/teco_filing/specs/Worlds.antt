@@ -1,9 +1,7 @@
--- What stays with an editor and its host together, and what a command of pages did to it, beside its definition.
-use Rattle.std.specs.Prelude.{ℕ, ◌≡◌, ◌<◌, List, [], length, Bool, true, false, Result, Ok, Err, IsOk, ◌⊎◌}
+-- The state that stays with an editor and its host together, and calls of the host on it.
+use Rattle.std.specs.Prelude.{ℕ, ◌≡◌, ◌<◌, List, [], length, Bool, true, false, Result, Ok, Err}
 use Rattle.teco_base.specs.declared.TheConstants.{LIMIT}
-use Rattle.teco_base.specs.declared.code.Code as base
 use Rattle.teco_base.specs.declared.code.Code.TheVariants as code
-use Rattle.teco_model.specs.Faults.{WritesPart}
 use Rattle.teco_model.specs.Pages.{first_page}
 use Rattle.teco_model.specs.Paging.{unread}
 use Rattle.teco_model.specs.State.{Kept, World}
@@ -25,35 +23,6 @@ abbrev pub Together : (World → World → Type 0) → Kept → Held → Kept �
 Together R kept held kept' held' = Told (λ files left.
     IsSameOutput held files → R (world kept held files) (world kept' held' left) × IsSameOutput held' left)
 
--- what is done, or FUL
-abbrev pub IsDoneOrFull : Result World base.Code → Type 0
-IsDoneOrFull r = IsOk r ⊎ (r ≡ Err code.Ful)
-
--- what a step that fails in writing leaves, where the definition says what it would have left
-pub record StopsWriting (old new : World) (defined : Result World base.Code) : Type 0 where
-  pub after : World
-  pub done : defined ≡ Ok after
-  pub part : WritesPart old after new
-
--- What stays became the definition's; or it is the definition's code, or memory is wanted, or the host failed, each
--- in its place, and all is as it was but for a part of what is written.
-abbrev pub Turns : World → World → Result World base.Code → Result (Unit {0}) Halt → Type 0
-Turns old new defined (Ok done) = defined ≡ Ok new
-Turns old new defined (Err (Code c)) = (defined ≡ Err c) × (new ≡ old)
-Turns old new defined (Err Memory) = IsDoneOrFull defined × (new ≡ old)
-Turns old new defined (Err (Host host_fault.NoFile)) = ⊥
-Turns old new defined (Err (Host host_fault.In)) = IsDoneOrFull defined × (new ≡ old)
-Turns old new defined (Err (Host host_fault.Out)) = StopsWriting old new defined
-
--- A command that reads, and writes nothing, left what the definition says, or is its code.
-abbrev pub Reads : World → World → Result World base.Code → Result (Unit {0}) Halt → Type 0
-Reads old new defined (Ok done) = defined ≡ Ok new
-Reads old new defined (Err (Code c)) = (defined ≡ Err c) × (new ≡ old)
-Reads old new defined (Err Memory) = IsDoneOrFull defined × (new ≡ old)
-Reads old new defined (Err (Host host_fault.NoFile)) = ⊥
-Reads old new defined (Err (Host host_fault.In)) = IsDoneOrFull defined × (new ≡ old)
-Reads old new defined (Err (Host host_fault.Out)) = ⊥
-
 -- Bytes went out; or the host failed, and some from their front did.
 abbrev pub PutsOut : List ℕ → Result (Unit {0}) Halt → Telling → Telling → ℕ → ℕ → Type 0
 PutsOut bytes (Ok done) old new f g = Becomes (after_writing bytes) old new × (g ≡ f)
@@ -62,15 +31,6 @@ PutsOut bytes (Err Memory) old new f g = ⊥
 PutsOut bytes (Err (Host host_fault.NoFile)) old new f g = ⊥
 PutsOut bytes (Err (Host host_fault.In)) old new f g = ⊥
 PutsOut bytes (Err (Host host_fault.Out)) old new f g = WritesFront bytes old new × (f < g)
-
--- A command that reads no page wants no memory.
-abbrev pub Writes : World → World → Result World base.Code → Result (Unit {0}) Halt → Type 0
-Writes old new defined (Ok done) = defined ≡ Ok new
-Writes old new defined (Err (Code c)) = (defined ≡ Err c) × (new ≡ old)
-Writes old new defined (Err Memory) = ⊥
-Writes old new defined (Err (Host host_fault.NoFile)) = ⊥
-Writes old new defined (Err (Host host_fault.In)) = ⊥
-Writes old new defined (Err (Host host_fault.Out)) = StopsWriting old new defined
 
 -- is there a byte?
 abbrev pub is_some_byte : List ℕ → Bool

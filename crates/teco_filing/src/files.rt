@@ -1,14 +1,16 @@
 //! Files that are opened, closed and copied.
-ghost use Rattle.std.specs.Prelude.{◌≡◌, [], Ok, None, IsSome, option_copied};
+ghost use Rattle.std.specs.Prelude.{◌≡◌, [], Ok, None, Some, IsSome, option_copied};
+ghost use Rattle.teco_base.specs.Does.{Does, Updates};
 ghost use Rattle.teco_model.specs.Filing as model;
 ghost use Rattle.teco_model.specs.State.{Kept};
 ghost use Rattle.teco_model.specs.declared.kind.File.TheVariants as file;
 ghost use Rattle.teco_pages.specs.HostFiles.{Told};
 ghost use Rattle.teco_pages.specs.Noting.{Touches};
 ghost use Rattle.teco_pages.specs.PageCalls.{OkOrInOut};
-ghost use Rattle.teco_filing.specs.Files.{ClosesAll, CopiesAll, LetsGo, OpensInput, OpensOutput, WritesAll};
+ghost use Rattle.teco_filing.specs.Failures.{copying, letting_go, opening_input, opening_output};
+ghost use Rattle.teco_filing.specs.Files.{ClosesAll, WritesAll};
 ghost use Rattle.teco_filing.specs.Files.{WritesUnread};
-ghost use Rattle.teco_filing.specs.Halts.{Counts};
+ghost use Rattle.teco_filing.specs.Halts.{Counts, halt_cause};
 ghost use Rattle.teco_filing.specs.Touched.{touched_by_writing, touched_in};
 ghost use Rattle.teco_filing.specs.Worlds.{Together};
 
@@ -31,7 +33,8 @@ fn check_name(name: &[u8], other: Option<&[u8]>) -> Result<(), Code>
 /// `ER`: the file of a name becomes the input.
 pub fn open_input<H: Host>(pages: &mut Pages, name: &[u8], host: &mut H) -> Result<(), Halt>
     ensures opens { (kept : Kept) → Together
-        (λ old new. OpensInput old new (model.open_input name.now old) result)
+        (λ old new. Does halt_cause opening_input (λ new _. Some new) old new
+        (model.open_input name.now old) result)
         kept pages.old kept pages.new (H.files host.old) (H.files host.new) }
     ensures counted { Counts result (H.failures host.old) (H.failures host.new) }
     ensures noted { Touches (touched_in file.Read name.now pages.old.output result) pages.old.end pages.new.end
@@ -44,7 +47,8 @@ pub fn open_input<H: Host>(pages: &mut Pages, name: &[u8], host: &mut H) -> Resu
 /// `EW`: an output of a name is opened.
 pub fn open_output<H: Host>(pages: &mut Pages, name: &[u8], host: &mut H) -> Result<(), Halt>
     ensures opens { (kept : Kept) → Together
-        (λ old new. OpensOutput old new (model.open_output name.now old) result)
+        (λ old new. Updates halt_cause opening_output old new
+        (model.open_output name.now old) result)
         kept pages.old kept pages.new (H.files host.old) (H.files host.new) }
     ensures counted { Counts result (H.failures host.old) (H.failures host.new) }
     ensures noted { Touches (touched_in file.Write name.now pages.old.output result) pages.old.end pages.new.end
@@ -60,7 +64,7 @@ pub fn open_output<H: Host>(pages: &mut Pages, name: &[u8], host: &mut H) -> Res
 /// `EF`: the output takes its name.
 pub fn close_output<H: Host>(pages: &mut Pages, host: &mut H) -> Result<(), Halt>
     ensures closes { (kept : Kept) → Together
-        (λ old new. LetsGo old new (model.close_output old) result)
+        (λ old new. Updates halt_cause letting_go old new (model.close_output old) result)
         kept pages.old kept pages.new (H.files host.old) (H.files host.new) }
     ensures counted { Counts result (H.failures host.old) (H.failures host.new) }
     ensures noted { Touches (touched_in file.Close [] pages.old.output result) pages.old.end pages.new.end
@@ -75,7 +79,7 @@ pub fn close_output<H: Host>(pages: &mut Pages, host: &mut H) -> Result<(), Halt
 /// `EK`: the output is abandoned, if one is open.
 pub fn abandon_output<H: Host>(pages: &mut Pages, host: &mut H) -> Result<(), Halt>
     ensures abandons { (kept : Kept) → Together
-        (λ old new. LetsGo old new (Ok (model.abandon_output old)) result)
+        (λ old new. Updates halt_cause letting_go old new (Ok (model.abandon_output old)) result)
         kept pages.old kept pages.new (H.files host.old) (H.files host.new) }
     ensures counted { Counts result (H.failures host.old) (H.failures host.new) }
     ensures noted { Touches (touched_in file.Abandon [] pages.old.output result) pages.old.end pages.new.end
@@ -156,7 +160,8 @@ pub fn copy_all<T: TextStore, H: Host>(
     pages: &mut Pages,
     host: &mut H,
 ) -> Result<(), Halt>
-    ensures copies { Together (λ old new. CopiesAll old new (model.copy_all old) result)
+    ensures copies { Together (λ old new. Updates halt_cause copying old new
+        (model.copy_all old) result)
         editor.old pages.old editor.new pages.new (H.files host.old) (H.files host.new) }
     ensures counted { Counts result (H.failures host.old) (H.failures host.new) }
     ensures noted { Touches (touched_in file.Copy [] pages.old.output result) pages.old.end pages.new.end
@@ -178,7 +183,8 @@ pub fn exit<T: TextStore, H: Host>(
     pages: &mut Pages,
     host: &mut H,
 ) -> Result<(), Halt>
-    ensures exits { Together (λ old new. CopiesAll old new (Ok (model.exit old)) result)
+    ensures exits { Together (λ old new. Updates halt_cause copying old new
+        (Ok (model.exit old)) result)
         editor.old pages.old editor.new pages.new (H.files host.old) (H.files host.new) }
     ensures counted { Counts result (H.failures host.old) (H.failures host.new) }
     ensures noted { Touches (touched_in file.Exit [] pages.old.output result) pages.old.end pages.new.end

@@ -1,3 +1,4 @@
+//! Why a command of pages or files is not done.
 ghost use Rattle.std.specs.Prelude.{◌≡◌};
 ghost use Rattle.teco_filing.specs.Halts.{halt_of, halt_by_stuck};
 ghost use Rattle.teco_filing.specs.declared.halt.Halt.TheVariants as halt;

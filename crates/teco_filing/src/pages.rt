@@ -1,11 +1,13 @@
 //! Pages that are read and written.
 ghost use Rattle.std.specs.Prelude.{◌≡◌, ◌++◌, [], Ok, None, IsSome};
+ghost use Rattle.teco_base.specs.Does.{Updates};
 ghost use Rattle.teco_model.specs.Pages.{written_page};
 ghost use Rattle.teco_model.specs.Paging as model;
 ghost use Rattle.teco_model.specs.State.{Kept};
 ghost use Rattle.teco_pages.specs.Noting.{Touches};
-ghost use Rattle.teco_filing.specs.Halts.{Counts};
-ghost use Rattle.teco_filing.specs.Worlds.{PutsOut, Reads, Together, Turns, Writes, TellsUnread, with_typed};
+ghost use Rattle.teco_filing.specs.Failures.{reading, turning, writing};
+ghost use Rattle.teco_filing.specs.Halts.{Counts, halt_cause};
+ghost use Rattle.teco_filing.specs.Worlds.{PutsOut, Together, TellsUnread, with_typed};
 
 use crate::halt::Halt;
 use teco_base::Code;
@@ -19,7 +21,7 @@ pub fn yank<T: TextStore, H: Host>(
     pages: &mut Pages,
     host: &mut H,
 ) -> Result<(), Halt>
-    ensures reads { Together (λ old new. Reads old new (model.yank old) result)
+    ensures reads { Together (λ old new. Updates halt_cause reading old new (model.yank old) result)
         editor.old pages.old editor.new pages.new (H.files host.old) (H.files host.new) }
     ensures counted { Counts result (H.failures host.old) (H.failures host.new) }
     ensures noted { Touches [] pages.old.end pages.new.end
@@ -45,7 +47,8 @@ pub fn append<T: TextStore, H: Host>(
     pages: &mut Pages,
     host: &mut H,
 ) -> Result<(), Halt>
-    ensures reads { Together (λ old new. Reads old new (model.append old) result)
+    ensures reads { Together (λ old new. Updates halt_cause reading old new
+        (model.append old) result)
         editor.old pages.old editor.new pages.new (H.files host.old) (H.files host.new) }
     ensures counted { Counts result (H.failures host.old) (H.failures host.new) }
     ensures noted { Touches [] pages.old.end pages.new.end
@@ -94,7 +97,7 @@ fn turn_to_nothing<T: TextStore, H: Host>(
 ) -> Result<(), Halt>
     requires output { IsSome pages.now.output }
     requires input { pages.now.input ≡ None }
-    ensures turns { Together (λ old new. Turns old new
+    ensures turns { Together (λ old new. Updates halt_cause turning old new
         (model.page_turned (model.world_seeking text.now old)) result)
         editor.old pages.now editor.new pages.now (H.files host.old) (H.files host.new) }
     ensures counted { Counts result (H.failures host.old) (H.failures host.new) }
@@ -113,7 +116,7 @@ pub fn turn_page<T: TextStore, H: Host>(
     host: &mut H,
 ) -> Result<(), Halt>
     requires { IsSome pages.old.output }
-    ensures turns { Together (λ old new. Turns old new
+    ensures turns { Together (λ old new. Updates halt_cause turning old new
         (model.page_turned (model.world_seeking text.now old)) result)
         editor.old pages.old editor.new pages.new (H.files host.old) (H.files host.new) }
     ensures counted { Counts result (H.failures host.old) (H.failures host.new) }
@@ -142,7 +145,7 @@ pub fn look_through<T: TextStore, H: Host>(
     host: &mut H,
 ) -> Result<(), Halt>
     requires { IsSome pages.now.output }
-    ensures looks { Together (λ old new. Turns old new
+    ensures looks { Together (λ old new. Updates halt_cause turning old new
         (Ok (with_typed message.now (model.looked_through (model.world_seeking text.now old))))
         result)
         editor.old pages.now editor.new pages.now (H.files host.old) (H.files host.new) }
@@ -193,7 +196,8 @@ pub fn write_page<T: TextStore, H: Host>(
     host: &mut H,
 ) -> Result<(), Halt>
     requires { IsSome pages.now.output }
-    ensures writes { Together (λ old new. Writes old new (model.page_written old) result)
+    ensures writes { Together (λ old new. Updates halt_cause writing old new
+        (model.page_written old) result)
         editor.now pages.now editor.now pages.now (H.files host.old) (H.files host.new) }
     ensures counted { Counts result (H.failures host.old) (H.failures host.new) }
     ensures noted { Touches [] pages.now.end pages.now.end
@@ -212,7 +216,8 @@ pub fn write_range<T: TextStore, H: Host>(
     host: &mut H,
 ) -> Result<(), Halt>
     requires { IsSome pages.now.output }
-    ensures writes { Together (λ old new. Writes old new (model.range_written m n old) result)
+    ensures writes { Together (λ old new. Updates halt_cause writing old new
+        (model.range_written m n old) result)
         editor.now pages.now editor.now pages.now (H.files host.old) (H.files host.new) }
     ensures counted { Counts result (H.failures host.old) (H.failures host.new) }
     ensures noted { Touches [] pages.now.end pages.now.end

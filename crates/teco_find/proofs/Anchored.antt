@@ -1,15 +1,12 @@
 -- The mark of a literal stands as far from the start of each match as there are elements of one character before it.
-use Rattle.std.proofs.Common.{◌≡◌, ℕ, zero, suc, ◌+◌, ◌<◌, Bool, true, false, cond, List, [], ◌∷◌, length, drop}
-use Rattle.std.proofs.Common.{get_or, Option, Some, None, sym, subst, arith}
+use Rattle.teco_find.proofs.Prelude.{◌≡◌, ℕ, zero, suc, ◌+◌, ◌<◌, Bool, true, false, cond, List, [], ◌∷◌, length, drop}
+use Rattle.teco_find.proofs.Prelude.{get_or, Option, Some, None, sym, subst, arith, get_or-drop, length-drop, IsSome}
+use Rattle.teco_find.proofs.Prelude.{option_map, option_and_then, Passes, Item, Span, is_marked, Anchors}
 use Rattle.std.proofs.lemmas.Bool.{false≢true}
-use Rattle.std.proofs.lemmas.List.{get_or-drop, length-drop}
-use Rattle.std.specs.Prelude.{IsSome, option_map, option_and_then, not}
-use Rattle.memchr.specs.Find.{Passes}
+use Rattle.std.specs.Prelude.{not}
 use Rattle.teco_model.specs.Match as model
-use Rattle.teco_model.specs.declared.pattern.Item.{Item}
 use Rattle.teco_model.specs.declared.pattern.Item.TheVariants as item
-use Rattle.teco_model.specs.declared.pattern.Span.{Span}
-use Rattle.teco_find.specs.Anchors.{is_marked, IsMarkedBy, Anchors}
+use Rattle.teco_find.specs.Anchors.{IsMarkedBy}
 use Rattle.teco_find.specs.declared.mark.Mark.{Mark}
 
 -- an element matches one character

@@ -1,3 +1,4 @@
+mod Prelude
 mod Anchored
 mod Marks
 mod Matches

@@ -1,11 +1,8 @@
 -- The first and the last place of a mark, in a text of two pieces.
-use Rattle.std.proofs.Common.{◌≡◌, ℕ, ◌+◌, ◌-◌, ◌<◌, ◌≤◌, Bool, true, List, ◌++◌, length, Some, None, ⊎_elim, sym}
-use Rattle.std.proofs.Common.{subst, arith, length-append}
-use Rattle.std.proofs.Math.ListN.{get_or-append}
-use Rattle.std.proofs.Math.Seq.{get_or-append_right}
-use Rattle.std.proofs.lemmas.Bool.{cases_lt}
+use Rattle.teco_find.proofs.Prelude.{◌≡◌, ℕ, ◌+◌, ◌-◌, ◌<◌, ◌≤◌, Bool, true, List, ◌++◌, length, Some, None, ⊎_elim}
+use Rattle.teco_find.proofs.Prelude.{sym, subst, arith, length-append, get_or-append, get_or-append_right, cases_lt}
+use Rattle.teco_find.proofs.Prelude.{IsFirstByte, IsLastByte, Passes}
 use Rattle.std.proofs.lemmas.List.{get_or-append-add}
-use Rattle.memchr.specs.Find.{IsFirstByte, IsLastByte, Passes}
 
 module _ (p : ℕ → Bool) (front back : List ℕ) where
   in_front : (k : ℕ) → k < length front → Passes p front k → Passes p (front ++ back) k

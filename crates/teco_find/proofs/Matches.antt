@@ -1,19 +1,14 @@
 -- Matches and searches in a text of two pieces.
-use Rattle.std.proofs.Common.{◌≡◌, ℕ, zero, suc, ◌+◌, ◌-◌, ◌<◌, ◌≤◌, List, [], ◌∷◌, length, drop, get_or, Option}
-use Rattle.std.proofs.Common.{Some, None, ap, sym, refl, ◌∙◌, arith}
-use Rattle.std.proofs.lemmas.List.{at_drop_more, length-drop}
-use Rattle.std.specs.Option.{option_map_or, option_or}
-use Rattle.std.specs.Prelude.{IsSome, option_map, option_and_then}
-use Rattle.memchr.specs.Find.{IsFirst, IsLast, Nowhere, NoneBefore, NoneAfter}
+use Rattle.teco_find.proofs.Prelude.{◌≡◌, ℕ, zero, suc, ◌+◌, ◌-◌, ◌<◌, ◌≤◌, List, [], ◌∷◌, length, drop, get_or, Option}
+use Rattle.teco_find.proofs.Prelude.{Some, None, ap, sym, refl, ◌∙◌, arith, length-drop, option_map_or, IsSome}
+use Rattle.teco_find.proofs.Prelude.{option_map, option_and_then, IsFirst, IsLast, Nowhere, NoneBefore, sought, Item}
+use Rattle.teco_find.proofs.Prelude.{Wanted, Span, Anchors, Stands, IsNeedle, NoneUpTo, Anchor}
+use Rattle.std.proofs.lemmas.List.{at_drop_more}
+use Rattle.std.specs.Option.{option_or}
+use Rattle.memchr.specs.Find.{NoneAfter}
 use Rattle.teco_model.specs.Match as model
-use Rattle.teco_model.specs.Paging.{sought}
 use Rattle.teco_model.specs.Pattern.{Pattern}
-use Rattle.teco_model.specs.declared.pattern.Item.{Item}
-use Rattle.teco_model.specs.declared.pattern.Sought.TheVariants.{Wanted}
-use Rattle.teco_model.specs.declared.pattern.Span.{Span}
-use Rattle.teco_find.specs.Anchors.{Anchors, IsLastTried, IsNextTried, Stands, StartsAt}
-use Rattle.teco_find.specs.Needles.{IsNeedle, NoneUpTo}
-use Rattle.teco_find.specs.declared.anchor.Anchor.{Anchor}
+use Rattle.teco_find.specs.Anchors.{IsLastTried, IsNextTried, StartsAt}
 
 -- what elements leave, from the next on
 pub rests_more : (text : List ℕ) (items : List Item) (i : ℕ) (own : Item) → i < length items → own ≡ get_or items i own

@@ -1,14 +1,12 @@
 -- A text says the same pattern wherever the registers that it names have the same texts.
-use Rattle.std.proofs.Common.{◌≡◌, ℕ, Bool, List, [], ◌∷◌, ◌++◌, Result, Ok, Err, refl, sym, ap, ◌∙◌, subst}
-use Rattle.std.specs.Prelude.{All, IfOk, flat_map}
+use Rattle.teco_find.proofs.Prelude.{◌≡◌, ℕ, Bool, List, [], ◌∷◌, ◌++◌, Result, Ok, Err, refl, sym, ap, ◌∙◌, subst}
+use Rattle.teco_find.proofs.Prelude.{IfOk, flat_map, Code, ◌>>=◌, Part, named_by, named_in}
+use Rattle.std.specs.Prelude.{All}
 use Rattle.std.proofs.lemmas.List.Elements.{All-head, All-tail}
-use Rattle.teco_base.specs.declared.code.Code.{Code}
-use Rattle.teco_model.specs.Checked.{◌>>=◌}
 use Rattle.teco_model.specs.Pattern as model
 use Rattle.teco_model.specs.Registers.{Registers, pair_of}
-use Rattle.teco_model.specs.declared.pattern.Part.{Part}
 use Rattle.teco_model.specs.declared.pattern.Part.TheVariants as part
-use Rattle.teco_find.specs.Reading.{Named, Has, SaysWhere, named_by, named_in}
+use Rattle.teco_find.specs.Reading.{Named, Has, SaysWhere}
 
 -- parts stand for the same elements where the registers that they name have the same texts
 same : (r s : Registers) (exact : Bool) (ps : List Part) → All (Has s) (flat_map (named_by r) ps) →

@@ -1,17 +1,15 @@
 -- The literals that a pattern begins with stand at the start of each match; and where they are found in two pieces.
-use Rattle.std.proofs.Common.{◌≡◌, ℕ, zero, suc, ◌+◌, ◌-◌, ◌<◌, ◌≤◌, List, [], ◌∷◌, ◌++◌, length, drop, take, get_or}
-use Rattle.std.proofs.Common.{Option, Some, None, ⊎_elim, ap, refl, sym, subst, ◌∙◌, arith, length-append}
-use Rattle.std.proofs.Math.ListN.{get_or-append}
-use Rattle.std.proofs.Math.Seq.{get_or-append_right}
-use Rattle.std.proofs.lemmas.Bool.{cases_lt, eq-eqb, eqb-true}
-use Rattle.std.proofs.lemmas.List.{get_or-drop, length-drop, length-map, length-take, take_all, take_rest}
+use Rattle.teco_find.proofs.Prelude.{◌≡◌, ℕ, zero, suc, ◌+◌, ◌-◌, ◌<◌, ◌≤◌, List, [], ◌∷◌, ◌++◌, length, drop, take}
+use Rattle.teco_find.proofs.Prelude.{get_or, Option, Some, None, ⊎_elim, ap, refl, sym, subst, ◌∙◌, arith}
+use Rattle.teco_find.proofs.Prelude.{length-append, get_or-append, get_or-append_right, cases_lt, get_or-drop}
+use Rattle.teco_find.proofs.Prelude.{length-drop, length-take, IfSome, IsSome, map, Nowhere, NoneBefore, Item, IsNeedle}
+use Rattle.teco_find.proofs.Prelude.{NoneUpTo, literal, joined}
+use Rattle.std.proofs.lemmas.Bool.{eq-eqb, eqb-true}
+use Rattle.std.proofs.lemmas.List.{length-map, take_all, take_rest}
 use Rattle.std.specs.Borrow.{Bor}
-use Rattle.std.specs.Prelude.{IfSome, IsSome, map}
-use Rattle.memchr.specs.Find.{FindsNeedle, Nowhere, NoneBefore, OccursAt}
+use Rattle.memchr.specs.Find.{FindsNeedle, OccursAt}
 use Rattle.teco_model.specs.Match as model
-use Rattle.teco_model.specs.declared.pattern.Item.{Item}
-use Rattle.teco_find.specs.Needles.{AreLiterals, Begins, IsNeedle, NoneUpTo, literal}
-use Rattle.teco_find.specs.Pieces.{joined}
+use Rattle.teco_find.specs.Needles.{AreLiterals, Begins}
 use Rattle.teco_find.specs.declared.mark.Mark.TheVariants as mark
 use Rattle.teco_find.proofs.Anchored.{GoesOn, goes_on, marked_front, matched}
 use Rattle.teco_find.proofs.Matches.{here_some}

@@ -1,10 +1,8 @@
 -- The first and the last start from which an anchor's mark stands, by where the mark is found.
-use Rattle.std.proofs.Common.{◌≡◌, ℕ, ◌+◌, ◌-◌, ◌<◌, ◌≤◌, true, List, length, drop, take, get_or, Option, Some, None}
-use Rattle.std.proofs.Common.{ap, sym, subst, ◌∙◌, arith}
-use Rattle.std.proofs.lemmas.List.{get_or-drop, get_or-take, length-drop, length-take}
-use Rattle.memchr.specs.Find.{IsFirst, IsLast, IsFirstByte, IsLastByte, Passes}
-use Rattle.teco_find.specs.Anchors.{is_marked, Stands}
-use Rattle.teco_find.specs.declared.anchor.Anchor.{Anchor}
+use Rattle.teco_find.proofs.Prelude.{◌≡◌, ℕ, ◌+◌, ◌-◌, ◌<◌, ◌≤◌, true, List, length, drop, take, get_or, Option, Some}
+use Rattle.teco_find.proofs.Prelude.{None, ap, sym, subst, ◌∙◌, arith, get_or-drop, length-drop, length-take, IsFirst}
+use Rattle.teco_find.proofs.Prelude.{IsLast, IsFirstByte, IsLastByte, Passes, is_marked, Stands, Anchor}
+use Rattle.std.proofs.lemmas.List.{get_or-take}
 
 module _ (anchor : Anchor) (text : List ℕ) where
   -- what is ahead of a place, from the anchor's distance on

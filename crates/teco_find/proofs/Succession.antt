@@ -1,17 +1,15 @@
 -- The parts of a search text, one after another.
-use Rattle.std.proofs.Common.{◌≡◌, ℕ, zero, suc, ◌+◌, ◌<◌, ◌≤◌, Bool, true, false, cond, List, [], ◌∷◌, length}
-use Rattle.std.proofs.Common.{Option, Some, None, Result, Ok, Err, ap, refl, arith}
-use Rattle.std.specs.Prelude.{IfOk, ok_or, ◌==◌, fold}
+use Rattle.teco_find.proofs.Prelude.{◌≡◌, ℕ, zero, suc, ◌+◌, ◌<◌, ◌≤◌, Bool, true, false, cond, List, [], ◌∷◌, length}
+use Rattle.teco_find.proofs.Prelude.{Option, Some, None, Result, Ok, Err, ap, refl, arith, IfOk, fold, Code, ◌>>=◌}
+use Rattle.teco_find.proofs.Prelude.{Part}
+use Rattle.std.specs.Prelude.{ok_or, ◌==◌}
 use Rattle.teco_base.specs.Bytes.{to_upper, control}
 use Rattle.teco_base.specs.Register.{register_of}
-use Rattle.teco_base.specs.declared.code.Code.{Code}
 use Rattle.teco_base.specs.declared.code.Code.TheVariants as code
-use Rattle.teco_model.specs.Checked.{◌>>=◌}
 use Rattle.teco_model.specs.Pattern as model
 use Rattle.teco_model.specs.declared.pattern.Class.{Class}
 use Rattle.teco_model.specs.declared.pattern.Class.TheVariants as class
 use Rattle.teco_model.specs.declared.pattern.Item.TheVariants as item
-use Rattle.teco_model.specs.declared.pattern.Part.{Part}
 use Rattle.teco_model.specs.declared.pattern.Part.TheVariants as part
 
 -- at least k of n bytes are read

@@ -1,4 +1,4 @@
--- What the calls of this crate answer, beside the definition, and the texts that they look at.
+-- The answers of calls beside the definition, and the texts that they look at.
 pub mod Anchors
 pub mod Needles
 pub mod Pieces

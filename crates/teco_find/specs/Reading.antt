@@ -1,6 +1,7 @@
--- What the calls that read a search text answer, beside the definition.
+-- The answers of calls that read a search text, beside the definition.
 use Rattle.std.specs.Prelude.{◌≡◌, ℕ, ◌<◌, List, [], ◌∷◌, length, flat_map, fold, All, Bool, Option, Some, None}
-use Rattle.std.specs.Prelude.{Result, Ok, Err, IsOk}
+use Rattle.std.specs.Prelude.{Result, Ok, Err}
+use Rattle.teco_base.specs.Does.{Cause, Refused, Memory}
 use Rattle.teco_base.specs.declared.code.Code.{Code}
 use Rattle.teco_base.specs.declared.code.Code.TheVariants as code
 use Rattle.teco_model.specs.Checked.{◌>>=◌}
@@ -22,24 +23,13 @@ abbrev pub fault_of : Flaw → FindFault
 fault_of flaw.Ice = fault.Ice
 fault_of flaw.Iqn = fault.Iqn
 
--- what a step of reading returned, seen by view, is what the definition gives
-abbrev pub Gives : {X Y : Type 0} → (X → Y) → Result X Flaw → Result Y Code → Type 0
-Gives view (Ok x) defined = defined ≡ Ok (view x)
-Gives view (Err f) defined = defined ≡ Err (code_of f)
+abbrev pub flaw_cause : Flaw → Cause ⊥
+flaw_cause f = Refused (code_of f)
 
--- what a public call answers is what reading gives; it may be refused memory where the text has no flaw
-abbrev pub Reads : {X : Type 0} → Result X FindFault → Result X Code → Type 0
-Reads (Ok x) defined = defined ≡ Ok x
-Reads (Err fault.Ice) defined = defined ≡ Err code.Ice
-Reads (Err fault.Iqn) defined = defined ≡ Err code.Iqn
-Reads (Err fault.Memory) defined = IsOk defined
-
--- what a public call answers that takes no memory is what reading gives
-abbrev pub Judges : {X : Type 0} → Result X FindFault → Result X Code → Type 0
-Judges (Ok x) defined = defined ≡ Ok x
-Judges (Err fault.Ice) defined = defined ≡ Err code.Ice
-Judges (Err fault.Iqn) defined = defined ≡ Err code.Iqn
-Judges (Err fault.Memory) defined = ⊥
+abbrev pub pattern_cause : FindFault → Cause ⊥
+pattern_cause fault.Ice = Refused code.Ice
+pattern_cause fault.Iqn = Refused code.Iqn
+pattern_cause fault.Memory = Memory
 
 -- a part was read off a text: the parts of what there was are this one and those of what is left
 abbrev pub NextPart : List ℕ → List ℕ → Result (Option Part) Flaw → Type 0

@@ -1,4 +1,4 @@
-// Where a match can start at all: a byte of the pattern stands at a known distance from there.
+//! Where a match can start at all: a byte of the pattern stands at a known distance from there.
 ghost use Rattle.std.specs.Prelude.{◌≤◌, length, IfSome};
 ghost use Rattle.memchr.specs.Find.{IsFirst, IsLast};
 ghost use Rattle.teco_find.specs.Anchors.{Anchors, IsMarkedBy, Stands};

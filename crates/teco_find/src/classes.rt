@@ -1,4 +1,4 @@
-// Classes of characters.
+//! Classes of characters.
 ghost use Rattle.std.specs.Prelude.{◌≡◌};
 ghost use Rattle.teco_model.specs.Match as model;
 

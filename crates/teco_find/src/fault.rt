@@ -1,4 +1,4 @@
-// Why no pattern is made of a search text.
+//! Why no pattern is made of a search text.
 ghost use Rattle.std.specs.Prelude.{◌≡◌};
 ghost use Rattle.teco_find.specs.declared.fault.FindFault.TheVariants.{Memory};
 ghost use Rattle.teco_find.specs.Reading.{fault_of};

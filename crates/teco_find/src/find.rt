@@ -1,4 +1,4 @@
-// Searches over a text in two pieces.
+//! Searches over a text in two pieces.
 ghost use Rattle.std.specs.Prelude.{◌≡◌, ◌≤◌, ◌<◌, List, length, option_map, IfSome, Some};
 ghost use Rattle.teco_model.specs.Match as model;
 ghost use Rattle.teco_model.specs.Paging.{sought};
@@ -32,7 +32,7 @@ fn literals_behind(needle: &Needle, text: (&[u8], &[u8]), at: usize) -> Option<S
 }
 
 impl Pattern {
-    // What looks for the pattern, where that is nothing but literals.
+    // The finder of the pattern, if it is nothing but literals.
     #[inline(always)]
     fn literals(&self) -> Option<&Needle>
         ensures { IfSome result (λ needle. AreLiterals self.now needle.now) }

@@ -1,4 +1,4 @@
-// The elements that are looked for, where the parts of a search text are read.
+//! The elements that are looked for, where the parts of a search text are read.
 ghost use Rattle.std.specs.Prelude.{◌≡◌, ◌++◌, OnOk};
 ghost use Rattle.teco_model.specs.Pattern as model;
 

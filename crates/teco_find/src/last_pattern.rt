@@ -1,7 +1,8 @@
-// The pattern that was read last.
-ghost use Rattle.std.specs.Prelude.{◌≡◌, length, [], IsOk, IsTrue, OnOk, OnErr, IfErr, Ok, Err};
+//! The pattern that was read last.
+ghost use Rattle.std.specs.Prelude.{◌≡◌, length, [], IsOk, IsTrue, OnOk, OnErr, IfErr, Ok};
+ghost use Rattle.teco_base.specs.Does.{FailsWith, memory_where};
 ghost use Rattle.teco_model.specs.Pattern as model;
-ghost use Rattle.teco_find.specs.Reading.{Reads};
+ghost use Rattle.teco_find.specs.Reading.{pattern_cause};
 
 use crate::fault::FindFault;
 use crate::named::{Named, are_current, list_named};
@@ -72,8 +73,8 @@ impl LastPattern {
     #[inline(always)]
     pub fn read(&mut self, text: &[u8], regs: &Regs, exact: bool) -> Result<(), FindFault>
         ensures ok { OnOk result (model.pattern regs.now exact text.now ≡ Ok self.new) }
-        ensures err { IfErr result (λ fault. Reads (Err fault)
-            (model.pattern regs.now exact text.now)) }
+        ensures err { IfErr result (λ fault. FailsWith (memory_where IsOk)
+            (model.pattern regs.now exact text.now) (pattern_cause fault)) }
         ensures kept { OnErr result (self.new ≡ self.old) }
         ensures empty { length text.now ≡ 0 → IsOk result }
     {
@@ -87,8 +88,8 @@ impl LastPattern {
     #[inline(never)]
     fn read_anew(&mut self, text: &[u8], regs: &Regs, exact: bool) -> Result<(), FindFault>
         ensures ok { OnOk result (model.pattern regs.now exact text.now ≡ Ok self.new) }
-        ensures err { IfErr result (λ fault. Reads (Err fault)
-            (model.pattern regs.now exact text.now)) }
+        ensures err { IfErr result (λ fault. FailsWith (memory_where IsOk)
+            (model.pattern regs.now exact text.now) (pattern_cause fault)) }
         ensures kept { OnErr result (self.new ≡ self.old) }
         ensures empty { length text.now ≡ 0 → IsOk result }
     {

@@ -1,4 +1,4 @@
-// Bytes that are looked for in a text in two pieces.
+//! Bytes that are looked for in a text in two pieces.
 ghost use Rattle.memchr.specs.Find.{IsFirstByte, IsLastByte};
 ghost use Rattle.teco_find.specs.Anchors.{is_marked};
 ghost use Rattle.teco_find.specs.Pieces.{joined};

@@ -1,4 +1,4 @@
-// The registers that a search text names, with their texts.
+//! The registers that a search text names, with their texts.
 ghost use Rattle.std.specs.Prelude.{◌≡◌, ◌↔◌, IsTrue, OnOk, IfOk, Ok, All};
 ghost use Rattle.teco_model.specs.Registers.{pair_of};
 ghost use Rattle.teco_find.specs.Reading as reading;

@@ -1,4 +1,4 @@
-// Literals that each match begins with, looked for as a whole.
+//! Literals that each match begins with, looked for as a whole.
 ghost use Rattle.std.specs.Option.{ForSome};
 ghost use Rattle.std.specs.Prelude.{◌≡◌, ◌≤◌, ◌<◌, length, map, take, IfSome, IfOk, IsOk};
 ghost use Rattle.memchr.specs.Find.{FindsNeedle};
@@ -49,7 +49,7 @@ fn literals_of(items: &[Item]) -> Literals
     literals
 }
 
-// What looks for the literals that a pattern begins with, where there is more than one. For less
+// The finder of the literals that a pattern begins with, where there is more than one. For less
 // it takes no memory.
 pub(crate) fn needle_of(alloc: Global, items: &[Item]) -> Result<Option<Needle>, AllocError>
     ensures needle { IfOk result (λ needle. ForSome needle (IsNeedle items.now)) }

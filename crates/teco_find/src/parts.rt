@@ -1,4 +1,4 @@
-// The parts of a search text, one after another.
+//! The parts of a search text, one after another.
 ghost use Rattle.std.specs.Prelude.{◌≡◌};
 ghost use Rattle.teco_find.specs.Reading.{NextPart};
 

@@ -1,7 +1,8 @@
-// Patterns, and how they are read.
+//! Patterns, and how they are read.
 ghost use Rattle.std.specs.Prelude.{◌≡◌, [], ◌+◌, ◌^◌, ◌<◌, length, IsOk, IfSome};
+ghost use Rattle.teco_base.specs.Does.{Gives, codes_alone, memory_where};
 ghost use Rattle.teco_model.specs.Pattern as model;
-ghost use Rattle.teco_find.specs.Reading.{Judges, Reads, last_part};
+ghost use Rattle.teco_find.specs.Reading.{last_part, pattern_cause};
 
 use crate::anchor::{Anchor, anchor_of};
 use crate::fault::FindFault;
@@ -13,7 +14,7 @@ use std::marker::Model;
 use teco_model::pattern::{Item, Part};
 use teco_regs::Regs;
 
-/// What a search looks for.
+/// The pattern that a search looks for.
 #[derive(Drop)]
 pub struct Pattern {
     pub(crate) items: Vec<Item>,
@@ -52,7 +53,8 @@ impl Pattern {
     /// memory is wanted, and an empty text takes none.
     #[tactic(auto, using(crate::proofs::Succession::minimum_none))]
     pub fn read(alloc: Global, text: &[u8], regs: &Regs, exact: bool) -> Result<Pattern, FindFault>
-        ensures pattern { Reads result (model.pattern regs.now exact text.now) }
+        ensures pattern { Gives pattern_cause (memory_where IsOk) (λ x. x)
+            (model.pattern regs.now exact text.now) result }
         ensures empty { length text.now ≡ 0 → IsOk result }
     {
         let least = minimum(text)?;
@@ -76,7 +78,7 @@ impl Pattern {
 ///
 /// Takes no memory.
 pub fn minimum(text: &[u8]) -> Result<Option<usize>, FindFault>
-    ensures { Judges result (model.minimum text.now) }
+    ensures { Gives pattern_cause codes_alone (λ x. x) (model.minimum text.now) result }
 {
     let mut least = Some(0);
     let mut parts = Parts::of(text);
@@ -90,7 +92,7 @@ pub fn minimum(text: &[u8]) -> Result<Option<usize>, FindFault>
 ///
 /// Takes no memory.
 pub fn last_part(text: &[u8]) -> Result<Option<Part>, FindFault>
-    ensures { Judges result (last_part text.now) }
+    ensures { Gives pattern_cause codes_alone (λ x. x) (last_part text.now) result }
 {
     let mut last = None;
     let mut parts = Parts::of(text);

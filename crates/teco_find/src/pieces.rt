@@ -1,4 +1,4 @@
-// A text in two pieces, read from its front.
+//! A text in two pieces, read from its front.
 ghost use Rattle.std.specs.Prelude.{◌≡◌, ◌≤◌, [], ◌∷◌, length, drop, take, MatchOption};
 ghost use Rattle.teco_find.specs.Pieces.{joined};
 

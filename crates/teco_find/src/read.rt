@@ -1,7 +1,8 @@
-// What stands at the front of a search text, each with the text behind it.
+//! The sign, class or part at the front of a search text, with the text behind it.
 ghost use Rattle.std.specs.Prelude.{◌≡◌};
+ghost use Rattle.teco_base.specs.Does.{Gives, codes_alone};
 ghost use Rattle.teco_model.specs.Pattern as model;
-ghost use Rattle.teco_find.specs.Reading.{Gives};
+ghost use Rattle.teco_find.specs.Reading.{flaw_cause};
 
 use crate::fault::Flaw;
 use teco_base::Reg;
@@ -20,7 +21,7 @@ const CONTROL_X: u8 = 24;
 
 // The byte at the front as it stands.
 fn byte(text: &[u8]) -> Result<(u8, &[u8]), Flaw>
-    ensures { Gives (λ x. (x.0, x.1.now)) result (model.byte text.now) }
+    ensures { Gives flaw_cause codes_alone (λ x. (x.0, x.1.now)) (model.byte text.now) result }
 {
     let (b, rest) = text.split_first().ok_or(Flaw::Ice)?;
     Ok((*b, rest))
@@ -28,7 +29,7 @@ fn byte(text: &[u8]) -> Result<(u8, &[u8]), Flaw>
 
 // The byte at the front, or the control byte that a caret and a byte are.
 fn sign(text: &[u8]) -> Result<(u8, &[u8]), Flaw>
-    ensures { Gives (λ x. (x.0, x.1.now)) result (model.sign text.now) }
+    ensures { Gives flaw_cause codes_alone (λ x. (x.0, x.1.now)) (model.sign text.now) result }
 {
     let (b, rest) = byte(text)?;
     if b != b'^' {
@@ -56,7 +57,7 @@ fn letter_class(letter: u8) -> Option<Class>
 
 // Behind `^E`: the class that the letter names.
 fn lettered(text: &[u8]) -> Result<(Class, &[u8]), Flaw>
-    ensures { Gives (λ x. (x.0, x.1.now)) result (model.lettered text.now) }
+    ensures { Gives flaw_cause codes_alone (λ x. (x.0, x.1.now)) (model.lettered text.now) result }
 {
     let (b, rest) = byte(text)?;
     Ok((letter_class(to_upper(b)).ok_or(Flaw::Ice)?, rest))
@@ -64,7 +65,8 @@ fn lettered(text: &[u8]) -> Result<(Class, &[u8]), Flaw>
 
 // Behind a sign: the class that begins with it.
 fn class_from(sign: u8, text: &[u8]) -> Result<(Class, &[u8]), Flaw>
-    ensures { Gives (λ x. (x.0, x.1.now)) result (model.class_from sign text.now) }
+    ensures { Gives flaw_cause codes_alone (λ x. (x.0, x.1.now))
+        (model.class_from sign text.now) result }
 {
     match sign {
         CONTROL_X => Ok((Class::Any, text)),
@@ -81,7 +83,7 @@ fn class_from(sign: u8, text: &[u8]) -> Result<(Class, &[u8]), Flaw>
 
 // Behind `^N`: the class that is not matched.
 fn negated(text: &[u8]) -> Result<(Part, &[u8]), Flaw>
-    ensures { Gives (λ x. (x.0, x.1.now)) result (model.negated text.now) }
+    ensures { Gives flaw_cause codes_alone (λ x. (x.0, x.1.now)) (model.negated text.now) result }
 {
     let (b, rest) = sign(text)?;
     let (class, rest) = class_from(b, rest)?;
@@ -90,7 +92,8 @@ fn negated(text: &[u8]) -> Result<(Part, &[u8]), Flaw>
 
 // Behind `^EQ`: the register that is named.
 fn register_text(text: &[u8]) -> Result<(Part, &[u8]), Flaw>
-    ensures { Gives (λ x. (x.0, x.1.now)) result (model.register_text text.now) }
+    ensures { Gives flaw_cause codes_alone (λ x. (x.0, x.1.now))
+        (model.register_text text.now) result }
 {
     let (name, rest) = byte(text)?;
     let reg = Reg::of(name).ok_or(Flaw::Iqn)?;
@@ -99,7 +102,7 @@ fn register_text(text: &[u8]) -> Result<(Part, &[u8]), Flaw>
 
 // Behind `^E`: what the letter names.
 fn extended(text: &[u8]) -> Result<(Part, &[u8]), Flaw>
-    ensures { Gives (λ x. (x.0, x.1.now)) result (model.extended text.now) }
+    ensures { Gives flaw_cause codes_alone (λ x. (x.0, x.1.now)) (model.extended text.now) result }
 {
     let (b, rest) = byte(text)?;
     match to_upper(b) {
@@ -114,7 +117,8 @@ fn extended(text: &[u8]) -> Result<(Part, &[u8]), Flaw>
 
 // Behind a sign: the part that begins with it.
 fn part_from(sign: u8, text: &[u8]) -> Result<(Part, &[u8]), Flaw>
-    ensures { Gives (λ x. (x.0, x.1.now)) result (model.part_from sign text.now) }
+    ensures { Gives flaw_cause codes_alone (λ x. (x.0, x.1.now))
+        (model.part_from sign text.now) result }
 {
     match sign {
         CONTROL_N => negated(text),
@@ -129,7 +133,7 @@ fn part_from(sign: u8, text: &[u8]) -> Result<(Part, &[u8]), Flaw>
 // The part that a text begins with.
 #[tactic(auto, unfolding(teco_model::specs::Pattern::part_at))]
 pub(crate) fn part_at(text: &[u8]) -> Result<(Part, &[u8]), Flaw>
-    ensures { Gives (λ x. (x.0, x.1.now)) result (model.part_at text.now) }
+    ensures { Gives flaw_cause codes_alone (λ x. (x.0, x.1.now)) (model.part_at text.now) result }
 {
     let (b, rest) = sign(text)?;
     part_from(b, rest)

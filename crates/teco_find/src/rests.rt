@@ -1,4 +1,4 @@
-// What is left of a text in two pieces behind elements that are matched at its front.
+//! The rest of a text in two pieces behind elements that are matched at its front.
 ghost use Rattle.std.specs.Prelude.{◌≡◌, ◌≤◌, ◌++◌, length, option_map, IfSome};
 ghost use Rattle.teco_model.specs.Match as model;
 ghost use Rattle.teco_find.specs.Pieces.{joined};

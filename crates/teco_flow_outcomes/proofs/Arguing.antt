@@ -1,58 +1,43 @@
 -- What changes the pending arguments alone.
-use Rattle.std.proofs.Common.{◌≡◌, ℕ, ◌+◌, ◌≤◌, ◌==◌, ℤ, pos, negsuc, ◌≤ℤ◌, List, [], ◌∷◌, ◌++◌, length, drop, Bool}
-use Rattle.std.proofs.Common.{true, false, Option, Some, None, Result, Ok, Err, if◌then◌else◌, option_and_then}
-use Rattle.std.proofs.Common.{slice_index_or}
-use Rattle.std.proofs.Common.{refl, sym, ap, subst, ◌∙◌, arith, unwrap_or, length-append, FitsSigned, w32}
-use Rattle.std.proofs.lemmas.Int.{ints, int_wrap_fits}
+use Rattle.teco_flow_outcomes.proofs.Prelude.{◌≡◌, ℕ, ◌+◌, ◌≤◌, ◌==◌, ℤ, pos, negsuc, ◌≤ℤ◌, List, [], ◌∷◌, ◌++◌, length}
+use Rattle.teco_flow_outcomes.proofs.Prelude.{drop, Bool, true, false, Option, Some, None, Result, Ok, if◌then◌else◌}
+use Rattle.teco_flow_outcomes.proofs.Prelude.{option_and_then, slice_index_or, refl, sym, ap, subst, ◌∙◌, arith}
+use Rattle.teco_flow_outcomes.proofs.Prelude.{unwrap_or, w32, ints, ok_or, Code, Term, Valuation, value, Arguments}
+use Rattle.teco_flow_outcomes.proofs.Prelude.{level_with, ◌>>=◌, levels_after, Operator, STEPS, Case, Number, Length}
+use Rattle.teco_flow_outcomes.proofs.Prelude.{Turns, PushedNumber, PushedLength, First, Value, Measure, One, Each}
+use Rattle.teco_flow_outcomes.proofs.Prelude.{Steps, Pointer, Size, Held, LineEnd, LineStart, LastLength, CodeHere}
+use Rattle.teco_flow_outcomes.proofs.Prelude.{CodeBefore, Typed, Outcomes, Clause, Places, RowStep, value_if, EndsWith}
+use Rattle.teco_flow_outcomes.proofs.Prelude.{IsAtLevel, IsCommanded, Rearranges, Succeeds, IsOutermost, with_arguments}
+use Rattle.teco_flow_outcomes.proofs.Prelude.{AreMet, Before, Holds, changed, Point, IsLed, IsShape, IsTrueOf, WaitsFor}
+use Rattle.teco_flow_outcomes.proofs.Prelude.{each, from_end, measures_of, read_at, described, left_alone}
+use Rattle.teco_flow_outcomes.proofs.Prelude.{leaves_singles, single_alone, IsDropped}
+use Rattle.std.proofs.Common.{Err}
+use Rattle.std.proofs.Common.{length-append, FitsSigned}
+use Rattle.std.proofs.lemmas.Int.{int_wrap_fits}
 use Rattle.std.proofs.lemmas.List.{get_or_append_left}
 use Rattle.std.proofs.Math.Seq.{get_or-append_seam}
 use Rattle.std.specs.List.{All}
-use Rattle.std.specs.Option.{ok_or}
-use Rattle.teco_base.specs.declared.code.Code.{Code}
 use Rattle.teco_base.specs.declared.code.Code.TheVariants as code
-use Rattle.teco_linear.specs.declared.term.Term.{Term}
-use Rattle.teco_linear.specs.Form.{Valuation, value}
 use Rattle.teco_linear.specs.Implied as linear
-use Rattle.teco_model.specs.Arguments.{Arguments, levels_after_open, levels_closed_onto, final_value, first_value}
-use Rattle.teco_model.specs.Arguments.{no_first, with_level as model_with_level, level_with, level_after_comma}
+use Rattle.teco_model.specs.Arguments.{levels_after_open, levels_closed_onto, final_value, first_value}
+use Rattle.teco_model.specs.Arguments.{no_first, with_level as model_with_level, level_after_comma}
 use Rattle.teco_model.specs.Arguments.{operator_after, result_of}
-use Rattle.teco_model.specs.Checked.{◌>>=◌}
 use Rattle.teco_model.specs.Going.{after}
-use Rattle.teco_model.specs.Step.{levels_after}
 use Rattle.teco_model.specs.declared.arguments.Level.{Level}
-use Rattle.teco_model.specs.declared.arguments.Operator.{Operator}
 use Rattle.teco_model.specs.declared.kind.Argument.TheVariants as argument
-use Rattle.teco_flow_outcomes.specs.declared.arguments.TheConstants.{STEPS, PARTS, OPENS}
-use Rattle.teco_rows.specs.declared.case.Case.{Case}
+use Rattle.teco_flow_outcomes.specs.declared.arguments.TheConstants.{PARTS, OPENS}
 use Rattle.teco_rows.specs.declared.levels.TheConstants.{STEP}
-use Rattle.teco_rows.specs.declared.measure.Family.TheVariants.{Number, Length, Turns, PushedNumber, PushedLength}
-use Rattle.teco_rows.specs.declared.measure.Family.TheVariants.{First, Value}
-use Rattle.teco_rows.specs.declared.measure.Measure.{Measure}
-use Rattle.teco_rows.specs.declared.measure.Measure.TheVariants.{One, Each}
 use Rattle.teco_rows.specs.declared.measure.Single.{Single}
-use Rattle.teco_rows.specs.declared.measure.Single.TheVariants.{Steps, Pointer, Size, Held, LineEnd, LineStart}
-use Rattle.teco_rows.specs.declared.measure.Single.TheVariants.{LastLength, CodeHere, CodeBefore, Typed}
-use Rattle.teco_rows.specs.declared.outcomes.Outcomes.{Outcomes}
 use Rattle.teco_flow_outcomes.specs.declared.pairs.TheConstants.{PAIRS}
-use Rattle.teco_rows.specs.declared.row.Clause.{Clause}
-use Rattle.teco_rows.specs.declared.row.Places.{Places}
-use Rattle.teco_rows.specs.declared.row.Step.{Step}
-use Rattle.teco_rows.specs.Cases.{value_if}
-use Rattle.teco_rows.specs.Commands.{EndsWith, IsAtLevel, IsCommanded}
-use Rattle.teco_rows.specs.Foretold.{Describe, Gives, IsOne, Makes, Rearranges, Succeeds, level_of, with_level}
-use Rattle.teco_rows.specs.Levels.{GivesPair, IsDeeper, IsOpened, IsOutermost, IsOutside, IsPaired, IsParted}
+use Rattle.teco_rows.specs.Foretold.{Describe, Gives, IsOne, Makes, level_of, with_level}
+use Rattle.teco_rows.specs.Levels.{GivesPair, IsDeeper, IsOpened, IsOutside, IsPaired, IsParted}
 use Rattle.teco_rows.specs.Levels.{Leaves, PartsAt}
-use Rattle.teco_rows.specs.Levels.{first_of, pair_level, with_arguments}
-use Rattle.teco_rows.specs.Rows.{AreMet, Before, Holds, changed}
-use Rattle.teco_rows.specs.States.{Point, IsLed, IsShape, IsTrueOf, WaitsFor, behind, each, from_end, levels}
-use Rattle.teco_rows.specs.States.{measures_of}
-use Rattle.teco_rows.proofs.Commanding.{read_at}
-use Rattle.teco_rows.proofs.Describing.{described, led_to}
+use Rattle.teco_rows.specs.Levels.{first_of, pair_level}
+use Rattle.teco_rows.specs.States.{behind, levels}
+use Rattle.teco_rows.proofs.Describing.{led_to}
 use Rattle.teco_rows.proofs.Giving.{describes_one, given_alone, given_to}
-use Rattle.teco_rows.proofs.Leading.{leaves, left_alone}
+use Rattle.teco_rows.proofs.Leading.{leaves}
 use Rattle.teco_rows.proofs.Pending.{depth, first_there, level_at, level_same}
-use Rattle.teco_rows.proofs.Ways.{leaves_singles, single_alone}
-use Rattle.teco_flow_outcomes.specs.Flow.{IsDropped}
 
 -- a row says nothing but of levels
 pub record IsOfLevels (row : List Clause) : Type 0 where
@@ -133,7 +118,8 @@ pub waits_some : (case : Case) (waiting : Option Operator) (operator : Operator)
 waits_some case waiting operator e is s h = sym (is s h) ∙ e
 
 -- ---- operators
-pub operated : (case made : Case) (step : Step) (operator : Operator) (conditions : List (List Term)) (all : Outcomes)
+pub operated : (case made : Case) (step : RowStep) (operator : Operator) (conditions : List (List Term))
+    (all : Outcomes)
     → step.clauses.now ≡ STEPS
     → WaitsFor None case → IsLed case step (Some operator) made → IsOne conditions made all
     → Rearranges (levels_after (argument.Operate operator) []) case all
@@ -155,7 +141,7 @@ operated case made step operator conditions all row alone led one n v s begins =
     (subst (λ r. Holds r b (measures_of (behind s (with_level s level)))) (sym row) holds)))
 
 -- ---- the comma
-pub is_parted : (case made : Case) (step : Step) → step.clauses.now ≡ PARTS → IsAtLevel step.here case
+pub is_parted : (case made : Case) (step : RowStep) → step.clauses.now ≡ PARTS → IsAtLevel step.here case
     → IsLed case step None made → IsParted case (slice_index_or step.given.now 0 []) made
 is_parted case made step row at led n v s true_of =
     let x = value (slice_index_or step.given.now 0 []) n v in
@@ -212,7 +198,7 @@ parts case form all alone ends at n v s begins =
     (at n v s begins (alone n v s begins.true_of) (ends n v s begins.true_of))
 
 -- ---- pairs
-pub is_paired : (case made : Case) (step : Step) → step.clauses.now ≡ PAIRS → IsAtLevel step.here case
+pub is_paired : (case made : Case) (step : RowStep) → step.clauses.now ≡ PAIRS → IsAtLevel step.here case
     → IsLed case step None made
     → IsPaired case (slice_index_or step.given.now 0 []) (slice_index_or step.given.now 1 []) made
 is_paired case made step row at led n v s true_of =
@@ -282,7 +268,7 @@ level_more level ls at i get x e f =
       chosen true = f
       chosen false = refl
 
-pub is_opened : (case made : Case) (step : Step) → step.clauses.now ≡ OPENS
+pub is_opened : (case made : Case) (step : RowStep) → step.clauses.now ≡ OPENS
     → ((s : Point) → IsShape case.shape s → step.here.level ≡ length s.arguments.outer + 1) → IsDeeper case step made
     → IsOpened case made
 is_opened case made step row at deeper n v s true_of =

@@ -1,55 +1,39 @@
 -- How flow elements go.
-use Rattle.std.proofs.Common.{◌≡◌, ℕ, suc, zero, ◌≤◌, ℤ, pos, negsuc, ◌≤ℤ◌, List, [], ◌∷◌, ◌++◌, length, drop, Bool}
-use Rattle.std.proofs.Common.{true, ◌⊎◌}
-use Rattle.std.proofs.Common.{false, Option, Some, None, is_some, option_map, Result, Ok, inl, inr, refl, sym, ap}
-use Rattle.std.proofs.Common.{subst, ◌∙◌, arith}
-use Rattle.std.proofs.lemmas.Int.{ints}
-use Rattle.std.specs.List.{Any}
-use Rattle.std.specs.Option.{ok_or}
-use Rattle.teco_base.specs.declared.code.Code.{Code}
+use Rattle.teco_flow_outcomes.proofs.Prelude.{◌≡◌, ℕ, suc, zero, ◌≤◌, ℤ, pos, negsuc, ◌≤ℤ◌, List, [], ◌∷◌, ◌++◌, length}
+use Rattle.teco_flow_outcomes.proofs.Prelude.{drop, Bool, true, ◌⊎◌, false, Option, Some, None, option_map, Result, Ok}
+use Rattle.teco_flow_outcomes.proofs.Prelude.{inl, inr, refl, sym, ap, subst, ◌∙◌, arith, ints, Any, ok_or, Code, Term}
+use Rattle.teco_flow_outcomes.proofs.Prelude.{Valuation, value, Arguments, levels_after_taking, ◌>>=◌, holds, leaves}
+use Rattle.teco_flow_outcomes.proofs.Prelude.{Loop, Test, Case, Outcomes, NumberRange, Ranges, value_if, Counts}
+use Rattle.teco_flow_outcomes.proofs.Prelude.{IsAgain, IsCounted, IsEnded, IsLeft, IsDropped, IsUncounted, IsInnermost}
+use Rattle.teco_flow_outcomes.proofs.Prelude.{IsLater, turned, Succeeds, IsOutermost, with_arguments, AreBehindIn, IsIn}
+use Rattle.teco_flow_outcomes.proofs.Prelude.{IsInOne, Point, IsTrueOf, Describes, measures_of, Turns, Each}
+use Rattle.std.proofs.Common.{is_some}
 use Rattle.teco_base.specs.declared.code.Code.TheVariants as code
-use Rattle.teco_linear.specs.declared.term.Term.{Term}
-use Rattle.teco_linear.specs.Form.{Valuation, value}
 use Rattle.teco_model.specs.Ahead.{Whole, readings}
-use Rattle.teco_model.specs.Arguments.{Arguments, levels_after_taking, no_arguments}
-use Rattle.teco_model.specs.Checked.{◌>>=◌}
-use Rattle.teco_model.specs.Condition.{holds}
+use Rattle.teco_model.specs.Arguments.{no_arguments}
 use Rattle.teco_model.specs.Effect.{needed_value}
 use Rattle.teco_model.specs.Element.{Element}
-use Rattle.teco_model.specs.Flow.{Turn, conditional, to_turn_end, iteration, jump, leaves, leaving, leaving_where}
+use Rattle.teco_model.specs.Flow.{Turn, conditional, to_turn_end, iteration, jump, leaving, leaving_where}
 use Rattle.teco_model.specs.Flow.{next_turn, without_value}
 use Rattle.teco_model.specs.Flow.{turn_end, turn_of, turn_past, turn_to}
 use Rattle.teco_model.specs.Going.{with_taken}
 use Rattle.teco_model.specs.Skip.{route_of, skip_of, skip_on}
 use Rattle.teco_model.specs.State.{Frame}
 use Rattle.teco_model.specs.declared.arguments.Taken as model
-use Rattle.teco_model.specs.declared.flow.Loop.{Loop}
 use Rattle.teco_model.specs.declared.kind.Flow.{Flow}
 use Rattle.teco_model.specs.declared.kind.Flow.TheVariants as flow
 use Rattle.teco_model.specs.declared.kind.Goal.{Goal}
 use Rattle.teco_model.specs.declared.kind.Goal.TheVariants as goal
 use Rattle.teco_model.specs.declared.kind.Kind.{Kind}
 use Rattle.teco_model.specs.declared.kind.Kind.TheVariants as kind
-use Rattle.teco_model.specs.declared.kind.Test.{Test}
-use Rattle.teco_rows.specs.declared.case.Case.{Case}
-use Rattle.teco_rows.specs.declared.commands.Taken.{Taken}
-use Rattle.teco_rows.specs.declared.outcomes.Outcomes.{Outcomes}
-use Rattle.teco_flow_outcomes.specs.declared.ranges.Range.{Range}
-use Rattle.teco_flow_outcomes.specs.declared.ranges.Ranges.{Ranges}
-use Rattle.teco_rows.specs.Cases.{value_if}
+use Rattle.teco_rows.specs.declared.commands.TakenForms.{TakenForms}
 use Rattle.teco_rows.specs.Commands.{IsTaken}
 use Rattle.teco_flow_outcomes.specs.Flow as outcome
-use Rattle.teco_flow_outcomes.specs.Flow.{AreLater, Counts, Enters, IsAgain, IsCounted, IsEnded, IsLeft, IsTurnOf}
-use Rattle.teco_flow_outcomes.specs.Flow.{IsDropped, IsUncounted, JumpsOut}
-use Rattle.teco_flow_outcomes.specs.Flow.{IsInnermost, IsLater, Returns, turned}
-use Rattle.teco_rows.specs.Foretold.{Succeeds}
+use Rattle.teco_flow_outcomes.specs.Flow.{AreLater, Enters, IsTurnOf}
+use Rattle.teco_flow_outcomes.specs.Flow.{JumpsOut}
+use Rattle.teco_flow_outcomes.specs.Flow.{Returns}
 use Rattle.teco_flow_outcomes.specs.Law.{IsMatched, IsOfIteration, LeadsOn, place_away}
-use Rattle.teco_rows.specs.Levels.{IsOutermost, with_arguments}
-use Rattle.teco_flow_outcomes.specs.Ranges.{AreBehindIn, IsIn, IsInOne}
-use Rattle.teco_flow_outcomes.specs.declared.ranges.Range.TheVariants as range
-use Rattle.teco_rows.specs.States.{Point, IsTrueOf, Describes, measures_of}
-use Rattle.teco_rows.specs.declared.measure.Family.TheVariants.{Turns}
-use Rattle.teco_rows.specs.declared.measure.Measure.TheVariants.{Each}
+use Rattle.teco_flow_outcomes.specs.declared.ranges.NumberRange.TheVariants as range
 use Rattle.teco_flow_outcomes.proofs.Turning.{read_left}
 
 -- one of a list of one
@@ -120,7 +104,8 @@ with_loops n cases s arguments loops e d =
     subst (λ ls. Any (λ case. Describes n case (turned s arguments ls)) cases) e d
 
 -- ---- a number is taken
-needs : (f : Arguments → ℤ → Result Turn Code) (case : Case) (taken : Taken) (form : List Term) (n : ℕ) (v : Valuation)
+needs : (f : Arguments → ℤ → Result Turn Code) (case : Case) (taken : TakenForms) (form : List Term) (n : ℕ)
+    (v : Valuation)
     (s : Point) → IsTaken case taken → taken.value ≡ Some form → IsTrueOf n v case s
     → with_taken s.arguments (λ taken rest. needed_value taken.value >>= (λ x. f rest x))
     ≡ f (levels_after_taking s.arguments) (value form n v)
@@ -130,7 +115,8 @@ needs f case taken form n v s is value_is true_of =
     ∙ ap (λ o. needed_value (value_if o n v) >>= (λ x. f (levels_after_taking s.arguments) x)) value_is
 
 -- ---- conditionals
-pub tests : (case : Case) (test : Test) (taken : Taken) (form : List Term) (true_in false_in : Ranges) (all : Outcomes)
+pub tests : (case : Case) (test : Test) (taken : TakenForms) (form : List Term) (true_in false_in : Ranges)
+    (all : Outcomes)
     → IsTaken case taken → taken.value ≡ Some form → ((x : ℤ) → holds test x ≡ true → IsInOne true_in x)
     → ((x : ℤ) → holds test x ≡ false → IsInOne false_in x) → AreBehindIn case true_in form all.cases.items
     → AreBehindIn case false_in form all.away.items → (colons : ℕ) → outcome.Turns (flow.Test test) colons case all
@@ -166,8 +152,8 @@ opened : (loops : List Loop) → 1 ≤ length loops → (loop : Loop) × (rest :
 opened [] h = absurd (omega arith)
 opened (loop ∷ rest) h = (loop, rest, refl)
 
-pub leaves_by_number : (case left : Case) (colons : ℕ) (taken : Taken) (form : List Term) (staying : Ranges)
-    (leaving_in : Range)
+pub leaves_by_number : (case left : Case) (colons : ℕ) (taken : TakenForms) (form : List Term) (staying : Ranges)
+    (leaving_in : NumberRange)
     (all : Outcomes) → IsTaken case taken → taken.value ≡ Some form
     → ((x : ℤ) → leaves colons x ≡ false → IsInOne staying x) → ((x : ℤ) → leaves colons x ≡ true → IsIn leaving_in x)
     → AreBehindIn case staying form all.cases.items → IsLeft case leaving_in form left → all.away.items ≡ left ∷ []
@@ -240,7 +226,7 @@ enters_counted case body form past cases away is one none beyond e frame outer n
           (subst (λ ls. Describes n body (turned s (levels_after_taking s.arguments)
           (record { start = e.next; turns = Some k } ∷ ls))) loops (is n v s e.next k true_of h)))
 
-pub iterates : (case : Case) (taken : Taken) (number : Option (List Term)) (all : Outcomes) → IsTaken case taken
+pub iterates : (case : Case) (taken : TakenForms) (number : Option (List Term)) (all : Outcomes) → IsTaken case taken
     → taken.value ≡ number → Enters case number all.cases.items all.away.items → (colons : ℕ)
     → outcome.Turns flow.Iterate colons case all
 iterates case taken number all is value_is enters colons e frame outer n v s kind_is same matched loops begins =
@@ -483,7 +469,7 @@ jumps_out case stays gone form away few dropped leaves is n v s inner outer left
       )
     ])
 
-pub goes_to : (case : Case) (taken : Taken) (all : Outcomes) → IsTaken case taken → is_some taken.value ≡ false
+pub goes_to : (case : Case) (taken : TakenForms) (all : Outcomes) → IsTaken case taken → is_some taken.value ≡ false
     → JumpsOut case all.away.items → (colons : ℕ) → outcome.Turns flow.GoTo colons case all
 goes_to case taken all takes none jumps colons e frame outer n v s kind_is same matched loops begins =
     let h = skips e frame flow.GoTo kind_is matched in

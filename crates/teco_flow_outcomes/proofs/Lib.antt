@@ -1,4 +1,5 @@
 -- Lemmas of elements that decide where the text goes on.
+mod Prelude
 pub mod Arguing
 pub mod Ranging
 pub mod Turning

@@ -1,23 +1,19 @@
 -- Rows and cases by the range of a number.
-use Rattle.std.proofs.Common.{◌≡◌, ℕ, suc, zero, ℤ, pos, negsuc, neg_ℤ, ◌≤ℤ◌, ◌≤◌, ◌<◌, List, [], ◌∷◌, ◌++◌, Bool, true}
-use Rattle.std.proofs.Common.{false}
-use Rattle.std.proofs.Common.{not, Some, None, ◌⊎◌, inl, inr, refl, sym, ap, subst, ◌∙◌, arith}
+use Rattle.teco_flow_outcomes.proofs.Prelude.{◌≡◌, ℕ, suc, zero, ℤ, pos, negsuc, ◌≤ℤ◌, ◌≤◌, List, [], ◌∷◌, ◌++◌, Bool}
+use Rattle.teco_flow_outcomes.proofs.Prelude.{true, false, Some, None, ◌⊎◌, inl, inr, refl, sym, ap, subst, ◌∙◌, arith}
+use Rattle.teco_flow_outcomes.proofs.Prelude.{ints, holds, leaves, Test, Clause, NumberRange, From, UpTo, Ranges, IsIn}
+use Rattle.teco_flow_outcomes.proofs.Prelude.{IsInOne, Says}
+use Rattle.std.proofs.Common.{neg_ℤ, ◌<◌}
+use Rattle.std.proofs.Common.{not}
 use Rattle.std.proofs.lemmas.Bool.Decides.{nat_tests}
-use Rattle.std.proofs.lemmas.Int.{ints}
 use Rattle.teco_base.specs.Bytes.{is_letter, is_symbol, is_digit, is_letter_or_digit, is_lower, is_upper}
-use Rattle.teco_model.specs.Condition.{holds, is_code_of, is_negative, is_positive, is_zero}
-use Rattle.teco_model.specs.Flow.{leaves}
-use Rattle.teco_model.specs.declared.kind.Test.{Test}
+use Rattle.teco_model.specs.Condition.{is_code_of, is_negative, is_positive, is_zero}
 use Rattle.teco_model.specs.declared.kind.Test.TheVariants as test
-use Rattle.teco_rows.specs.declared.row.Clause.{Clause}
 use Rattle.teco_rows.specs.declared.row.Clause.TheVariants.{Wants}
 use Rattle.teco_rows.specs.declared.row.Of.TheVariants.{Given}
 use Rattle.teco_rows.specs.declared.levels.TheConstants.{NO}
 use Rattle.teco_rows.proofs.Lines.{above_or}
-use Rattle.teco_flow_outcomes.specs.declared.ranges.Range.{Range}
-use Rattle.teco_flow_outcomes.specs.declared.ranges.Range.TheVariants.{Any, From, UpTo, Between}
-use Rattle.teco_flow_outcomes.specs.declared.ranges.Ranges.{Ranges}
-use Rattle.teco_flow_outcomes.specs.Ranges.{IsIn, IsInOne, Says}
+use Rattle.teco_flow_outcomes.specs.declared.ranges.NumberRange.TheVariants.{Any, Between}
 
 -- ---- tests
 zero_is : (x : ℤ) → is_zero x ≡ true → (pos 0 ≤ℤ x) × (x ≤ℤ pos 0)
@@ -108,19 +104,19 @@ says_up_to most b h = ((omega (arith, ints, h), tt), λ m x. refl)
 pub says_between : (least most : ℤ) → Says (Between least most) (from_row least ++ up_to_row most)
 says_between least most b h = ((omega (arith, ints, h.0), (omega (arith, ints, h.1), tt)), λ m x. refl)
 
-pub says_by : (range other : Range) (row said : List Clause) → range ≡ other → row ≡ said → Says other said
+pub says_by : (range other : NumberRange) (row said : List Clause) → range ≡ other → row ≡ said → Says other said
     → Says range row
 says_by range other row said e f h =
     subst (λ r. Says r row) (sym e) (subst (Says other) (sym f) h)
 
 -- ---- the ranges where a test holds, and where it fails
-pub in_only : (asked other : Test) (range : Range) (answer : Bool) (ranges : Ranges) → asked ≡ other
+pub in_only : (asked other : Test) (range : NumberRange) (answer : Bool) (ranges : Ranges) → asked ≡ other
     → ranges ≡ record { one = range; other = None } → ((x : ℤ) → holds other x ≡ answer → IsIn range x) → (x : ℤ)
     → holds asked x ≡ answer → IsInOne ranges x
 in_only asked other range answer ranges e f within x h =
     subst (λ r. IsInOne r x) (sym f) (inl (within x (ap (λ t. holds t x) (sym e) ∙ h)))
 
-pub in_both : (asked other : Test) (one second : Range) (answer : Bool) (ranges : Ranges) → asked ≡ other
+pub in_both : (asked other : Test) (one second : NumberRange) (answer : Bool) (ranges : Ranges) → asked ≡ other
     → ranges ≡ record { one = one; other = Some second }
     → ((x : ℤ) → holds other x ≡ answer → IsIn one x ⊎ IsIn second x) → (x : ℤ)
     → holds asked x ≡ answer → IsInOne ranges x

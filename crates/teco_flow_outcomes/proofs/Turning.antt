@@ -1,55 +1,41 @@
 -- How cases with other iterations are made, and how flow elements go.
-use Rattle.std.proofs.Common.{◌≡◌, ℕ, suc, ◌+◌, ◌==◌, ℤ, pos, List, [], ◌∷◌, ◌++◌, length}
-use Rattle.std.proofs.Common.{Bool, true, false, Option, Some, None, if◌then◌else◌, inl, inr}
-use Rattle.std.specs.List.{Any}
-use Rattle.std.proofs.Common.{option_and_then, option_map, unwrap_or, slice_index_or, refl, sym, ap, subst, ◌∙◌, arith}
-use Rattle.std.proofs.lemmas.Int.{ints}
-use Rattle.teco_linear.specs.declared.term.Term.{Term}
-use Rattle.teco_linear.specs.Form.{Valuation, value}
-use Rattle.teco_model.specs.Arguments.{levels_after_taking}
-use Rattle.teco_model.specs.declared.arguments.Operator.{Operator}
-use Rattle.teco_model.specs.declared.flow.Loop.{Loop}
-use Rattle.teco_rows.specs.declared.case.Case.{Case}
+use Rattle.teco_flow_outcomes.proofs.Prelude.{◌≡◌, ℕ, suc, ◌+◌, ◌==◌, ℤ, pos, List, [], ◌∷◌, ◌++◌, length, Bool, true}
+use Rattle.teco_flow_outcomes.proofs.Prelude.{false, Option, Some, None, if◌then◌else◌, inl, inr, Any, option_and_then}
+use Rattle.teco_flow_outcomes.proofs.Prelude.{option_map, unwrap_or, slice_index_or, refl, sym, ap, subst, ◌∙◌, arith}
+use Rattle.teco_flow_outcomes.proofs.Prelude.{ints, Term, Valuation, value, levels_after_taking, Operator, Loop, Case}
+use Rattle.teco_flow_outcomes.proofs.Prelude.{STEPS, Number, Length, Turns, PushedNumber, PushedLength, First, Value}
+use Rattle.teco_flow_outcomes.proofs.Prelude.{Measure, One, Each, Steps, Pointer, Size, Held, LineEnd, LineStart}
+use Rattle.teco_flow_outcomes.proofs.Prelude.{LastLength, CodeHere, CodeBefore, Typed, NumberRange, Ranges, Clause}
+use Rattle.teco_flow_outcomes.proofs.Prelude.{Places, RowStep, IsAtLevel, IsCommanded, IsAgain, IsCounted, IsEnded}
+use Rattle.teco_flow_outcomes.proofs.Prelude.{IsInnermost, IsLater, IsLeft, IsUncounted, turned, IsOutermost}
+use Rattle.teco_flow_outcomes.proofs.Prelude.{with_arguments, AreBehindIn, Says, AreMet, Before, Holds, changed}
+use Rattle.teco_flow_outcomes.proofs.Prelude.{Describes, Point, IsLed, IsTrueOf, WaitsFor, each, from_end, measures_of}
+use Rattle.teco_flow_outcomes.proofs.Prelude.{read_at, described, left_alone, leaves_singles, single_alone}
 use Rattle.teco_rows.specs.declared.case.Shape.{Shape}
-use Rattle.teco_flow_outcomes.specs.declared.arguments.TheConstants.{STEPS}
 use Rattle.teco_rows.specs.declared.commands.TheConstants.{TAKES}
 use Rattle.teco_flow_outcomes.specs.declared.flow.TheConstants.{AGAIN, COUNTS, COUNTS_NOT, ENDS, TURNS}
-use Rattle.teco_rows.specs.declared.measure.Family.TheVariants.{Number, Length, Turns, PushedNumber, PushedLength}
-use Rattle.teco_rows.specs.declared.measure.Family.TheVariants.{First, Value}
-use Rattle.teco_rows.specs.declared.measure.Measure.{Measure}
-use Rattle.teco_rows.specs.declared.measure.Measure.TheVariants.{One, Each}
-use Rattle.teco_rows.specs.declared.measure.Single.TheVariants.{Steps, Pointer, Size, Held, LineEnd, LineStart}
-use Rattle.teco_rows.specs.declared.measure.Single.TheVariants.{LastLength, CodeHere, CodeBefore, Typed}
-use Rattle.teco_flow_outcomes.specs.declared.ranges.Range.{Range}
-use Rattle.teco_flow_outcomes.specs.declared.ranges.Ranges.{Ranges}
-use Rattle.teco_rows.specs.declared.row.Clause.{Clause}
 use Rattle.teco_rows.specs.declared.row.Clause.TheVariants.{Drops}
-use Rattle.teco_rows.specs.declared.row.Places.{Places}
-use Rattle.teco_rows.specs.declared.row.Step.{Step}
 use Rattle.teco_rows.specs.Cases.{Carries, read_with}
-use Rattle.teco_rows.specs.Commands.{IsAtLevel, IsCommanded, Leads, commanded}
-use Rattle.teco_flow_outcomes.specs.Flow.{HasIterations, IsAgain, IsCounted, IsEnded, IsInnermost, IsLater, IsLeft}
-use Rattle.teco_flow_outcomes.specs.Flow.{IsNext, IsTurned, IsUncounted, turned}
+use Rattle.teco_rows.specs.Commands.{Leads, commanded}
+use Rattle.teco_flow_outcomes.specs.Flow.{HasIterations}
+use Rattle.teco_flow_outcomes.specs.Flow.{IsNext, IsTurned}
 use Rattle.teco_flow_outcomes.specs.Flow.{turns_left}
-use Rattle.teco_rows.specs.Levels.{IsOutermost, with_arguments}
-use Rattle.teco_flow_outcomes.specs.Ranges.{AreBehindIn, IsBehindIn, IsInOther, Says}
-use Rattle.teco_rows.specs.Rows.{AreMet, Before, Holds, changed}
-use Rattle.teco_rows.specs.States.{Describes, Point, IsLast, IsLed, IsTrueOf, WaitsFor, each, from_end, measures_of}
+use Rattle.teco_flow_outcomes.specs.Ranges.{IsBehindIn, IsInOther}
+use Rattle.teco_rows.specs.States.{IsLast}
 use Rattle.teco_rows.specs.States.{operators_of}
 use Rattle.teco_rows.proofs.Applying.{changed-append}
 use Rattle.teco_rows.proofs.Closing.{beyond, equal_is}
 use Rattle.teco_flow_outcomes.proofs.Arguing.{of_levels, rearranges}
-use Rattle.teco_rows.proofs.Commanding.{read_at, takes}
-use Rattle.teco_rows.proofs.Describing.{described}
-use Rattle.teco_rows.proofs.Leading.{leaves as leaves_family, left_alone}
+use Rattle.teco_rows.proofs.Commanding.{takes}
+use Rattle.teco_rows.proofs.Leading.{leaves as leaves_family}
 use Rattle.teco_rows.proofs.Pending.{innermost}
-use Rattle.teco_rows.proofs.Ways.{leaves_singles, met_both, single_alone}
+use Rattle.teco_rows.proofs.Ways.{met_both}
 
 -- ---- cases with other iterations
 abbrev nothing : ℕ → ℤ
 nothing i = pos 0
 
-pub has_iterations : (case made : Case) (step : Step) (shape : Shape) (iterations : ℕ) → Carries case step made
+pub has_iterations : (case made : Case) (step : RowStep) (shape : Shape) (iterations : ℕ) → Carries case step made
     → made.shape ≡ shape → IsLast None case.shape.operators.items shape.operators.items
     → shape.iterations ≡ iterations → shape.pushes ≡ case.shape.pushes → HasIterations case step iterations made
 has_iterations case made step shape iterations carries shape_is last count pushes = record {
@@ -59,7 +45,7 @@ has_iterations case made step shape iterations carries shape_is last count pushe
   pushes = ap (λ (h : Shape). h.pushes) shape_is ∙ pushes;
 }
 
-pub is_turned : (case made : Case) (step whole : Step) (iterations : ℕ) → HasIterations case whole iterations made
+pub is_turned : (case made : Case) (step whole : RowStep) (iterations : ℕ) → HasIterations case whole iterations made
     → IsAtLevel step.here case → whole.clauses.now ≡ TAKES ++ step.clauses.now → whole.here ≡ step.here
     → whole.given.now ≡ step.given.now → IsTurned case step iterations made
 is_turned case made step whole iterations has at clauses here given = record { describes = describes } where
@@ -172,7 +158,7 @@ one_fewer loop outer at i e =
       chosen true h = ap (option_and_then turns_left) (beyond outer i (omega (arith, equal_is (length outer) i h)))
       chosen false h = refl
 
-pub is_uncounted : (case made : Case) (step : Step) (iterations : ℕ) → IsTurned case step iterations made
+pub is_uncounted : (case made : Case) (step : RowStep) (iterations : ℕ) → IsTurned case step iterations made
     → step.clauses.now ≡ COUNTS_NOT → IsNext step.here.iteration case → iterations ≡ step.here.iteration + 1
     → IsUncounted case made
 is_uncounted case made step iterations turns row next more n v s start true_of =
@@ -185,7 +171,7 @@ is_uncounted case made step iterations turns row next more n v s start true_of =
     (turns_become COUNTS_NOT b (of_turns COUNTS_NOT refl refl refl refl refl refl refl) s (loop ∷ s.loops)
     (λ i. one_more loop s.loops step.here.iteration i None at refl)))
 
-pub is_counted : (case made : Case) (step : Step) (iterations : ℕ) → IsTurned case step iterations made
+pub is_counted : (case made : Case) (step : RowStep) (iterations : ℕ) → IsTurned case step iterations made
     → step.clauses.now ≡ COUNTS → IsNext step.here.iteration case → iterations ≡ step.here.iteration + 1
     → IsCounted case (slice_index_or step.given.now 0 []) made
 is_counted case made step iterations turns row next more n v s start k true_of e =
@@ -206,7 +192,7 @@ read_left s loop outer at e f =
     ap (λ i. left_at s.loops i) f ∙ ap (λ ls. left_at ls (length outer)) e
     ∙ ap (option_and_then turns_left) (innermost loop outer)
 
-pub is_again : (case made : Case) (step : Step) (iterations : ℕ) → IsTurned case step iterations made
+pub is_again : (case made : Case) (step : RowStep) (iterations : ℕ) → IsTurned case step iterations made
     → step.clauses.now ≡ AGAIN → IsInnermost step.here.iteration case → iterations ≡ step.here.iteration + 1
     → IsAgain case made
 is_again case made step iterations turns row inner more n v s loop outer k true_of e f =
@@ -225,7 +211,7 @@ is_again case made step iterations turns row inner more n v s loop outer k true_
     (λ i. subst (λ ls. left_at (other ∷ outer) i ≡ changed AGAIN b (Each Turns i) (left_at ls i)) (sym e)
     (one_other loop other outer step.here.iteration i _ at (ap Some (omega (arith, ints)))))))
 
-pub is_ended : (case made : Case) (step : Step) (iterations : ℕ) → IsTurned case step iterations made
+pub is_ended : (case made : Case) (step : RowStep) (iterations : ℕ) → IsTurned case step iterations made
     → step.clauses.now ≡ ENDS → IsInnermost step.here.iteration case → iterations ≡ step.here.iteration
     → IsEnded case made
 is_ended case made step iterations turns row inner same n v s loop outer true_of e f =
@@ -242,7 +228,7 @@ is_ended case made step iterations turns row inner same n v s loop outer true_of
     ∙ ap (λ ls. changed ENDS b (Each Turns i) (left_at ls i)) (sym e))))
 
 -- the iteration is left, on a case with one level
-pub is_left : (case outermost made : Case) (range : Range) (said : List Clause) (step : Step) (iterations : ℕ)
+pub is_left : (case outermost made : Case) (range : NumberRange) (said : List Clause) (step : RowStep) (iterations : ℕ)
     → IsTurned outermost step iterations made → IsOutermost case outermost → Says range said
     → step.clauses.now ≡ said ++ Drops TURNS ∷ [] → IsInnermost step.here.iteration outermost
     → iterations ≡ step.here.iteration → IsLeft case range (slice_index_or step.given.now 0 []) made
@@ -263,7 +249,8 @@ is_left case outermost made range said step iterations turns out says whole inne
     ∙ ap (λ r. changed r b m (measures_of (commanded t t.kept None) m)) (sym whole))
 
 -- where nothing but a range is said, the case is behind a command that did no more
-pub is_behind_in : (case made : Case) (range : Range) (row way : List Clause) (given : List (List Term)) (here : Places)
+pub is_behind_in : (case made : Case) (range : NumberRange) (row way : List Clause) (given : List (List Term))
+    (here : Places)
     → way ≡ row → Says range row → IsCommanded case way given here made
     → IsBehindIn case range (slice_index_or given 0 []) made
 is_behind_in case made range row way given here e says led n v s true_of in' =
@@ -281,7 +268,8 @@ behind_in_one case one ranges form cases e f is n v s true_of (inl h) =
 behind_in_one case one ranges form cases e f is n v s true_of (inr h) =
     absurd (subst (λ r. IsInOther r (value form n v)) e h)
 
-pub behind_in_two : (case one other : Case) (ranges : Ranges) (second : Range) (form : List Term) (cases : List Case)
+pub behind_in_two : (case one other : Case) (ranges : Ranges) (second : NumberRange) (form : List Term)
+    (cases : List Case)
     → ranges.other ≡ Some second → cases ≡ one ∷ other ∷ [] → IsBehindIn case ranges.one form one
     → IsBehindIn case second form other → AreBehindIn case ranges form cases
 behind_in_two case one other ranges second form cases e f is and n v s true_of (inl h) =
@@ -292,7 +280,7 @@ behind_in_two case one other ranges second form cases e f is and n v s true_of (
     (1, other, omega arith, refl, and n v s true_of (subst (λ r. IsInOther r (value form n v)) e h))
 
 -- a step, and nothing else
-pub is_later : (case made : Case) (step : Step) (operator : Option Operator) → step.clauses.now ≡ STEPS
+pub is_later : (case made : Case) (step : RowStep) (operator : Option Operator) → step.clauses.now ≡ STEPS
     → WaitsFor operator case → IsLed case step operator made → IsLater case made
 is_later case made step operator row waits led n v s true_of =
     let b = read_with step n v (measures_of s) nothing in

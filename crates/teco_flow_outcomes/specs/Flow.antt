@@ -16,8 +16,8 @@ use Rattle.teco_model.specs.declared.kind.Kind.TheVariants as kind
 use Rattle.teco_rows.specs.declared.case.Case.{Case}
 use Rattle.teco_rows.specs.declared.measure.Measure.{Measure}
 use Rattle.teco_rows.specs.declared.outcomes.Outcomes.{Outcomes}
-use Rattle.teco_rows.specs.declared.row.Step.{Step}
-use Rattle.teco_flow_outcomes.specs.declared.ranges.Range.{Range}
+use Rattle.teco_rows.specs.declared.row.RowStep.{RowStep}
+use Rattle.teco_flow_outcomes.specs.declared.ranges.NumberRange.{NumberRange}
 use Rattle.teco_rows.specs.Cases.{Carries, read_with, value_if}
 use Rattle.teco_rows.specs.Commands.{commanded}
 use Rattle.teco_rows.specs.Foretold.{Begins, Succeeds}
@@ -61,14 +61,14 @@ abbrev pub turns_left : Loop → Option ℤ
 turns_left loop = option_map pos loop.turns
 
 -- a case is behind a row, with so many iterations open, and no operator waits
-pub record HasIterations (case : Case) (step : Step) (iterations : ℕ) (made : Case) : Type 0 where
+pub record HasIterations (case : Case) (step : RowStep) (iterations : ℕ) (made : Case) : Type 0 where
   pub carries : Carries case step made
   pub last : IsLast None case.shape.operators.items made.shape.operators.items
   pub count : made.shape.iterations ≡ iterations
   pub pushes : made.shape.pushes ≡ case.shape.pushes
 
 -- Where a row holds from the state in which the arguments are taken to that with these iterations, a case describes it.
-pub record IsTurned (case : Case) (step : Step) (iterations : ℕ) (made : Case) : Type 0 where
+pub record IsTurned (case : Case) (step : RowStep) (iterations : ℕ) (made : Case) : Type 0 where
   pub describes : (n : ℕ) (v : Valuation) (s : Point) (loops : List Loop)
       → IsTrueOf n v case s → length loops ≡ iterations
       → AreMet step.clauses.now (read_with step n v (measures_of s) (λ i. pos 0))
@@ -116,7 +116,7 @@ IsEnded case made =
     → Describes n made (turned s (levels_after_taking s.arguments) outer)
 
 -- where it is left, with no argument, for a form in a range,
-abbrev pub IsLeft : Case → Range → List Term → Case → Type 0
+abbrev pub IsLeft : Case → NumberRange → List Term → Case → Type 0
 IsLeft case range form made =
     (n : ℕ) (v : Valuation) (s : Point) (loop : Loop) (outer : List Loop)
     → IsTrueOf n v case s → s.loops ≡ loop ∷ outer → IsIn range (value form n v)

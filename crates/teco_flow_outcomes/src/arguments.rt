@@ -14,12 +14,12 @@ use teco_model::kind::Argument;
 use teco_rows::applied::{applied, copied};
 use teco_rows::case::{Case, Shape};
 use teco_rows::commands::{Way, command, final_value};
-use teco_rows::fault::Fault;
+use teco_rows::fault::RowFault;
 use teco_rows::levels::{FIRST, NO, STEP, VALUE, at_level, give, led, one, pending, waiting};
 use teco_rows::measure::Family;
 use teco_rows::outcomes::Outcomes;
 use teco_rows::outside::{outermost, outside};
-use teco_rows::row::{Clause, Of, Places, Step};
+use teco_rows::row::{Clause, Of, Places, RowStep};
 
 /// A step, and all that is measured stays.
 pub const STEPS: [Clause; 1] = [STEP];
@@ -49,7 +49,12 @@ fn run_value(digits: &[u8]) -> i32
 }
 
 // A number is given.
-fn give_number(case: &Case, number: i32, may_wrap: bool, alloc: Global) -> Result<Outcomes, Fault>
+fn give_number(
+    case: &Case,
+    number: i32,
+    may_wrap: bool,
+    alloc: Global,
+) -> Result<Outcomes, RowFault>
     ensures { IfOk result (λ all.
         Rearranges (λ arguments. model.with_level arguments (model.level_with number arguments.level)) case.now all) }
 {
@@ -58,13 +63,13 @@ fn give_number(case: &Case, number: i32, may_wrap: bool, alloc: Global) -> Resul
 }
 
 // An operator waits, where none did.
-fn operate(case: &Case, operator: Operator, alloc: Global) -> Result<Outcomes, Fault>
+fn operate(case: &Case, operator: Operator, alloc: Global) -> Result<Outcomes, RowFault>
     ensures { IfOk result (λ all. Rearranges (levels_after (Argument.Operate operator) []) case.now all) }
 {
     if waiting(case).is_some() {
-        return Err(Fault::Argument);
+        return Err(RowFault::Argument);
     }
-    let step = Step {
+    let step = RowStep {
         clauses: &STEPS,
         here: at_level(case)?,
         given: &[],
@@ -75,10 +80,10 @@ fn operate(case: &Case, operator: Operator, alloc: Global) -> Result<Outcomes, F
 }
 
 // The case where the innermost level has a form as its first value.
-fn parted(case: &Case, first: &[Form], alloc: Global) -> Result<Case, Fault>
+fn parted(case: &Case, first: &[Form], alloc: Global) -> Result<Case, RowFault>
     ensures { IfOk result (λ after. IsParted case.now (slice_index_or first.now 0 []) after) }
 {
-    let step = Step {
+    let step = RowStep {
         clauses: &PARTS,
         here: at_level(case)?,
         given: first,
@@ -88,7 +93,7 @@ fn parted(case: &Case, first: &[Form], alloc: Global) -> Result<Case, Fault>
 }
 
 // The value that a form is becomes the first one, where it is at least 0.
-fn part_at(case: &Case, value: Form, alloc: Global) -> Result<Outcomes, Fault>
+fn part_at(case: &Case, value: Form, alloc: Global) -> Result<Outcomes, RowFault>
     ensures { IfOk result (λ all. PartsAt value case.now all) }
 {
     let mut conditions = Vec::new(alloc);
@@ -98,21 +103,21 @@ fn part_at(case: &Case, value: Form, alloc: Global) -> Result<Outcomes, Fault>
 }
 
 // The value of the innermost level becomes its first one.
-fn part(case: &Case, alloc: Global) -> Result<Outcomes, Fault>
+fn part(case: &Case, alloc: Global) -> Result<Outcomes, RowFault>
     ensures { IfOk result (λ all. Rearranges (levels_after Argument.Comma []) case.now all) }
 {
     let first = pending(case, Family::First, alloc)?;
     if first.is_some() {
-        return Err(Fault::Argument);
+        return Err(RowFault::Argument);
     }
     match final_value(case, alloc)? {
         Some(value) => part_at(case, value, alloc),
-        None => Err(Fault::Argument),
+        None => Err(RowFault::Argument),
     }
 }
 
 // The same shape once more, with one level more.
-fn with_level(shape: &Shape, alloc: Global) -> Result<Shape, Fault>
+fn with_level(shape: &Shape, alloc: Global) -> Result<Shape, RowFault>
     ensures operators { IfOk result (λ after. after.operators.items ≡ shape.now.operators.items ++ None ∷ []) }
     ensures iterations { IfOk result (λ after. after.iterations ≡ shape.now.iterations) }
     ensures pushes { IfOk result (λ after. after.pushes ≡ shape.now.pushes) }
@@ -128,7 +133,7 @@ fn with_level(shape: &Shape, alloc: Global) -> Result<Shape, Fault>
 }
 
 // The case behind a row, with one level more.
-fn deeper(case: &Case, step: &Step, alloc: Global) -> Result<Case, Fault>
+fn deeper(case: &Case, step: &RowStep, alloc: Global) -> Result<Case, RowFault>
     ensures { IfOk result (λ after. IsDeeper case.now step.now after) }
 {
     let shape = with_level(&case.shape, alloc)?;
@@ -136,14 +141,14 @@ fn deeper(case: &Case, step: &Step, alloc: Global) -> Result<Case, Fault>
 }
 
 // The case behind an opening parenthesis.
-fn opened(case: &Case, alloc: Global) -> Result<Case, Fault>
+fn opened(case: &Case, alloc: Global) -> Result<Case, RowFault>
     ensures { IfOk result (λ after. IsOpened case.now after) }
 {
     let here = at_level(case)?;
     let Some(level) = here.level.checked_add(1) else {
-        return Err(Fault::TooMany);
+        return Err(RowFault::TooMany);
     };
-    let step = Step {
+    let step = RowStep {
         clauses: &OPENS,
         here: Places { level, ..here },
         given: &[],
@@ -153,7 +158,7 @@ fn opened(case: &Case, alloc: Global) -> Result<Case, Fault>
 }
 
 // A level begins, in which nothing is.
-fn open(case: &Case, alloc: Global) -> Result<Outcomes, Fault>
+fn open(case: &Case, alloc: Global) -> Result<Outcomes, RowFault>
     ensures { IfOk result (λ all. Rearranges (levels_after Argument.Open []) case.now all) }
 {
     let after = opened(case, alloc)?;
@@ -161,21 +166,21 @@ fn open(case: &Case, alloc: Global) -> Result<Outcomes, Fault>
 }
 
 // A level ends, and gives its value to the one outside.
-fn close(case: &Case, may_wrap: bool, alloc: Global) -> Result<Outcomes, Fault>
+fn close(case: &Case, may_wrap: bool, alloc: Global) -> Result<Outcomes, RowFault>
     ensures { IfOk result (λ all. Rearranges (levels_after Argument.Close []) case.now all) }
 {
     let first = pending(case, Family::First, alloc)?;
     if case.shape.operators.len() < 2 || first.is_some() {
-        return Err(Fault::Argument);
+        return Err(RowFault::Argument);
     }
     match final_value(case, alloc)? {
         Some(value) => give(&outside(case, alloc)?, value, may_wrap, alloc),
-        None => Err(Fault::Argument),
+        None => Err(RowFault::Argument),
     }
 }
 
 /// The case a step later without any argument.
-pub fn dropped(case: &Case, alloc: Global) -> Result<Case, Fault>
+pub fn dropped(case: &Case, alloc: Global) -> Result<Case, RowFault>
     ensures { IfOk result (λ made. IsDropped case.now made) }
 {
     let outermost = outermost(case, alloc)?;
@@ -188,7 +193,7 @@ pub fn dropped(case: &Case, alloc: Global) -> Result<Case, Fault>
 }
 
 // All arguments are dropped.
-fn drop_all(case: &Case, alloc: Global) -> Result<Outcomes, Fault>
+fn drop_all(case: &Case, alloc: Global) -> Result<Outcomes, RowFault>
     ensures { IfOk result (λ all. Rearranges (levels_after Argument.DropAll []) case.now all) }
 {
     let after = dropped(case, alloc)?;
@@ -202,7 +207,7 @@ pub fn change_arguments(
     text: &[u8],
     may_wrap: bool,
     alloc: Global,
-) -> Result<Outcomes, Fault>
+) -> Result<Outcomes, RowFault>
     ensures { IfOk result (λ all. Rearranges (levels_after argument text.now) case.now all) }
 {
     match argument {

@@ -8,20 +8,20 @@ ghost use Rattle.teco_flow_outcomes.specs.Flow.{IsLater, IsLeft, IsNext, IsTurne
 ghost use Rattle.teco_flow_outcomes.specs.Ranges.{IsIn, IsInOne};
 
 use crate::arguments::{STEPS, dropped};
-use crate::ranges::{Range, Ranges, cases_in, only, row_in, where_it_fails, where_it_holds};
+use crate::ranges::{NumberRange, Ranges, cases_in, only, row_in, where_it_fails, where_it_holds};
 use std::alloc::Global;
 use teco_linear::Form;
 use teco_model::kind::{Flow, Test};
 use teco_rows::applied::applied;
 use teco_rows::case::Case;
-use teco_rows::commands::{TAKES, Taken, take_arguments};
-use teco_rows::fault::Fault;
+use teco_rows::commands::{TAKES, TakenForms, take_arguments};
+use teco_rows::fault::RowFault;
 use teco_rows::forms::measured;
 use teco_rows::levels::{NO, at_level, led, one, waiting, with_operator};
 use teco_rows::measure::{Family, Measure};
 use teco_rows::outcomes::Outcomes;
 use teco_rows::outside::outermost;
-use teco_rows::row::{Clause, Mark, Of, Places, Step};
+use teco_rows::row::{Clause, Mark, Of, Places, RowStep};
 
 const TURNS: Mark = Mark::Here(Family::Turns);
 
@@ -45,26 +45,26 @@ const ENDS: [Clause; 2] = [
 ];
 
 // The number that an element needs.
-fn needed(taken: Taken) -> Result<Form, Fault>
+fn needed(taken: TakenForms) -> Result<Form, RowFault>
     ensures { IfOk result (λ form. taken.value ≡ Some form) }
 {
-    let Taken {
+    let TakenForms {
         first: _first,
         value,
     } = taken;
     match value {
         Some(value) => Ok(value),
-        None => Err(Fault::Argument),
+        None => Err(RowFault::Argument),
     }
 }
 
 // The case behind a row, with so many iterations open, where no operator waits.
 fn with_iterations(
     case: &Case,
-    step: &Step,
+    step: &RowStep,
     iterations: usize,
     alloc: Global,
-) -> Result<Case, Fault>
+) -> Result<Case, RowFault>
     ensures { IfOk result (λ made. HasIterations case.now step.now iterations made) }
 {
     let mut shape = with_operator(&case.shape, None, alloc)?;
@@ -74,14 +74,14 @@ fn with_iterations(
 }
 
 // The case behind an element that took its arguments, by a row, with so many iterations open.
-fn turned(case: &Case, step: &Step, iterations: usize, alloc: Global) -> Result<Case, Fault>
+fn turned(case: &Case, step: &RowStep, iterations: usize, alloc: Global) -> Result<Case, RowFault>
     requires level { IsAtLevel step.now.here case.now }
     ensures { IfOk result (λ made. IsTurned case.now step.now iterations made) }
 {
     let mut clauses = Vec::new(alloc);
     clauses.extend_from_slice(&TAKES)?;
     clauses.extend_from_slice(step.clauses)?;
-    let whole = Step {
+    let whole = RowStep {
         clauses: &clauses,
         ..*step
     };
@@ -89,38 +89,38 @@ fn turned(case: &Case, step: &Step, iterations: usize, alloc: Global) -> Result<
 }
 
 // The places at hand where an element is about the innermost iteration.
-fn innermost(case: &Case) -> Result<Places, Fault>
+fn innermost(case: &Case) -> Result<Places, RowFault>
     ensures level { IfOk result (λ here. IsAtLevel here case.now) }
     ensures iteration { IfOk result (λ here. IsInnermost here.iteration case.now) }
 {
     let here = at_level(case)?;
     let Some(last) = case.shape.iterations.checked_sub(1) else {
-        return Err(Fault::NotTold);
+        return Err(RowFault::NotTold);
     };
     match u32::try_from(last) {
         Ok(iteration) => Ok(Places { iteration, ..here }),
-        Err(_) => Err(Fault::TooMany),
+        Err(_) => Err(RowFault::TooMany),
     }
 }
 
 // The places at hand where an iteration begins.
-fn next_iteration(case: &Case) -> Result<Places, Fault>
+fn next_iteration(case: &Case) -> Result<Places, RowFault>
     ensures level { IfOk result (λ here. IsAtLevel here case.now) }
     ensures iteration { IfOk result (λ here. IsNext here.iteration case.now) }
 {
     let here = at_level(case)?;
     match u32::try_from(case.shape.iterations) {
         Ok(iteration) => Ok(Places { iteration, ..here }),
-        Err(_) => Err(Fault::TooMany),
+        Err(_) => Err(RowFault::TooMany),
     }
 }
 
 // The case in a body whose turns are not counted.
-fn uncounted(case: &Case, alloc: Global) -> Result<Case, Fault>
+fn uncounted(case: &Case, alloc: Global) -> Result<Case, RowFault>
     ensures { IfOk result (λ made. IsUncounted case.now made) }
 {
     let here = next_iteration(case)?;
-    let step = Step {
+    let step = RowStep {
         clauses: &COUNTS_NOT,
         here,
         given: &[],
@@ -130,11 +130,11 @@ fn uncounted(case: &Case, alloc: Global) -> Result<Case, Fault>
 }
 
 // The case in one where they are.
-fn counted(case: &Case, number: &[Form], alloc: Global) -> Result<Case, Fault>
+fn counted(case: &Case, number: &[Form], alloc: Global) -> Result<Case, RowFault>
     ensures { IfOk result (λ made. IsCounted case.now (slice_index_or number.now 0 []) made) }
 {
     let here = next_iteration(case)?;
-    let step = Step {
+    let step = RowStep {
         clauses: &COUNTS,
         here,
         given: number,
@@ -144,14 +144,14 @@ fn counted(case: &Case, number: &[Form], alloc: Global) -> Result<Case, Fault>
 }
 
 // With a number it goes into its body from 1 on, and else past its end.
-fn enter_counted(case: &Case, number: &[Form], alloc: Global) -> Result<Outcomes, Fault>
+fn enter_counted(case: &Case, number: &[Form], alloc: Global) -> Result<Outcomes, RowFault>
     ensures { IfOk result (λ all.
         Enters case.now (Some (slice_index_or number.now 0 [])) all.cases.items all.away.items) }
 {
     let here = at_level(case)?;
     let mut cases = Vec::new(alloc);
     cases.push(counted(case, number, alloc)?)?;
-    let away = cases_in(case, only(Range::UpTo(0)), number, here, alloc)?;
+    let away = cases_in(case, only(NumberRange::UpTo(0)), number, here, alloc)?;
     Ok(Outcomes {
         conditions: Vec::new(alloc),
         guarded: Vec::new(alloc),
@@ -161,7 +161,7 @@ fn enter_counted(case: &Case, number: &[Form], alloc: Global) -> Result<Outcomes
 }
 
 // Without one it goes into its body.
-fn enter_uncounted(case: &Case, alloc: Global) -> Result<Outcomes, Fault>
+fn enter_uncounted(case: &Case, alloc: Global) -> Result<Outcomes, RowFault>
     ensures { IfOk result (λ all. Enters case.now None all.cases.items all.away.items) }
 {
     let body = uncounted(case, alloc)?;
@@ -169,11 +169,11 @@ fn enter_uncounted(case: &Case, alloc: Global) -> Result<Outcomes, Fault>
 }
 
 // < begins an iteration.
-fn iterate(case: &Case, alloc: Global) -> Result<Outcomes, Fault>
+fn iterate(case: &Case, alloc: Global) -> Result<Outcomes, RowFault>
     ensures { IfOk result (λ all. (colons : ℕ) → Turns Flow.Iterate colons case.now all) }
 {
     let taken = take_arguments(case, alloc)?;
-    let Taken {
+    let TakenForms {
         first: _first,
         value,
     } = taken;
@@ -184,7 +184,7 @@ fn iterate(case: &Case, alloc: Global) -> Result<Outcomes, Fault>
 }
 
 // A conditional goes on where its test holds, and else to its other branch.
-fn conditional(case: &Case, test: Test, alloc: Global) -> Result<Outcomes, Fault>
+fn conditional(case: &Case, test: Test, alloc: Global) -> Result<Outcomes, RowFault>
     ensures { IfOk result (λ all. (colons : ℕ) → Turns (Flow.Test test) colons case.now all) }
 {
     let taken = take_arguments(case, alloc)?;
@@ -206,32 +206,37 @@ fn staying(colons: u8) -> Ranges
     ensures { (x : ℤ) → leaves colons x ≡ false → IsInOne result x }
 {
     if colons == 0 {
-        only(Range::UpTo(-1))
+        only(NumberRange::UpTo(-1))
     } else {
-        only(Range::From(0))
+        only(NumberRange::From(0))
     }
 }
 
 // Those for which it leaves.
-fn leaving(colons: u8) -> Range
+fn leaving(colons: u8) -> NumberRange
     ensures { (x : ℤ) → leaves colons x ≡ true → IsIn result x }
 {
     if colons == 0 {
-        Range::From(0)
+        NumberRange::From(0)
     } else {
-        Range::UpTo(-1)
+        NumberRange::UpTo(-1)
     }
 }
 
 /// The case where an iteration is left, for a number in a range.
-pub fn left(case: &Case, range: Range, number: &[Form], alloc: Global) -> Result<Case, Fault>
+pub fn left(
+    case: &Case,
+    range: NumberRange,
+    number: &[Form],
+    alloc: Global,
+) -> Result<Case, RowFault>
     ensures { IfOk result (λ made. IsLeft case.now range (slice_index_or number.now 0 []) made) }
 {
     let outermost = outermost(case, alloc)?;
     let here = innermost(&outermost)?;
     let mut row = row_in(range, alloc)?;
     row.push(Clause::Drops(TURNS))?;
-    let step = Step {
+    let step = RowStep {
         clauses: &row,
         here,
         given: number,
@@ -241,7 +246,7 @@ pub fn left(case: &Case, range: Range, number: &[Form], alloc: Global) -> Result
 }
 
 // ; goes on, or leaves its iteration.
-fn leave(case: &Case, colons: u8, alloc: Global) -> Result<Outcomes, Fault>
+fn leave(case: &Case, colons: u8, alloc: Global) -> Result<Outcomes, RowFault>
     ensures { IfOk result (λ all. Turns Flow.Leave colons case.now all) }
 {
     let taken = take_arguments(case, alloc)?;
@@ -260,11 +265,11 @@ fn leave(case: &Case, colons: u8, alloc: Global) -> Result<Outcomes, Fault>
 }
 
 // The case at the start of the body again, with one turn fewer left.
-fn again(case: &Case, alloc: Global) -> Result<Case, Fault>
+fn again(case: &Case, alloc: Global) -> Result<Case, RowFault>
     ensures { IfOk result (λ made. IsAgain case.now made) }
 {
     let here = innermost(case)?;
-    let step = Step {
+    let step = RowStep {
         clauses: &AGAIN,
         here,
         given: &[],
@@ -274,11 +279,11 @@ fn again(case: &Case, alloc: Global) -> Result<Case, Fault>
 }
 
 // The case behind the last turn.
-fn ended(case: &Case, alloc: Global) -> Result<Case, Fault>
+fn ended(case: &Case, alloc: Global) -> Result<Case, RowFault>
     ensures { IfOk result (λ made. IsEnded case.now made) }
 {
     let here = innermost(case)?;
-    let step = Step {
+    let step = RowStep {
         clauses: &ENDS,
         here,
         given: &[],
@@ -288,7 +293,7 @@ fn ended(case: &Case, alloc: Global) -> Result<Case, Fault>
 }
 
 // Where turns are counted, it goes back while some are left.
-fn return_counted(case: &Case, alloc: Global) -> Result<Outcomes, Fault>
+fn return_counted(case: &Case, alloc: Global) -> Result<Outcomes, RowFault>
     ensures { IfOk result (λ all. Returns true case.now all.cases.items all.away.items) }
 {
     let mut cases = Vec::new(alloc);
@@ -304,11 +309,11 @@ fn return_counted(case: &Case, alloc: Global) -> Result<Outcomes, Fault>
 }
 
 // Where they are not, it goes back.
-fn return_uncounted(case: &Case, alloc: Global) -> Result<Outcomes, Fault>
+fn return_uncounted(case: &Case, alloc: Global) -> Result<Outcomes, RowFault>
     ensures { IfOk result (λ all. Returns false case.now all.cases.items all.away.items) }
 {
     let here = at_level(case)?;
-    let away = cases_in(case, only(Range::Any), &[], here, alloc)?;
+    let away = cases_in(case, only(NumberRange::Any), &[], here, alloc)?;
     Ok(Outcomes {
         conditions: Vec::new(alloc),
         guarded: Vec::new(alloc),
@@ -318,7 +323,7 @@ fn return_uncounted(case: &Case, alloc: Global) -> Result<Outcomes, Fault>
 }
 
 // Whether the turns of the innermost iteration are counted.
-fn is_counted(case: &Case, alloc: Global) -> Result<bool, Fault>
+fn is_counted(case: &Case, alloc: Global) -> Result<bool, RowFault>
     ensures { IfOk result (λ answer. Counts answer case.now) }
 {
     let here = innermost(case)?;
@@ -327,7 +332,7 @@ fn is_counted(case: &Case, alloc: Global) -> Result<bool, Fault>
 }
 
 // > ends a turn.
-fn end_turn(case: &Case, alloc: Global) -> Result<Outcomes, Fault>
+fn end_turn(case: &Case, alloc: Global) -> Result<Outcomes, RowFault>
     ensures { IfOk result (λ all. (colons : ℕ) → Turns Flow.EndTurn colons case.now all) }
 {
     let outermost = outermost(case, alloc)?;
@@ -339,10 +344,10 @@ fn end_turn(case: &Case, alloc: Global) -> Result<Outcomes, Fault>
 }
 
 // The case a step later, where nothing else is done.
-fn later(case: &Case, alloc: Global) -> Result<Case, Fault>
+fn later(case: &Case, alloc: Global) -> Result<Case, RowFault>
     ensures { IfOk result (λ made. IsLater case.now made) }
 {
-    let step = Step {
+    let step = RowStep {
         clauses: &STEPS,
         here: at_level(case)?,
         given: &[],
@@ -352,7 +357,7 @@ fn later(case: &Case, alloc: Global) -> Result<Case, Fault>
 }
 
 // The text goes on behind the element.
-fn go_past(case: &Case, alloc: Global) -> Result<Outcomes, Fault>
+fn go_past(case: &Case, alloc: Global) -> Result<Outcomes, RowFault>
     ensures { IfOk result (λ all. AreLater case.now all.cases.items) }
 {
     let behind = later(case, alloc)?;
@@ -360,7 +365,7 @@ fn go_past(case: &Case, alloc: Global) -> Result<Outcomes, Fault>
 }
 
 // The text goes on elsewhere.
-fn go_away(case: &Case, alloc: Global) -> Result<Outcomes, Fault>
+fn go_away(case: &Case, alloc: Global) -> Result<Outcomes, RowFault>
     ensures { IfOk result (λ all. AreLater case.now all.away.items) }
 {
     let mut away = Vec::new(alloc);
@@ -375,12 +380,12 @@ fn go_away(case: &Case, alloc: Global) -> Result<Outcomes, Fault>
 
 // The cases behind a tag, without any argument: in the same iterations, or out of one. Out of more
 // it is not told.
-fn behind_tag(case: &Case, alloc: Global) -> Result<Vec<Case>, Fault>
+fn behind_tag(case: &Case, alloc: Global) -> Result<Vec<Case>, RowFault>
     ensures { IfOk result (λ away. JumpsOut case.now away.items) }
 {
     let iterations = case.shape.iterations;
     if iterations > 1 {
-        return Err(Fault::NotTold);
+        return Err(RowFault::NotTold);
     }
     let stays = dropped(case, alloc)?;
     let mut away = Vec::new(alloc);
@@ -388,22 +393,22 @@ fn behind_tag(case: &Case, alloc: Global) -> Result<Vec<Case>, Fault>
     if iterations == 0 {
         return Ok(away);
     }
-    let gone = left(case, Range::Any, &[], alloc)?;
+    let gone = left(case, NumberRange::Any, &[], alloc)?;
     away.push(gone)?;
     Ok(away)
 }
 
 // O takes no value.
-fn go_to(case: &Case, alloc: Global) -> Result<Outcomes, Fault>
+fn go_to(case: &Case, alloc: Global) -> Result<Outcomes, RowFault>
     ensures { IfOk result (λ all. (colons : ℕ) → Turns Flow.GoTo colons case.now all) }
 {
     let taken = take_arguments(case, alloc)?;
-    let Taken {
+    let TakenForms {
         first: _first,
         value,
     } = taken;
     if value.is_some() {
-        return Err(Fault::Argument);
+        return Err(RowFault::Argument);
     }
     let away = behind_tag(case, alloc)?;
     Ok(Outcomes {
@@ -415,7 +420,7 @@ fn go_to(case: &Case, alloc: Global) -> Result<Outcomes, Fault>
 }
 
 /// What comes of an element that decides where the text goes on.
-pub fn turn(case: &Case, flow: Flow, colons: u8, alloc: Global) -> Result<Outcomes, Fault>
+pub fn turn(case: &Case, flow: Flow, colons: u8, alloc: Global) -> Result<Outcomes, RowFault>
     ensures { IfOk result (λ all. Turns flow colons case.now all) }
 {
     match flow {

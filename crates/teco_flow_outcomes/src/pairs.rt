@@ -6,14 +6,14 @@ use std::alloc::Global;
 use teco_linear::Form;
 use teco_rows::applied::copied;
 use teco_rows::case::Case;
-use teco_rows::fault::Fault;
+use teco_rows::fault::RowFault;
 use teco_rows::forms::within_32_bits;
 use teco_rows::levels::{
     FIRST, NO, STEP, VALUE, at_level, led, left_value, made, one, pending, waiting,
 };
 use teco_rows::measure::Family;
 use teco_rows::outcomes::Outcomes;
-use teco_rows::row::{Clause, Of, Step};
+use teco_rows::row::{Clause, Of, RowStep};
 
 // Both values are there.
 const PAIRS: [Clause; 3] = [
@@ -30,7 +30,7 @@ struct Left {
 }
 
 // What an operator that waits makes of a number has to be a form.
-fn left_by(case: &Case, number: &Form, alloc: Global) -> Result<Left, Fault>
+fn left_by(case: &Case, number: &Form, alloc: Global) -> Result<Left, RowFault>
     ensures { IfOk result (λ left. Leaves number.now case.now left.conditions.items left.form) }
 {
     let Some(operator) = waiting(case) else {
@@ -46,16 +46,16 @@ fn left_by(case: &Case, number: &Form, alloc: Global) -> Result<Left, Fault>
             let conditions = within_32_bits(&form, alloc)?;
             Ok(Left { form, conditions })
         }
-        None => Err(Fault::NotTold),
+        None => Err(RowFault::NotTold),
     }
 }
 
 // The case where the innermost level has two forms as its values.
-fn paired(case: &Case, both: &[Form], alloc: Global) -> Result<Case, Fault>
+fn paired(case: &Case, both: &[Form], alloc: Global) -> Result<Case, RowFault>
     ensures { IfOk result (λ after.
         IsPaired case.now (slice_index_or both.now 0 []) (slice_index_or both.now 1 []) after) }
 {
-    let step = Step {
+    let step = RowStep {
         clauses: &PAIRS,
         here: at_level(case)?,
         given: both,
@@ -65,11 +65,16 @@ fn paired(case: &Case, both: &[Form], alloc: Global) -> Result<Case, Fault>
 }
 
 /// Two numbers are given with a comma between them. The first one has to be at least 0.
-pub fn give_pair(case: &Case, first: &Form, second: Form, alloc: Global) -> Result<Outcomes, Fault>
+pub fn give_pair(
+    case: &Case,
+    first: &Form,
+    second: Form,
+    alloc: Global,
+) -> Result<Outcomes, RowFault>
     ensures { IfOk result (λ all. GivesPair first.now second case.now all) }
 {
     if pending(case, Family::First, alloc)?.is_some() {
-        return Err(Fault::Argument);
+        return Err(RowFault::Argument);
     }
     let Left {
         form,

@@ -9,13 +9,13 @@ use teco_linear::Form;
 use teco_model::kind::Test;
 use teco_rows::case::Case;
 use teco_rows::commands::{Way, command};
-use teco_rows::fault::Fault;
+use teco_rows::fault::RowFault;
 use teco_rows::levels::NO;
 use teco_rows::row::{Clause, Of, Places};
 
 /// A range of numbers.
 #[derive(Clone, Copy)]
-pub enum Range {
+pub enum NumberRange {
     /// All numbers.
     Any,
     /// Those from one on.
@@ -29,12 +29,12 @@ pub enum Range {
 /// One range, or two.
 #[derive(Clone, Copy)]
 pub struct Ranges {
-    pub one: Range,
-    pub other: Option<Range>,
+    pub one: NumberRange,
+    pub other: Option<NumberRange>,
 }
 
 /// One range alone.
-pub fn only(one: Range) -> Ranges
+pub fn only(one: NumberRange) -> Ranges
     ensures { result ≡ record { one = one; other = None } }
 {
     Ranges { one, other: None }
@@ -45,19 +45,19 @@ pub fn where_it_holds(test: Test) -> Ranges
     ensures { (x : ℤ) → holds test x ≡ true → IsInOne result x }
 {
     match test {
-        Test::Zero => only(Range::Between(0, 0)),
+        Test::Zero => only(NumberRange::Between(0, 0)),
         Test::NotZero => Ranges {
-            one: Range::From(1),
-            other: Some(Range::UpTo(-1)),
+            one: NumberRange::From(1),
+            other: Some(NumberRange::UpTo(-1)),
         },
-        Test::Negative => only(Range::UpTo(-1)),
-        Test::Positive => only(Range::From(1)),
-        Test::Letter => only(Range::Between(65, 122)),
-        Test::Symbol => only(Range::Between(36, 122)),
-        Test::Digit => only(Range::Between(48, 57)),
-        Test::LetterOrDigit => only(Range::Between(48, 122)),
-        Test::Lower => only(Range::Between(97, 122)),
-        Test::Upper => only(Range::Between(65, 90)),
+        Test::Negative => only(NumberRange::UpTo(-1)),
+        Test::Positive => only(NumberRange::From(1)),
+        Test::Letter => only(NumberRange::Between(65, 122)),
+        Test::Symbol => only(NumberRange::Between(36, 122)),
+        Test::Digit => only(NumberRange::Between(48, 57)),
+        Test::LetterOrDigit => only(NumberRange::Between(48, 122)),
+        Test::Lower => only(NumberRange::Between(97, 122)),
+        Test::Upper => only(NumberRange::Between(65, 90)),
     }
 }
 
@@ -68,13 +68,13 @@ pub fn where_it_fails(test: Test) -> Ranges
     match test {
         Test::Zero => where_it_holds(Test::NotZero),
         Test::NotZero => where_it_holds(Test::Zero),
-        Test::Negative => only(Range::From(0)),
-        Test::Positive => only(Range::UpTo(0)),
+        Test::Negative => only(NumberRange::From(0)),
+        Test::Positive => only(NumberRange::UpTo(0)),
         Test::Digit => Ranges {
-            one: Range::UpTo(47),
-            other: Some(Range::From(58)),
+            one: NumberRange::UpTo(47),
+            other: Some(NumberRange::From(58)),
         },
-        _ => only(Range::Any),
+        _ => only(NumberRange::Any),
     }
 }
 
@@ -93,21 +93,21 @@ fn at_most(most: i32) -> Clause
 }
 
 /// The row that says that the number that is given is in a range.
-pub fn row_in(range: Range, alloc: Global) -> Result<Vec<Clause>, Fault>
+pub fn row_in(range: NumberRange, alloc: Global) -> Result<Vec<Clause>, RowFault>
     ensures { IfOk result (λ row. Says range row.items) }
 {
     let mut row = Vec::new(alloc);
     match range {
-        Range::Any => Ok(row),
-        Range::From(least) => {
+        NumberRange::Any => Ok(row),
+        NumberRange::From(least) => {
             row.push(at_least(least))?;
             Ok(row)
         }
-        Range::UpTo(most) => {
+        NumberRange::UpTo(most) => {
             row.push(at_most(most))?;
             Ok(row)
         }
-        Range::Between(least, most) => {
+        NumberRange::Between(least, most) => {
             row.push(at_least(least))?;
             row.push(at_most(most))?;
             Ok(row)
@@ -118,11 +118,11 @@ pub fn row_in(range: Range, alloc: Global) -> Result<Vec<Clause>, Fault>
 // The case behind a command that took its arguments, where the number is in a range.
 fn case_in(
     case: &Case,
-    range: Range,
+    range: NumberRange,
     number: &[Form],
     here: Places,
     alloc: Global,
-) -> Result<Case, Fault>
+) -> Result<Case, RowFault>
     requires level { IsAtLevel here case.now }
     ensures { IfOk result (λ made. IsBehindIn case.now range (slice_index_or number.now 0 []) made) }
 {
@@ -141,7 +141,7 @@ pub fn cases_in(
     number: &[Form],
     here: Places,
     alloc: Global,
-) -> Result<Vec<Case>, Fault>
+) -> Result<Vec<Case>, RowFault>
     requires level { IsAtLevel here case.now }
     ensures { IfOk result (λ cases.
         AreBehindIn case.now ranges (slice_index_or number.now 0 []) cases.items) }

@@ -268,20 +268,19 @@ fn flags_of(nodes: &Nodes<'_>, alloc: Global) -> Result<Vec<Flag>, SearchStop> {
     Ok(left)
 }
 
-// Why a search stops, if that is to be told.
+/// Why no claims of a macro are found in a way.
+#[derive(Drop)]
+pub struct SearchFailure {
+    pub refusal: SearchRefusal,
+    /// What more would do, where the first way can tell that.
+    pub shortfall: Option<Shortfall>,
+}
+
+// What more would do where a search stops, if that is to be told.
 #[derive(Drop)]
 struct Report {
     is_wanted: bool,
-    reason: Option<Shortfall>,
-}
-
-impl Report {
-    fn new(is_wanted: bool) -> Report {
-        Report {
-            is_wanted,
-            reason: None,
-        }
-    }
+    shortfall: Option<Shortfall>,
 }
 
 // How a try is made.
@@ -314,7 +313,9 @@ fn try_once(
         Ok(promises) => claims_of(search, &keys, &known, &promises),
         Err(stop) => {
             if report.is_wanted {
-                report.reason = reason_for(search, &web, &keys, &mut known, stop)?;
+                report.shortfall = reason_for(search, &web, &keys, &mut known, stop).unwrap_or(
+                    None,
+                );
             }
             Err(stop)
         }
@@ -414,19 +415,18 @@ fn searched(
 /// How many ways there are to look for claims.
 pub const ATTEMPTS: usize = 6;
 
-/// Looks for claims of a macro in one of several ways, the quickest first: how many commands it takes,
-/// how much it holds, and what holds at its cut points. The same macro has the same claims each time.
-/// They are not checked here.
-pub fn infer_by(
+// The claims that a way finds, unless bounds are steep and another way may find better ones.
+fn found_by(
     called: &Called<'_>,
     attempt: usize,
+    report: &mut Report,
     alloc: Global,
 ) -> Result<Claims, SearchRefusal> {
     let Some(way) = WAYS.get(attempt) else {
         return Err(SearchRefusal::TooMuch);
     };
     let is_whole = attempt == 0 || way.is_last;
-    match searched(called, *way, is_whole, &mut Report::new(false), alloc) {
+    match searched(called, *way, is_whole, report, alloc) {
         Ok(claims) => {
             let is_steep = claims.commands.at(STEEP_AT).is_none();
             if is_steep && !way.is_last {
@@ -439,12 +439,24 @@ pub fn infer_by(
     }
 }
 
-/// Why no claims of a macro are found in the quickest way, as far as that can be told.
-pub fn why_unfound(called: &Called<'_>, alloc: Global) -> Option<Shortfall> {
-    let mut report = Report::new(true);
-    match searched(called, WAYS[0], true, &mut report, alloc) {
-        Ok(_) => None,
-        Err(_) => report.reason,
+/// Looks for claims of a macro in one of several ways, the quickest first: how many commands it takes,
+/// how much it holds, and what holds at its cut points. The same macro has the same claims each time.
+/// They are not checked here.
+pub fn infer_by(
+    called: &Called<'_>,
+    attempt: usize,
+    alloc: Global,
+) -> Result<Claims, SearchFailure> {
+    let mut report = Report {
+        is_wanted: attempt == 0,
+        shortfall: None,
+    };
+    match found_by(called, attempt, &mut report, alloc) {
+        Ok(claims) => Ok(claims),
+        Err(refusal) => Err(SearchFailure {
+            refusal,
+            shortfall: report.shortfall,
+        }),
     }
 }
 

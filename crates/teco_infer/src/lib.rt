@@ -16,6 +16,6 @@ mod ways;
 mod worth;
 mod written;
 
-pub use infer::{ATTEMPTS, infer_by, next_attempt, why_unfound};
+pub use infer::{ATTEMPTS, SearchFailure, infer_by, next_attempt};
 pub use reason::Shortfall;
 pub use teco_bounds::fault::SearchRefusal;

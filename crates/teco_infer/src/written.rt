@@ -13,7 +13,7 @@ use teco_bounds::measures::{
 };
 use teco_bounds::numbers::plus;
 use teco_bounds::search::{Keys, PathSearch};
-use teco_claims::{Claim, Claims, Cut, Fraction, Measure, Single, Term};
+use teco_claims::{Claim, ClaimMeasure, ClaimSingle, ClaimTerm, Claims, Cut, Fraction};
 use teco_linear::Form;
 use teco_poly::Poly;
 
@@ -36,16 +36,16 @@ fn polynomial(coefficients: &[u64]) -> Option<Poly> {
 }
 
 // The codes of characters have no name.
-fn single_of(place: u32) -> Option<Single> {
+fn single_of(place: u32) -> Option<ClaimSingle> {
     match place {
-        STEPS => Some(Single::Steps),
-        POINTER => Some(Single::Pointer),
-        SIZE => Some(Single::Size),
-        HELD => Some(Single::Held),
-        LINE_END => Some(Single::LineEnd),
-        LINE_START => Some(Single::LineStart),
-        LAST_LENGTH => Some(Single::LastLength),
-        TYPED => Some(Single::Typed),
+        STEPS => Some(ClaimSingle::Steps),
+        POINTER => Some(ClaimSingle::Pointer),
+        SIZE => Some(ClaimSingle::Size),
+        HELD => Some(ClaimSingle::Held),
+        LINE_END => Some(ClaimSingle::LineEnd),
+        LINE_START => Some(ClaimSingle::LineStart),
+        LAST_LENGTH => Some(ClaimSingle::LastLength),
+        TYPED => Some(ClaimSingle::Typed),
         _ => None,
     }
 }
@@ -65,16 +65,16 @@ fn begin_of(search: &PathSearch<'_>, number: usize, index: u32) -> Option<u32> {
 }
 
 // The measure of a place at a node.
-fn measure_of(search: &PathSearch<'_>, number: usize, place: u32) -> Option<Measure> {
+fn measure_of(search: &PathSearch<'_>, number: usize, place: u32) -> Option<ClaimMeasure> {
     let Some(index) = index_of(place) else {
-        return Some(Measure::One(single_of(place)?));
+        return Some(ClaimMeasure::One(single_of(place)?));
     };
     match family_of(place)? {
-        NUMBER => Some(Measure::Number(register_of(index)?)),
-        LENGTH => Some(Measure::Length(register_of(index)?)),
-        TURNS => Some(Measure::Turns(begin_of(search, number, index)?)),
-        PUSHED_NUMBER => Some(Measure::PushedNumber(index)),
-        PUSHED_LENGTH => Some(Measure::PushedLength(index)),
+        NUMBER => Some(ClaimMeasure::Number(register_of(index)?)),
+        LENGTH => Some(ClaimMeasure::Length(register_of(index)?)),
+        TURNS => Some(ClaimMeasure::Turns(begin_of(search, number, index)?)),
+        PUSHED_NUMBER => Some(ClaimMeasure::PushedNumber(index)),
+        PUSHED_LENGTH => Some(ClaimMeasure::PushedLength(index)),
         _ => None,
     }
 }
@@ -85,7 +85,7 @@ pub fn claim_of(
     number: usize,
     form: &Form,
 ) -> Result<Option<Claim>, SearchStop> {
-    let mut terms: Vec<Term> = Vec::new(search.alloc);
+    let mut terms: Vec<ClaimTerm> = Vec::new(search.alloc);
     for term in form.terms() {
         let measure = match term.symbol {
             Some(place) => match measure_of(search, number, place) {
@@ -94,7 +94,7 @@ pub fn claim_of(
             },
             None => None,
         };
-        terms.push(Term {
+        terms.push(ClaimTerm {
             is_negative: term.coefficient < 0,
             coefficient: Fraction {
                 numerator: term.coefficient.unsigned_abs(),
@@ -272,44 +272,44 @@ fn rank_of_register(register: Reg) -> u64 {
 }
 
 // Of which kind a measure is, in the order of kinds.
-fn kind_of(measure: &Measure) -> u64 {
+fn kind_of(measure: &ClaimMeasure) -> u64 {
     match measure {
-        Measure::One(Single::Steps) => 1,
-        Measure::One(Single::LineEnd) => 2,
-        Measure::One(Single::Held) => 3,
-        Measure::PushedNumber(_) | Measure::PushedLength(_) => 4,
-        Measure::One(Single::LastLength) => 5,
-        Measure::One(Single::Typed) => 6,
-        Measure::One(Single::Pointer) => 7,
-        Measure::Number(_) => 8,
-        Measure::Turns(_) => 9,
-        Measure::One(Single::LineStart) => 10,
-        Measure::Length(_) => 11,
-        Measure::One(Single::Size) => 12,
+        ClaimMeasure::One(ClaimSingle::Steps) => 1,
+        ClaimMeasure::One(ClaimSingle::LineEnd) => 2,
+        ClaimMeasure::One(ClaimSingle::Held) => 3,
+        ClaimMeasure::PushedNumber(_) | ClaimMeasure::PushedLength(_) => 4,
+        ClaimMeasure::One(ClaimSingle::LastLength) => 5,
+        ClaimMeasure::One(ClaimSingle::Typed) => 6,
+        ClaimMeasure::One(ClaimSingle::Pointer) => 7,
+        ClaimMeasure::Number(_) => 8,
+        ClaimMeasure::Turns(_) => 9,
+        ClaimMeasure::One(ClaimSingle::LineStart) => 10,
+        ClaimMeasure::Length(_) => 11,
+        ClaimMeasure::One(ClaimSingle::Size) => 12,
     }
 }
 
 // Where it stands among those of its kind.
-fn rank_of(measure: &Measure) -> u64 {
+fn rank_of(measure: &ClaimMeasure) -> u64 {
     match measure {
-        Measure::PushedNumber(pair) => u64::from(*pair).saturating_mul(2),
-        Measure::PushedLength(pair) => u64::from(*pair).saturating_mul(2).saturating_add(1),
-        Measure::Turns(begin) => u64::from(*begin),
-        Measure::Number(register) => rank_of_register(*register),
+        ClaimMeasure::PushedNumber(pair) => u64::from(*pair).saturating_mul(2),
+        ClaimMeasure::PushedLength(pair) => u64::from(*pair).saturating_mul(2).saturating_add(1),
+        ClaimMeasure::Turns(begin) => u64::from(*begin),
+        ClaimMeasure::Number(register) => rank_of_register(*register),
         _ => length_rank(measure),
     }
 }
 
 // Where a length stands among the lengths.
-fn length_rank(measure: &Measure) -> u64 {
+fn length_rank(measure: &ClaimMeasure) -> u64 {
     match measure {
-        Measure::Length(register) => rank_of_register(*register),
+        ClaimMeasure::Length(register) => rank_of_register(*register),
         _ => 0,
     }
 }
 
 // The order of terms: by measure, and then by power.
-fn order(term: &Term) -> u128 {
+fn order(term: &ClaimTerm) -> u128 {
     let (kind, index) = match &term.measure {
         None => (0, 0),
         Some(measure) => (kind_of(measure), rank_of(measure)),

@@ -8,8 +8,8 @@ use Rattle.teco_apply.specs.ByPages.{EditsPages, EndsInMacro, EndsWith, FromStar
 use Rattle.teco_apply.specs.ByPages.{nothing_done, tally_after, to_start}
 use Rattle.teco_apply.specs.Sure.{MOST}
 use Rattle.teco_apply.specs.declared.by_pages.Edited.{Edited}
-use Rattle.teco_apply.specs.declared.by_pages.Pages.{Pages}
-use Rattle.teco_apply.specs.declared.by_pages.Pages.TheVariants as pages
+use Rattle.teco_apply.specs.declared.by_pages.PageChoice.{PageChoice}
+use Rattle.teco_apply.specs.declared.by_pages.PageChoice.TheVariants as pages
 use Rattle.teco_apply.specs.declared.stages.Ran.{Ran}
 use Rattle.teco_apply.specs.declared.stages.Ran.TheVariants as ran
 use Rattle.teco_apply.specs.declared.stages.Tally.{Tally}
@@ -111,7 +111,7 @@ module _ (order : Order) (strict : IsStrict order) where
       less_took (0 + macro_bound order nothing_done Closing old new f g sink sunk result m) _ result (omega arith)
       (macro_took Closing closing_took nothing_done old new f g sink sunk result m)
 
-  pages_took : (pages : Pages) → Bounds (EditsPages pages order) (pages_bound pages order)
+  pages_took : (pages : PageChoice) → Bounds (EditsPages pages order) (pages_bound pages order)
   unfolding Bounds
   pages_took pages.First = once_took
   pages_took pages.Each = each_took

@@ -10,8 +10,8 @@ use Rattle.teco_apply.specs.ByPages.{EditsPages, EditsText, EndsWith, FromStart,
 use Rattle.teco_apply.specs.ByPages.{PagesGathered, PagesTurned, Turning}
 use Rattle.teco_apply.specs.ByPages.{gathering, nothing_done, tally_after, to_start, turning}
 use Rattle.teco_apply.specs.declared.by_pages.Edited.{Edited}
-use Rattle.teco_apply.specs.declared.by_pages.Pages.{Pages}
-use Rattle.teco_apply.specs.declared.by_pages.Pages.TheVariants as pages
+use Rattle.teco_apply.specs.declared.by_pages.PageChoice.{PageChoice}
+use Rattle.teco_apply.specs.declared.by_pages.PageChoice.TheVariants as pages
 use Rattle.teco_apply.specs.declared.by_pages.TheConstants.{PAGES}
 use Rattle.teco_apply.specs.declared.stages.Ran.TheVariants as ran
 use Rattle.teco_apply.specs.declared.stages.Tally.{Tally}
@@ -304,7 +304,7 @@ module _ (once : RunsEndOnce) (texts : TextsEnd) (order : Order) (strict : IsStr
       from_start_well most mid (gathering_ends most old small first mid f count sink written gathers) new count g
       written sunk result rest
 
-  pages_well : (pages : Pages) (most : ℕ) (old : World) → most ≤ LIMIT → Gathered most 0 old
+  pages_well : (pages : PageChoice) (most : ℕ) (old : World) → most ≤ LIMIT → Gathered most 0 old
       → GoesWell (EditsPages pages order) old
   pages_well pages.First most old small first = once_well most old first.at.open_files
   pages_well pages.Each most old small first = each_well most old small first.at.open_files
@@ -335,7 +335,7 @@ module _ (once : RunsEndOnce) (texts : TextsEnd) (order : Order) (strict : IsStr
     room = λ some. let parts = page_parts bytes some in omega (arith, parts);
   }
 
-  edit_well : (pages : Pages) (source target : List ℕ) (old : World) → CanBegin source target old
+  edit_well : (pages : PageChoice) (source target : List ℕ) (old : World) → CanBegin source target old
       → GoesWell (EditsText pages order (opening source target)) old
   unfolding GoesWell
   edit_well pages [] target old can = absurd (can.names.given.0 refl)

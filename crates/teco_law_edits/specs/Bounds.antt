@@ -8,8 +8,8 @@ use Rattle.teco_apply.specs.ByPages.{EditsFile, EditsPages, EditsText, FromStart
 use Rattle.teco_apply.specs.ByPages.{nothing_done, to_start}
 use Rattle.teco_apply.specs.Sure.{Call, loaded}
 use Rattle.teco_apply.specs.declared.by_pages.Edited.{Edited}
-use Rattle.teco_apply.specs.declared.by_pages.Pages.{Pages}
-use Rattle.teco_apply.specs.declared.by_pages.Pages.TheVariants as pages
+use Rattle.teco_apply.specs.declared.by_pages.PageChoice.{PageChoice}
+use Rattle.teco_apply.specs.declared.by_pages.PageChoice.TheVariants as pages
 use Rattle.teco_apply.specs.declared.stages.Tally.{Tally}
 use Rattle.teco_law_tables.specs.Verified.{n_of}
 use Rattle.teco_model.specs.State.{World}
@@ -59,7 +59,7 @@ abbrev pub once_bound : (order : Order) (old new : World) (f g : ℕ) (sink sunk
     (result : Result Edited SessionFault) → Once order old new f g sink sunk result → ℕ
 once_bound order = macro_bound order nothing_done Closing
 
-abbrev pub pages_bound : (pages : Pages) (order : Order) (old new : World) (f g : ℕ) (sink sunk : Option (List ℕ))
+abbrev pub pages_bound : (pages : PageChoice) (order : Order) (old new : World) (f g : ℕ) (sink sunk : Option (List ℕ))
     (result : Result Edited SessionFault) → EditsPages pages order old new f g sink sunk result → ℕ
 pages_bound pages.First order = once_bound order
 pages_bound pages.Each order = each_bound order
@@ -67,7 +67,7 @@ pages_bound pages.Whole order =
     behind_bound Gathers (FromStart order) (behind_bound (AnswersText to_start) (Once order) (once_bound order))
 
 -- of the runs of an edit that came to their end
-abbrev pub edit_bound : (pages : Pages) (order : Order) (text : List ℕ) (old new : World) (f g : ℕ)
+abbrev pub edit_bound : (pages : PageChoice) (order : Order) (text : List ℕ) (old new : World) (f g : ℕ)
     (sink sunk : Option (List ℕ)) (result : Result Edited SessionFault)
     → EditsText pages order text old new f g sink sunk result → ℕ
 edit_bound pages order text = behind_bound (AnswersText text) (EditsPages pages order) (pages_bound pages order)
@@ -75,7 +75,8 @@ edit_bound pages order text = behind_bound (AnswersText text) (EditsPages pages 
 -- The steps that are told of an edit are no more than its bound.
 abbrev pub IsBounded : Order → Type 0
 IsBounded order =
-    (pages : Pages) (source target : List ℕ) (old new : World) (f g : ℕ) (sink sunk : Option (List ℕ)) (edited : Edited)
+    (pages : PageChoice) (source target : List ℕ) (old new : World) (f g : ℕ) (sink sunk : Option (List ℕ))
+    (edited : Edited)
     → (edit : EditsFile pages order source target old new f g sink sunk (Ok edited))
     → edited.steps
     ≤ edit_bound pages order (opening source target) old edit.edited f edit.count sink sunk (Ok edited) edit.edits

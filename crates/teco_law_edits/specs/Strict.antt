@@ -7,7 +7,7 @@ use Rattle.teco_apply.specs.Apply.{are_plain}
 use Rattle.teco_apply.specs.ByPages.{EditsFile, IsAnswered, Order}
 use Rattle.teco_apply.specs.Sure.{Call, IsReady, loaded}
 use Rattle.teco_apply.specs.declared.by_pages.Edited.{Edited}
-use Rattle.teco_apply.specs.declared.by_pages.Pages.{Pages}
+use Rattle.teco_apply.specs.declared.by_pages.PageChoice.{PageChoice}
 use Rattle.teco_base.specs.declared.TheConstants.{LIMIT}
 use Rattle.teco_model.specs.Files.{file_named}
 use Rattle.teco_model.specs.Session.{lines_of}
@@ -52,7 +52,8 @@ pub record EndsBeyond (sunk : Option (List ℕ)) : Type 0 where
 -- An edit comes to no code, but for such a stop.
 abbrev pub CannotFail : Order → Type 0
 CannotFail order =
-    (pages : Pages) (source target : List ℕ) (old new : World) (f g : ℕ) (sink sunk : Option (List ℕ)) (edited : Edited)
+    (pages : PageChoice) (source target : List ℕ) (old new : World) (f g : ℕ) (sink sunk : Option (List ℕ))
+    (edited : Edited)
     → CanBegin source target old
     → EditsFile pages order source target old new f g sink sunk (Ok edited)
     → (edited.coded ≡ false) ⊎ EndsBeyond sunk

@@ -1,20 +1,15 @@
 -- States that are the same but for the text of the command string step to such.
-use Rattle.std.proofs.Common.{◌≡◌, ℕ, zero, suc, List, [], ◌∷◌, Option, Some, None, Result, Ok, Err, refl, sym, ap}
-use Rattle.std.proofs.Common.{◌∙◌, subst, arith}
-use Rattle.teco_base.specs.declared.code.Code.{Code}
+use Rattle.teco_law_expansion.proofs.Prelude.{◌≡◌, ℕ, zero, suc, List, [], ◌∷◌, Option, Some, None, Result, Ok, Err}
+use Rattle.teco_law_expansion.proofs.Prelude.{refl, sym, ap, ◌∙◌, subst, arith, Code, Loop, Call, Kind, Arguments}
+use Rattle.teco_law_expansion.proofs.Prelude.{Element, element_at, Course, Into, Reply, frames_in, settled, settle, run}
+use Rattle.teco_law_expansion.proofs.Prelude.{go_on, World, Frame, State, Outcome, Next, End, reply_of, outcome_of}
+use Rattle.teco_law_expansion.proofs.Prelude.{end_of_text, outcome_at, step, CallsLast, Calling, AreAlike}
 use Rattle.teco_base.specs.declared.code.Code.TheVariants as code
-use Rattle.teco_model.specs.declared.flow.Loop.{Loop}
-use Rattle.teco_model.specs.declared.kind.Call.{Call}
-use Rattle.teco_model.specs.declared.kind.Kind.{Kind}
 use Rattle.teco_model.specs.declared.kind.Kind.TheVariants as kind
-use Rattle.teco_model.specs.Arguments.{Arguments}
-use Rattle.teco_model.specs.Element.{Element, element_at}
-use Rattle.teco_model.specs.Going.{Course, Into, Quit, NoFile, Refused, Reply, code_in, frames_in, settled, settle}
-use Rattle.teco_model.specs.Run.{run, go_on}
-use Rattle.teco_model.specs.State.{World, Frame, State, Outcome, Next, End, Exit, Fail, Absent}
-use Rattle.teco_model.specs.Step.{reply_of, outcome_of, end_of_text, outcome_at, step}
+use Rattle.teco_model.specs.Going.{Quit, NoFile, Refused, code_in}
+use Rattle.teco_model.specs.State.{Exit, Fail, Absent}
 use Rattle.teco_model.specs.Storage.{text_in}
-use Rattle.teco_law_expansion.specs.Alike.{Waits, CallsLast, AreAtBottom, Waiting, Calling, AreTextsAlike, AreAlike}
+use Rattle.teco_law_expansion.specs.Alike.{Waits, AreAtBottom, Waiting, AreTextsAlike}
 use Rattle.teco_law_expansion.specs.Alike.{AreOutcomesAlike, ReadsAlike, StepsAreAlike, RunsAreAlike}
 use Rattle.teco_law_expansion.specs.Alike.{ReadingsAreAlike}
 

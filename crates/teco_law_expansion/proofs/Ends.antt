@@ -1,21 +1,15 @@
 -- The ends of iterations.
-use Rattle.std.proofs.Common.{◌≡◌, ℕ, zero, suc, ◌+◌, ◌-◌, ◌<◌, ◌≤◌, List, [], ◌∷◌, take, drop, length, ◌==◌, Bool}
-use Rattle.std.proofs.Common.{true, false, if◌then◌else◌, inl, inr, ◌⊎◌, Option, Some, None, refl, sym, ap, ◌∙◌}
-use Rattle.std.proofs.Common.{subst, slice_get, arith, eqb-true, rules, nat_lt}
-use Rattle.std.proofs.lemmas.Bool.{ltb-true, ltb-false}
-use Rattle.std.specs.List.{AllByRecursion}
+use Rattle.teco_law_expansion.proofs.Prelude.{◌≡◌, ℕ, zero, suc, ◌+◌, ◌-◌, ◌<◌, ◌≤◌, List, [], ◌∷◌, take, drop, length}
+use Rattle.teco_law_expansion.proofs.Prelude.{◌==◌, Bool, true, false, if◌then◌else◌, inl, inr, Option, Some, None}
+use Rattle.teco_law_expansion.proofs.Prelude.{refl, sym, ap, ◌∙◌, subst, slice_get, arith, eqb-true, rules, nat_lt}
+use Rattle.teco_law_expansion.proofs.Prelude.{ltb-true, ltb-false, AllByRecursion, Kind, Element, body_at, AreOpenIn}
+use Rattle.teco_law_expansion.proofs.Prelude.{AreOpen, Library, AreLinked, Stand, Node, beginning, over, stands}
+use Rattle.teco_law_expansion.proofs.Prelude.{numbered, stand_behind_kind, stand_behind, Spot}
+use Rattle.std.proofs.Common.{◌⊎◌}
 use Rattle.teco_model.specs.declared.kind.Flow.TheVariants as flow
-use Rattle.teco_model.specs.declared.kind.Kind.{Kind}
 use Rattle.teco_model.specs.declared.kind.Kind.TheVariants as kind
-use Rattle.teco_model.specs.Element.{Element}
 use Rattle.teco_verifier.specs.expansion.Ends.{is_innermost, ends_by_kind, ends_by, ends, first_end, end_of}
 use Rattle.teco_law_expansion.specs.Ends.{Descend, IsBegin, IterationsEnd, LeftHaveEnded}
-use Rattle.teco_law_expansion.specs.Iterations.{body_at, AreOpenIn, AreOpen}
-use Rattle.teco_model.specs.Macros.{Library}
-use Rattle.teco_law_expansion.specs.Linked.{AreLinked}
-use Rattle.teco_verifier.specs.expansion.Node.{Stand, Node, beginning, over, stands, numbered}
-use Rattle.teco_verifier.specs.expansion.Order.{stand_behind_kind, stand_behind}
-use Rattle.teco_verifier.specs.expansion.Position.{Spot}
 use Rattle.teco_law_expansion.proofs.Iterations.{earlier, first_is, node_stands, iterations_are_open}
 use Rattle.teco_law_expansion.proofs.Visiting.{slice_get-drop}
 use Rattle.teco_law_expansion.proofs.Runs.{AtNode, is_node, node_or_end}

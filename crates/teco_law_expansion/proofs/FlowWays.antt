@@ -1,22 +1,13 @@
 -- Each way of a flow element leads where the machine stands after it.
-use Rattle.std.proofs.Common.{◌≡◌, ℕ, zero, suc, List, [], ◌∷◌, map, drop, Some, Result, Ok, sym, ap, ◌∙◌, slice_get}
-use Rattle.std.specs.Option.{ok_or}
+use Rattle.teco_law_expansion.proofs.Prelude.{◌≡◌, ℕ, zero, suc, List, [], ◌∷◌, map, drop, Some, Result, Ok, sym, ap}
+use Rattle.teco_law_expansion.proofs.Prelude.{◌∙◌, slice_get, ok_or, Flow, Goal, Whole, Arguments, Element, Turn}
+use Rattle.teco_law_expansion.proofs.Prelude.{skip_of, Frame, Reason, Unpaired, ◌>>=◌, Position, position_of_frames}
+use Rattle.teco_law_expansion.proofs.Prelude.{start_of, moved_to, past, jumped, jump_way, way_or_jump, leave_ways}
+use Rattle.teco_law_expansion.proofs.Prelude.{flow_ways, Jumps, Went, ok, bound}
 use Rattle.std.proofs.lemmas.List.{drop-map}
-use Rattle.teco_model.specs.declared.kind.Flow.{Flow}
 use Rattle.teco_model.specs.declared.kind.Flow.TheVariants as flow
-use Rattle.teco_model.specs.declared.kind.Goal.{Goal}
 use Rattle.teco_model.specs.declared.kind.Goal.TheVariants as goal
-use Rattle.teco_model.specs.Ahead.{Whole}
-use Rattle.teco_model.specs.Arguments.{Arguments}
-use Rattle.teco_model.specs.Element.{Element}
-use Rattle.teco_model.specs.Flow.{Turn}
-use Rattle.teco_model.specs.Skip.{skip_of}
-use Rattle.teco_model.specs.State.{Frame}
-use Rattle.teco_verifier.specs.expansion.Refusal.{Reason, Unpaired, ◌>>=◌}
-use Rattle.teco_verifier.specs.expansion.Position.{Position, position_of_frames, start_of, moved_to}
-use Rattle.teco_verifier.specs.expansion.Ways.{past, jumped, jump_way, way_or_jump, leave_ways, ahead_ways, flow_ways}
-use Rattle.teco_law_expansion.specs.Turns.{Jumps, Went}
-use Rattle.teco_model.proofs.Chains.{ok, bound}
+use Rattle.teco_verifier.specs.expansion.Ways.{ahead_ways}
 
 -- the position of a text with those that wait
 abbrev pub position_in : Frame → List Frame → Position

@@ -1,11 +1,15 @@
 -- A number before a call is taken first, and then it is pending.
-use Rattle.std.proofs.Common.{◌≡◌, ℕ, zero, suc, ◌+◌, ◌-◌, ◌<◌, ◌≤◌, ◌^◌, arith, pos, List, [], ◌∷◌, ◌++◌, take, drop}
-use Rattle.std.proofs.Common.{map, length, length-append, true, false, Some, None, Ok, refl, sym, ap, ◌∙◌, subst}
-use Rattle.std.proofs.Common.{nat_le, lit<}
+use Rattle.teco_law_expansion.proofs.Prelude.{◌≡◌, ℕ, zero, suc, ◌+◌, ◌-◌, ◌<◌, ◌≤◌, arith, pos, List, [], ◌∷◌, ◌++◌}
+use Rattle.teco_law_expansion.proofs.Prelude.{take, drop, map, length, length-append, true, false, Some, None, Ok, refl}
+use Rattle.teco_law_expansion.proofs.Prelude.{sym, ap, ◌∙◌, subst, nat_le, length-map, register_of, register_name}
+use Rattle.teco_law_expansion.proofs.Prelude.{no_arguments, levels_after_answer, Element, element_at, element_from}
+use Rattle.teco_law_expansion.proofs.Prelude.{blank_len, blank_end, letters, World, State, Next, start, reply_of}
+use Rattle.teco_law_expansion.proofs.Prelude.{outcome_of, outcome_at, step, CallsLast, Calling, AreAlike, call_of}
+use Rattle.std.proofs.Common.{◌^◌}
+use Rattle.std.proofs.Common.{lit<}
 use Rattle.std.proofs.Math.Seq.{take-append_seam, drop-append_seam}
 use Rattle.std.proofs.lemmas.Bool.{le-leb}
 use Rattle.std.proofs.lemmas.Bool.Decides.{nat_tests}
-use Rattle.std.proofs.lemmas.List.{length-map}
 use Rattle.std.proofs.lemmas.Fmt.{decimal_digit, decimal-digits_of}
 use Rattle.std.proofs.lemmas.Int.{ints, int_wrap_fits}
 use Rattle.std.proofs.lemmas.Int.Digits.{all_below_base_digits_of, number_digits_of}
@@ -13,19 +17,12 @@ use Rattle.std.specs.Int.Digits.{AllBelowBase, digits_of, number_from_digits}
 use Rattle.std.specs.List.{prefix_len}
 use Rattle.teco_base.specs.Bytes.{is_digit}
 use Rattle.teco_base.specs.NumberText.{decimal}
-use Rattle.teco_base.specs.Register.{register_of, register_name}
 use Rattle.teco_base.specs.declared.TheConstants.{REGISTERS}
 use Rattle.teco_model.specs.declared.kind.Argument.TheVariants as argument
 use Rattle.teco_model.specs.declared.kind.Kind.TheVariants as kind
-use Rattle.teco_model.specs.Arguments.{no_arguments, levels_after_answer, run_value}
-use Rattle.teco_model.specs.Element.{Element, element_at, element_from, blank_len, blank_end}
+use Rattle.teco_model.specs.Arguments.{run_value}
 use Rattle.teco_model.specs.Checked.{◌>>=◌}
-use Rattle.teco_model.specs.Letters.{letters}
-use Rattle.teco_model.specs.State.{World, State, Next, start}
-use Rattle.teco_model.specs.Step.{reply_of, outcome_of, outcome_at, step}
-use Rattle.teco_law_expansion.specs.Alike.{CallsLast, Calling, AreAlike}
 use Rattle.teco_law_expansion.specs.Given.{start_pending, NumbersArePending}
-use Rattle.teco_model.specs.Macros.{call_of}
 
 -- ---- digits at the front of a text
 abbrev digits_in : List ℕ → ℕ

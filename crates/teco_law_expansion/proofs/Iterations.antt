@@ -1,17 +1,13 @@
 -- The numbers of open iterations.
-use Rattle.std.proofs.Common.{◌≡◌, ℕ, zero, suc, ◌<◌, List, [], ◌∷◌, ◌++◌, map, drop, Option, Some, None, Ok, refl}
-use Rattle.std.proofs.Common.{sym, ap, ◌∙◌, subst, slice_get, arith, rules}
+use Rattle.teco_law_expansion.proofs.Prelude.{◌≡◌, ℕ, zero, suc, ◌<◌, List, [], ◌∷◌, ◌++◌, map, drop, Option, Some}
+use Rattle.teco_law_expansion.proofs.Prelude.{None, Ok, refl, sym, ap, ◌∙◌, subst, slice_get, arith, rules, Kind}
+use Rattle.teco_law_expansion.proofs.Prelude.{Element, AreOpenIn, AreOpen, IsOpen, Library, macro, AreLinked, Stand}
+use Rattle.teco_law_expansion.proofs.Prelude.{Node, beginning, over, stand_of_node, stands, numbered, position_in_text}
+use Rattle.teco_law_expansion.proofs.Prelude.{position_behind_call, stand_behind_kind, stand_behind, Spot, Position}
+use Rattle.teco_law_expansion.proofs.Prelude.{end_ways, flow_ways, return_ways, element_ways, ways_at}
 use Rattle.teco_model.specs.declared.kind.Flow.TheVariants as flow
-use Rattle.teco_model.specs.declared.kind.Kind.{Kind}
 use Rattle.teco_model.specs.declared.kind.Kind.TheVariants as kind
-use Rattle.teco_model.specs.Element.{Element}
-use Rattle.teco_law_expansion.specs.Iterations.{AreOpenIn, AreOpen, IsOpen, IterationsAreOpen}
-use Rattle.teco_model.specs.Macros.{Library, macro}
-use Rattle.teco_law_expansion.specs.Linked.{AreLinked}
-use Rattle.teco_verifier.specs.expansion.Node.{Stand, Node, beginning, over, stand_of_node, stands, numbered}
-use Rattle.teco_verifier.specs.expansion.Order.{position_in_text, position_behind_call, stand_behind_kind, stand_behind}
-use Rattle.teco_verifier.specs.expansion.Position.{Spot, Position}
-use Rattle.teco_verifier.specs.expansion.Ways.{end_ways, flow_ways, return_ways, element_ways, ways_at}
+use Rattle.teco_law_expansion.specs.Iterations.{IterationsAreOpen}
 
 -- what is behind a number is behind a greater one
 later_in : (nodes : List Node) (entry below more : ℕ) (text : List ℕ) (callers : List Spot) (Rest Other : List ℕ

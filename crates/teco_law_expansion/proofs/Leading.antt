@@ -1,34 +1,23 @@
 -- Where ways lead.
-use Rattle.std.proofs.Common.{◌≡◌, ℕ, zero, suc, ◌+◌, ◌-◌, ◌≤◌, List, [], ◌∷◌, ◌++◌, drop, length, get_or, nat_lt}
-use Rattle.std.proofs.Common.{if◌then◌else◌, Bool, true, false, Option, Some, None, Result, Ok, refl, sym, ap, ◌∙◌}
-use Rattle.std.proofs.Common.{subst, slice_get, arith, length-append, length-drop}
-use Rattle.std.proofs.lemmas.Bool.{ltb-true, ltb-false}
-use Rattle.std.specs.Option.{ok_or}
-use Rattle.teco_model.specs.declared.kind.Call.{Call}
-use Rattle.teco_model.specs.declared.kind.Search.{Search}
-use Rattle.teco_model.specs.declared.kind.Flow.{Flow}
+use Rattle.teco_law_expansion.proofs.Prelude.{◌≡◌, ℕ, zero, suc, ◌+◌, ◌-◌, ◌≤◌, List, [], ◌∷◌, ◌++◌, drop, length}
+use Rattle.teco_law_expansion.proofs.Prelude.{get_or, nat_lt, if◌then◌else◌, Bool, true, false, Option, Some, None}
+use Rattle.teco_law_expansion.proofs.Prelude.{Result, Ok, refl, sym, ap, ◌∙◌, subst, slice_get, arith, length-append}
+use Rattle.teco_law_expansion.proofs.Prelude.{length-drop, ltb-true, ltb-false, ok_or, Call, Search, Flow, Kind, Whole}
+use Rattle.teco_law_expansion.proofs.Prelude.{Element, has_colon, skip_of, body_at, AreOpen, AreOpenIn, IsOpen, Library}
+use Rattle.teco_law_expansion.proofs.Prelude.{macro, IsNext, Lead, AreLinked, Stand, Node, stands, numbered, stand_at}
+use Rattle.teco_law_expansion.proofs.Prelude.{base_of, base_of_way, position_in_text, position_behind_call}
+use Rattle.teco_law_expansion.proofs.Prelude.{stand_behind_kind, stand_behind, Spot, Position, moved_to, starts_in}
+use Rattle.teco_law_expansion.proofs.Prelude.{depth, Reason, Unpaired, past, jumped, jump_way, way_or_jump, end_ways}
+use Rattle.teco_law_expansion.proofs.Prelude.{leave_ways, flow_ways, search_ways, call_ways, return_ways, element_ways}
+use Rattle.teco_law_expansion.proofs.Prelude.{ways_at, ok, bound}
 use Rattle.teco_model.specs.declared.kind.Flow.TheVariants as flow
-use Rattle.teco_model.specs.declared.kind.Kind.{Kind}
 use Rattle.teco_model.specs.declared.kind.Kind.TheVariants as kind
-use Rattle.teco_model.specs.Ahead.{Whole}
-use Rattle.teco_model.specs.Element.{Element}
-use Rattle.teco_model.specs.Searching.{has_colon}
-use Rattle.teco_model.specs.Skip.{skip_of}
 use Rattle.teco_model.specs.State.{frame_of}
-use Rattle.teco_law_expansion.specs.Iterations.{body_at, AreOpen, AreOpenIn, IsOpen}
 use Rattle.teco_law_expansion.specs.Leading.{Place, place_at, IsBehind, IsAhead, IsInside, IsBack, IsOutside}
 use Rattle.teco_law_expansion.specs.Leading.{LeadsByFlow, LeadsByKind, LeadsBy, WaysLead}
-use Rattle.teco_model.specs.Macros.{Library, macro}
-use Rattle.teco_law_expansion.specs.Linked.{IsNext, Lead, AreLinked}
-use Rattle.teco_verifier.specs.expansion.Node.{Stand, Node, stands, numbered, iterations_at, stand_at, base_of_kind}
-use Rattle.teco_verifier.specs.expansion.Node.{base_of, base_of_way}
-use Rattle.teco_verifier.specs.expansion.Order.{position_in_text, position_behind_call, stand_inside, stand_outside}
-use Rattle.teco_verifier.specs.expansion.Order.{stand_behind_kind, stand_behind}
-use Rattle.teco_verifier.specs.expansion.Position.{Spot, Position, moved_to, starts_in, depth}
-use Rattle.teco_verifier.specs.expansion.Refusal.{Reason, Unpaired}
-use Rattle.teco_verifier.specs.expansion.Ways.{past, jumped, jump_way, way_or_jump, end_ways, leave_ways, flow_ways}
-use Rattle.teco_verifier.specs.expansion.Ways.{search_ways, called, call_ways, return_ways, element_ways, ways_at}
-use Rattle.teco_model.proofs.Chains.{ok, bound}
+use Rattle.teco_verifier.specs.expansion.Node.{iterations_at, base_of_kind}
+use Rattle.teco_verifier.specs.expansion.Order.{stand_inside, stand_outside}
+use Rattle.teco_verifier.specs.expansion.Ways.{called}
 use Rattle.teco_law_expansion.proofs.Iterations.{iterations_are_open}
 use Rattle.teco_law_expansion.proofs.FlowWays.{ahead_way}
 use Rattle.teco_law_expansion.proofs.Turns.{leaves_by_kind, leaves_none}

@@ -1,11 +1,10 @@
+mod Prelude
 mod Turns
 mod FlowWays
 mod StepWays
 mod Visiting
 mod Linking
 mod Texts
-mod Keeping
-mod KeepingPages
 mod StayLoaded
 mod Iterations
 mod Leading

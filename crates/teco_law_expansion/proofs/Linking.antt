@@ -1,23 +1,16 @@
 -- Whatever is expanded is linked.
-use Rattle.std.proofs.Common.{◌≡◌, ℕ, zero, suc, ◌+◌, ◌≤◌, length, rules, List, [], ◌∷◌, ◌++◌, map}
-use Rattle.std.proofs.Common.{Option, Some, None, Result, Ok, Err, refl}
-use Rattle.std.proofs.Common.{sym, ap, ◌∙◌, subst, slice_get, get_or, arith}
-use Rattle.std.proofs.lemmas.List.{length-map}
-use Rattle.teco_verifier.specs.expansion.Refusal.{Reason, Refusal}
-use Rattle.teco_model.specs.Macros.{Library}
-use Rattle.teco_verifier.specs.expansion.Position.{Spot}
-use Rattle.teco_verifier.specs.expansion.Ways.{read_at}
-use Rattle.teco_verifier.specs.expansion.Node.{Stand, Node, over, stand_of_node, stands, numbered}
-use Rattle.teco_verifier.specs.expansion.Order.{stand_behind}
-use Rattle.teco_verifier.specs.expansion.Expansion.{Visit, first_visit}
-use Rattle.teco_verifier.specs.expansion.Expansion.{next_visit, register_at}
-use Rattle.teco_verifier.specs.expansion.Expansion.{Walk, walk, walk_while, walk_behind, whole_walk_of}
-use Rattle.teco_verifier.specs.expansion.Expansion.{stand_of_visit, all_stands}
-use Rattle.teco_verifier.specs.expansion.Expansion.{nodes_at, unless_refused, expansion}
-use Rattle.teco_verifier.specs.expansion.Expansion.{MOST_ELEMENTS, MOST_OPEN}
-use Rattle.teco_law_expansion.specs.Linked.{IsLinked, ExpansionsAreLinked, ExpansionsAreSmall, IsTextOf}
+use Rattle.teco_law_expansion.proofs.Prelude.{◌≡◌, ℕ, zero, suc, ◌+◌, ◌≤◌, length, rules, List, [], ◌∷◌, ◌++◌, map}
+use Rattle.teco_law_expansion.proofs.Prelude.{Option, Some, None, Result, Ok, Err, refl, sym, ap, ◌∙◌, subst, slice_get}
+use Rattle.teco_law_expansion.proofs.Prelude.{get_or, arith, length-map, Reason, Library, Spot, read_at, Stand, Node}
+use Rattle.teco_law_expansion.proofs.Prelude.{over, stand_of_node, stands, numbered, stand_behind, Visit, next_visit}
+use Rattle.teco_law_expansion.proofs.Prelude.{register_at, Walk, walk, stand_of_visit, all_stands, nodes_at, expansion}
+use Rattle.teco_law_expansion.proofs.Prelude.{MOST_ELEMENTS, MOST_OPEN, IsLinked, ok, bound}
+use Rattle.teco_verifier.specs.expansion.Refusal.{Refusal}
+use Rattle.teco_verifier.specs.expansion.Expansion.{first_visit}
+use Rattle.teco_verifier.specs.expansion.Expansion.{walk_while, walk_behind, whole_walk_of}
+use Rattle.teco_verifier.specs.expansion.Expansion.{unless_refused}
+use Rattle.teco_law_expansion.specs.Linked.{ExpansionsAreLinked, ExpansionsAreSmall, IsTextOf}
 use Rattle.teco_law_expansion.specs.Linked.{NodesHaveTexts}
-use Rattle.teco_model.proofs.Chains.{ok, bound}
 use Rattle.teco_law_expansion.proofs.Visiting.{AllStand, AreTexts, CallersEnd, Followed, IsDone, IsSound, Next, Waits}
 use Rattle.teco_law_expansion.proofs.Visiting.{all_stand}
 use Rattle.teco_law_expansion.proofs.Visiting.{counts_few, end_behind, next_is, next_sound, register_of_node}

@@ -1,27 +1,23 @@
 -- Places in texts.
-use Rattle.std.proofs.Common.{◌≡◌, ℕ, zero, suc, ◌+◌, ◌≤◌, List, [], ◌∷◌, length, drop, Bool, true, false}
-use Rattle.std.proofs.Common.{if◌then◌else◌, nat_le, Option, Some, None, Result, Ok, Err, refl, sym, ap, ◌∙◌, subst}
-use Rattle.std.proofs.Common.{slice_get, arith, length-drop}
-use Rattle.std.specs.List.{AllByRecursion}
-use Rattle.std.proofs.lemmas.Bool.{leb-true}
+use Rattle.teco_law_expansion.proofs.Prelude.{◌≡◌, ℕ, zero, suc, ◌+◌, ◌≤◌, List, [], ◌∷◌, length, drop, Bool, true}
+use Rattle.teco_law_expansion.proofs.Prelude.{false, if◌then◌else◌, nat_le, Option, Some, None, Result, Ok, Err, refl}
+use Rattle.teco_law_expansion.proofs.Prelude.{sym, ap, ◌∙◌, subst, slice_get, arith, length-drop, AllByRecursion}
+use Rattle.teco_law_expansion.proofs.Prelude.{leb-true, Code, Whole, reading_at, Kind, Element, blank_len, blank_end}
+use Rattle.teco_law_expansion.proofs.Prelude.{element_from, element_at, Library, macro, call_of, AreLinked, Stand, Node}
+use Rattle.teco_law_expansion.proofs.Prelude.{beginning, over, position_in_text, position_behind_call}
+use Rattle.teco_law_expansion.proofs.Prelude.{stand_behind_kind, stand_behind, Spot, spot_at, Position, pattern_parts}
+use Rattle.teco_law_expansion.proofs.Prelude.{as_fault, sound, read_at, ok, bound}
 use Rattle.teco_base.specs.Bytes.{is_blank}
-use Rattle.teco_base.specs.declared.code.Code.{Code}
-use Rattle.teco_model.specs.Ahead.{Whole, reading_of, reading_at}
+use Rattle.teco_model.specs.Ahead.{reading_of}
 use Rattle.teco_model.specs.Checked.{◌>>=◌}
 use Rattle.teco_model.specs.declared.kind.Flow.TheVariants as flow
-use Rattle.teco_model.specs.declared.kind.Kind.{Kind}
 use Rattle.teco_model.specs.declared.kind.Kind.TheVariants as kind
-use Rattle.teco_model.specs.Element.{Element, blank_len, is_blank_pair, blank_end, element_from, element_at}
+use Rattle.teco_model.specs.Element.{is_blank_pair}
 use Rattle.teco_model.proofs.Ahead.{Advances, reading_at-advances, blank_end-again}
-use Rattle.teco_model.specs.Macros.{Library, macro, call_of}
-use Rattle.teco_law_expansion.specs.Linked.{AreLinked, IsSound, NodesAreSound}
-use Rattle.teco_verifier.specs.expansion.Node.{Stand, Node, beginning, over}
-use Rattle.teco_verifier.specs.expansion.Order.{position_in_text, position_behind_call, stand_behind_kind, stand_behind}
+use Rattle.teco_law_expansion.specs.Linked.{IsSound, NodesAreSound}
 use Rattle.teco_law_expansion.specs.Places.{IsPlaceOf, NodesHavePlaces}
-use Rattle.teco_verifier.specs.expansion.Position.{Spot, spot_at, Position, place_at}
-use Rattle.teco_verifier.specs.expansion.Ways.{pattern_parts, as_fault, sound, read_at}
+use Rattle.teco_verifier.specs.expansion.Position.{place_at}
 use Rattle.teco_verifier.specs.expansion.Refusal as refusal
-use Rattle.teco_model.proofs.Chains.{ok, bound}
 use Rattle.teco_law_expansion.proofs.Iterations.{earlier, first_is, node_stands}
 use Rattle.teco_law_expansion.proofs.StepWays.{read_is}
 

@@ -1,22 +1,15 @@
 -- A run stands at nodes alone.
-use Rattle.std.proofs.Common.{◌≡◌, ℕ, zero, suc, List, [], ◌∷◌, ◌++◌, map, Option, Some, None, Ok, refl, sym, ap, ◌∙◌}
-use Rattle.std.proofs.Common.{subst, slice_get, arith}
-use Rattle.teco_model.specs.Element.{Element, blank_len, element_at}
-use Rattle.teco_model.specs.Run.{run, go_on}
-use Rattle.teco_model.specs.State.{Frame, State, Outcome, Next, start}
-use Rattle.teco_model.specs.declared.flow.Loop.{Loop}
-use Rattle.teco_model.specs.Step.{end_outcome, end_of_text, step}
-use Rattle.teco_model.specs.Macros.{Library, IsLoaded, call_of}
-use Rattle.teco_law_expansion.specs.Linked.{IsNext, Lead, IsLinked, AreLinked}
-use Rattle.teco_verifier.specs.expansion.Node.{Stand, Node, beginning, over, stand_of_node, stands, numbered}
-use Rattle.teco_verifier.specs.expansion.Node.{stand_at, base_of, base_of_way}
-use Rattle.teco_verifier.specs.expansion.Position.{Position, start_of, spot_of, position_of, position_of_frames}
+use Rattle.teco_law_expansion.proofs.Prelude.{◌≡◌, ℕ, zero, suc, List, [], ◌∷◌, ◌++◌, map, Option, Some, None, Ok, refl}
+use Rattle.teco_law_expansion.proofs.Prelude.{sym, ap, ◌∙◌, subst, slice_get, arith, Element, blank_len, element_at}
+use Rattle.teco_law_expansion.proofs.Prelude.{run, go_on, Frame, State, Outcome, Next, start, Loop, end_of_text, step}
+use Rattle.teco_law_expansion.proofs.Prelude.{Library, IsLoaded, call_of, IsNext, Lead, IsLinked, AreLinked, Stand}
+use Rattle.teco_law_expansion.proofs.Prelude.{Node, beginning, over, stand_of_node, stands, numbered, stand_at, base_of}
+use Rattle.teco_law_expansion.proofs.Prelude.{base_of_way, Position, start_of, spot_of, position_of, position_of_frames}
+use Rattle.teco_law_expansion.proofs.Prelude.{IsLeftAt, Moves, read_at, ways_at, ok}
+use Rattle.teco_model.specs.Step.{end_outcome}
 use Rattle.teco_law_expansion.specs.Run.{MovesFrom, Went, Stayed, StepsGoAlongNodes, StandsAt, WritesNoMacro, ComesTo}
 use Rattle.teco_law_expansion.specs.Run.{RunsComeToNodes, RunsEnd}
 use Rattle.teco_law_expansion.specs.Steps as steps
-use Rattle.teco_law_expansion.specs.Steps.{IsLeftAt, Moves}
-use Rattle.teco_verifier.specs.expansion.Ways.{read_at, ways_at}
-use Rattle.teco_model.proofs.Chains.{ok}
 use Rattle.teco_law_expansion.proofs.StayLoaded.{stays_loaded}
 use Rattle.teco_law_expansion.proofs.StepWays.{as_read, steps_go_ways}
 

@@ -1,46 +1,39 @@
 -- A step goes one of the ways from where it stands.
-use Rattle.std.proofs.Common.{◌≡◌, ℕ, ℤ, zero, suc, pos, negsuc, inl, inr, List, [], ◌∷◌, map, Bool, true, false}
-use Rattle.std.proofs.Common.{Option, Some, None, Result, Ok, Err, refl, sym, ap, ◌∙◌, subst, slice_get, arith}
-use Rattle.teco_base.specs.declared.code.Code.{Code}
+use Rattle.teco_law_expansion.proofs.Prelude.{◌≡◌, ℕ, ℤ, zero, suc, pos, inl, inr, List, [], ◌∷◌, map, Bool, true}
+use Rattle.teco_law_expansion.proofs.Prelude.{false, Option, Some, None, Result, Ok, Err, refl, sym, ap, ◌∙◌, subst}
+use Rattle.teco_law_expansion.proofs.Prelude.{slice_get, arith, Code, Loop, Kind, Call, Flow, Search, Arguments}
+use Rattle.teco_law_expansion.proofs.Prelude.{arguments_of, no_arguments, levels_after_answer, levels_after_taking}
+use Rattle.teco_law_expansion.proofs.Prelude.{Element, blank_end, element_at, Turn, turn_of, jump, Course, Into, Reply}
+use Rattle.teco_law_expansion.proofs.Prelude.{frames_in, settled, settle, has_colon, Kept, World, Frame, State, Next}
+use Rattle.teco_law_expansion.proofs.Prelude.{End, reply_of, outcome_of, end_of_text, outcome_at, step, ◌>>=◌, Library}
+use Rattle.teco_law_expansion.proofs.Prelude.{macro, IsLoaded, Position, position_of, position_of_frames, start_of}
+use Rattle.teco_law_expansion.proofs.Prelude.{spot_of, pattern_parts, as_fault, sound, past, read_at, search_ways}
+use Rattle.teco_law_expansion.proofs.Prelude.{call_ways, return_ways, element_ways, ways_at, flow_ways, IsLeftAt, Moves}
+use Rattle.teco_law_expansion.proofs.Prelude.{ok, bound}
+use Rattle.std.proofs.Common.{negsuc}
 use Rattle.teco_base.specs.declared.code.Code.TheVariants as code
 use Rattle.teco_model.specs.declared.arguments.Taken.{Taken}
-use Rattle.teco_model.specs.declared.flow.Loop.{Loop}
-use Rattle.teco_model.specs.declared.kind.Kind.{Kind}
 use Rattle.teco_model.specs.declared.kind.Kind.TheVariants as kind
-use Rattle.teco_model.specs.declared.kind.Call.{Call}
 use Rattle.teco_model.specs.declared.kind.File.{File}
 use Rattle.teco_model.specs.declared.kind.File.TheVariants as file
-use Rattle.teco_model.specs.declared.kind.Flow.{Flow}
 use Rattle.teco_model.specs.declared.kind.Page.{Page}
 use Rattle.teco_model.specs.declared.kind.Page.TheVariants as page
-use Rattle.teco_model.specs.declared.kind.Search.{Search}
 use Rattle.teco_model.specs.declared.kind.Search.TheVariants as search_kind
 use Rattle.std.specs.Prelude.{⊤}
-use Rattle.teco_model.specs.Arguments.{Arguments, arguments_of, no_arguments, levels_after_answer, levels_after_taking}
-use Rattle.teco_model.specs.Checked.{◌>>=◌ as ◌>>>=◌}
-use Rattle.teco_model.specs.Element.{Element, blank_end, element_at}
-use Rattle.teco_model.specs.Flow.{Turn, turn_of, jump}
-use Rattle.teco_model.specs.Going.{After, Course, Behind, Again, Along, Into, Reply, frames_at, frames_in, on_editor}
-use Rattle.teco_model.specs.Going.{settled, settle, with_kept}
+use Rattle.teco_model.specs.Going.{After, Behind, Again, Along, frames_at, on_editor}
+use Rattle.teco_model.specs.Going.{with_kept}
 use Rattle.teco_model.specs.Outside as outside
 use Rattle.teco_model.specs.Paging.{append, yank, pages, look_first, Progress, page_turned, page_written, one_page_of}
 use Rattle.teco_model.specs.Paging.{look_for, looked_through, Looked, Met, Turned, Through}
 use Rattle.teco_model.specs.Filing.{open_input, open_output, close_output, copy_all}
 use Rattle.teco_model.specs.Search.{Finding, Found, Missed, search}
 use Rattle.teco_model.specs.Searching as searching
-use Rattle.teco_model.specs.Searching.{has_colon, kept_by_miss}
-use Rattle.teco_model.specs.State.{Kept, World, Frame, State, Next, End}
-use Rattle.teco_model.specs.Step.{flow_reply, call_reply, reply_of, outcome_of, end_of_text, outcome_at, step}
+use Rattle.teco_model.specs.Searching.{kept_by_miss}
+use Rattle.teco_model.specs.Step.{flow_reply, call_reply}
 use Rattle.teco_model.proofs.Ahead.{element_at-again}
-use Rattle.teco_verifier.specs.expansion.Refusal.{◌>>=◌}
-use Rattle.teco_model.specs.Macros.{Library, macro, IsLoaded}
-use Rattle.teco_verifier.specs.expansion.Position.{Position, position_of, position_of_frames, start_of, spot_of}
-use Rattle.teco_verifier.specs.expansion.Ways.{pattern_parts, as_fault, sound, past, read_at, search_ways, call_ways}
-use Rattle.teco_verifier.specs.expansion.Ways.{return_ways, element_ways, ways_at, flow_ways}
 use Rattle.teco_law_expansion.specs.Was.{answer_where, looking_on, levels_looking, levels_searching, Finds, Misses}
 use Rattle.teco_law_expansion.specs.Was.{Answers, GoesOnFound, GoesOnMissed, LeavesByMiss, ElementWas, StepWas}
-use Rattle.teco_law_expansion.specs.Steps.{is_long, IsLeftAt, Stays, Moves, Went, Stayed, StepsGoWays}
-use Rattle.teco_model.proofs.Chains.{ok, bound}
+use Rattle.teco_law_expansion.specs.Steps.{is_long, Stays, Went, Stayed, StepsGoWays}
 use Rattle.teco_law_expansion.proofs.Turns.{leaves_by_kind, turn_goes, jumped as jump_made}
 use Rattle.teco_law_expansion.proofs.FlowWays.{position_in, jump_leads, first_way, second_way, only, way_leads}
 
@@ -55,12 +48,17 @@ read_is (Ok (Some e)) read h = let b = bound (as_fault (pattern_parts e.kind e.t
     ap Ok (ok (Some e) read b.gives)
 read_is (Err c) read h = absurd (cc)
 
-pub as_read : (s : State) (read : Option Element) → read_at (position_of s) ≡ Ok read → step s ≡ outcome_at s (Ok read)
-unfolding step read_at
-as_read s read h =
+pub as_element : (s : State) (read : Option Element) → read_at (position_of s) ≡ Ok read
+    → element_at s.frames.running.text s.frames.running.place ≡ Ok read
+unfolding read_at
+as_element s read h =
     let frame = s.frames.running in
-    ap (outcome_at s) (sym (element_at-again frame.text frame.place)
-    ∙ read_is (element_at frame.text (blank_end frame.text frame.place)) read h)
+    sym (element_at-again frame.text frame.place)
+    ∙ read_is (element_at frame.text (blank_end frame.text frame.place)) read h
+
+pub as_read : (s : State) (read : Option Element) → read_at (position_of s) ≡ Ok read → step s ≡ outcome_at s (Ok read)
+unfolding step
+as_read s read h = ap (outcome_at s) (as_element s read h)
 
 -- no work is left where the element is not long
 nothing_left : (k : Kind) (e : Element) (left : Option ℕ) → e.kind ≡ k → is_long k ≡ false → IsLeftAt (Some e) left
@@ -121,7 +119,7 @@ moved (Ok reply) e ways s t l was w h = moved_by reply reply.course e ways s t l
 
 -- a chain whose last part goes on
 goes_then : {X : Type 0} (e : Element) (r : Result X Code) (f : X → Result Reply Code) → ((x : X) → GoesOn e (f x))
-    → GoesOn e (r >>>= f)
+    → GoesOn e (r >>= f)
 goes_then e (Ok x) f k = k x
 goes_then e (Err c) f k = tt
 
@@ -173,7 +171,7 @@ page_goes page.Next e s g l = paged_from (kind.Page page.Next) page_turned s.lef
 page_goes page.Write e s g l = paged_from (kind.Page page.Write) page_written s.left e s.arguments s.world g refl
 
 opened : (e : Element) (left : Option ℕ) (arguments : Arguments) (world : World) (r : Result (Option World) Code)
-    → left ≡ None → GoesOn e (r >>>= (λ found. Ok (outside.opened left arguments world found)))
+    → left ≡ None → GoesOn e (r >>= (λ found. Ok (outside.opened left arguments world found)))
 opened e left arguments world (Err c) l = tt
 opened e left arguments world (Ok None) l = tt
 opened e left arguments world (Ok (Some new)) l = l
@@ -315,7 +313,7 @@ module _ (x : Search) (e : Element) (ways : List Position) (s t : State) (g : e.
       → ((kept : Kept) → r ≡ Ok (Missed kept) → Misses x e s (with_kept (kept_by_miss e.colons kept) s.world))
       → search_ways (has_colon e s.frames.running) (map start_of s.frames.running.loops) e (position_of s) ≡ Ok ways
       → settle e s
-      (r >>>= (λ finding. Ok (searching.found e miss s.left (levels_after_taking s.arguments) s.world finding)))
+      (r >>= (λ finding. Ok (searching.found e miss s.left (levels_after_taking s.arguments) s.world finding)))
       ≡ Next t → Moves (Some e) ways s t
   searched (Err c) l a finds misses w h = absurd (cc)
   searched (Ok (Found kept)) l a finds misses w h =
@@ -327,13 +325,13 @@ module _ (x : Search) (e : Element) (ways : List Position) (s t : State) (g : e.
 
   in_buffer :
       (r : Result Taken Code) → s.left ≡ None → levels_after_taking s.arguments ≡ levels_searching x s
-      → ((kept : Kept) → (r >>>= (λ taken. search x e taken s.world.kept)) ≡ Ok (Found kept)
+      → ((kept : Kept) → (r >>= (λ taken. search x e taken s.world.kept)) ≡ Ok (Found kept)
       → Finds x e s (with_kept kept s.world))
-      → ((kept : Kept) → (r >>>= (λ taken. search x e taken s.world.kept)) ≡ Ok (Missed kept)
+      → ((kept : Kept) → (r >>= (λ taken. search x e taken s.world.kept)) ≡ Ok (Missed kept)
       → Misses x e s (with_kept (kept_by_miss e.colons kept) s.world))
       → search_ways (has_colon e s.frames.running) (map start_of s.frames.running.loops) e (position_of s) ≡ Ok ways
       → settle e s
-      (r >>>= (λ taken. search x e taken s.world.kept >>>=
+      (r >>= (λ taken. search x e taken s.world.kept >>=
       (λ finding. Ok (searching.found e miss s.left (levels_after_taking s.arguments) s.world finding)))) ≡ Next t
       → Moves (Some e) ways s t
   in_buffer (Err c) l a finds misses w h = absurd (cc)
@@ -357,11 +355,11 @@ module _ (x : Search) (e : Element) (ways : List Position) (s t : State) (g : e.
 
   looked_first :
       (r : Result Taken Code) → is_long (kind.Search x) ≡ true → levels_after_taking s.arguments ≡ levels_searching x s
-      → ((world : World) → (r >>>= (λ taken. look_first x e taken s.world)) ≡ Ok (Met world) → Finds x e s world)
-      → ((last : World) → (r >>>= (λ taken. look_first x e taken s.world)) ≡ Ok (Through last)
+      → ((world : World) → (r >>= (λ taken. look_first x e taken s.world)) ≡ Ok (Met world) → Finds x e s world)
+      → ((last : World) → (r >>= (λ taken. look_first x e taken s.world)) ≡ Ok (Through last)
       → Misses x e s (looked_through last))
       → search_ways (has_colon e s.frames.running) (map start_of s.frames.running.loops) e (position_of s) ≡ Ok ways
-      → settle e s (r >>>= (λ taken. searching.looking miss (levels_after_taking s.arguments)
+      → settle e s (r >>= (λ taken. searching.looking miss (levels_after_taking s.arguments)
       (look_first x e taken s.world))) ≡ Next t → Moves (Some e) ways s t
   looked_first (Err c) long a finds misses w h = absurd (cc)
   looked_first (Ok taken) long a finds misses w h =

@@ -1,12 +1,12 @@
 -- What is done with registers, and the texts of a library.
-use Rattle.std.proofs.Common.{◌≡◌, ℕ, zero, suc, ◌≤◌, List, [], ◌∷◌, map, length, true, false, Option, Some, None}
-use Rattle.std.proofs.Common.{refl, sym, ap, ◌∙◌, slice_set, slice_index_or, arith}
+use Rattle.teco_law_expansion.proofs.Prelude.{◌≡◌, ℕ, zero, suc, ◌≤◌, List, [], ◌∷◌, map, length, true, false, Option}
+use Rattle.teco_law_expansion.proofs.Prelude.{Some, None, refl, sym, ap, ◌∙◌, arith, pair_of, Kept, Library, macro}
+use Rattle.teco_law_expansion.proofs.Prelude.{is_macro, IsLoaded, Keeps}
+use Rattle.std.proofs.Common.{slice_set, slice_index_or}
 use Rattle.std.specs.Option.{is_some}
 use Rattle.std.specs.Prelude.{Bool, ◌≢◌, zip, ℤ}
-use Rattle.teco_model.specs.Registers.{Pair, empty_pair, pair_of, with_pair, with_number, with_own_text}
-use Rattle.teco_model.specs.State.{Kept}
-use Rattle.teco_model.specs.Macros.{Library, macro, is_macro, IsLoaded}
-use Rattle.teco_law_expansion.specs.Loaded.{Keeps, LoadingLoads}
+use Rattle.teco_model.specs.Registers.{Pair, empty_pair, with_pair, with_number, with_own_text}
+use Rattle.teco_law_expansion.specs.Loaded.{LoadingLoads}
 
 -- where one pair is set, the others stay
 pair_after : (pairs : List Pair) (i j : ℕ) (p d : Pair) → (i ≡ j → ⊥)

@@ -1,28 +1,22 @@
 -- What a flow element did, from what it left.
-use Rattle.std.proofs.Common.{◌≡◌, ℕ, ℤ, zero, suc, List, [], ◌∷◌, drop, Bool, true, false, Option, Some, None, Ok}
-use Rattle.std.proofs.Common.{refl, sym, ap, ◌∙◌}
-use Rattle.teco_base.specs.declared.code.Code.{Code}
+use Rattle.teco_law_expansion.proofs.Prelude.{◌≡◌, ℕ, ℤ, zero, suc, List, [], ◌∷◌, drop, Bool, true, false, Option}
+use Rattle.teco_law_expansion.proofs.Prelude.{Some, None, Ok, refl, sym, ap, ◌∙◌, Code, Loop, Kind, Flow, Goal, Whole}
+use Rattle.teco_law_expansion.proofs.Prelude.{readings, Arguments, no_arguments, arguments_of, levels_after_taking}
+use Rattle.teco_law_expansion.proofs.Prelude.{Element, Turn, turn_of, jump, skip_of, Frame, Jumps, Went, ok, bound}
+use Rattle.teco_law_expansion.proofs.Prelude.{some_of}
 use Rattle.teco_base.specs.declared.code.Code.TheVariants as code
-use Rattle.teco_model.specs.declared.flow.Loop.{Loop}
-use Rattle.teco_model.specs.declared.kind.Kind.{Kind}
 use Rattle.teco_model.specs.declared.kind.Kind.TheVariants as kind
-use Rattle.teco_model.specs.declared.kind.Flow.{Flow}
 use Rattle.teco_model.specs.declared.kind.Flow.TheVariants as flow
-use Rattle.teco_model.specs.declared.kind.Goal.{Goal}
 use Rattle.teco_model.specs.declared.kind.Goal.TheVariants as goal
 use Rattle.teco_model.specs.declared.kind.Test.{Test}
-use Rattle.teco_model.specs.Ahead.{Reading, Whole, readings}
-use Rattle.teco_model.specs.Arguments.{Arguments, no_arguments, arguments_of, levels_after_taking}
+use Rattle.teco_model.specs.Ahead.{Reading}
 use Rattle.teco_model.specs.Condition.{holds}
 use Rattle.teco_model.specs.Effect.{needed_value}
-use Rattle.teco_model.specs.Element.{Element}
-use Rattle.teco_model.specs.Flow.{Turn, turn_of, turn_to, jump, iteration, counted_iteration, later_turns, turn_end}
+use Rattle.teco_model.specs.Flow.{turn_to, iteration, counted_iteration, later_turns, turn_end}
 use Rattle.teco_model.specs.Flow.{leaves, leaving, leaving_where, conditional, to_turn_end, going_ahead}
 use Rattle.teco_model.specs.Flow.{without_value}
-use Rattle.teco_model.specs.Skip.{route_of, skip_on, skip_of}
-use Rattle.teco_model.specs.State.{Frame}
-use Rattle.teco_law_expansion.specs.Turns.{Took, Jumps, Went}
-use Rattle.teco_model.proofs.Chains.{ok, bound, some_of}
+use Rattle.teco_model.specs.Skip.{route_of, skip_on}
+use Rattle.teco_law_expansion.specs.Turns.{Took}
 
 -- some way of an element was gone
 pub record Goes (f : Flow) (e : Element) (a : Arguments) (frame : Frame) (turn : Turn) : Type 0 where

@@ -1,37 +1,31 @@
 -- The visits of an expansion: each is sound, and the numbers that are written of it lead to where it goes on.
-use Rattle.std.proofs.Common.{◌≡◌, ℕ, zero, suc, ◌+◌, ◌-◌, ◌<◌, ◌≤◌, length, rules, List, [], ◌∷◌, ◌++◌, map, drop}
-use Rattle.std.proofs.Common.{Bool, true, false, not, ◌&&◌, ◌==◌, bytes_eq, Option, Some, None, Result, Ok, Err, refl}
-use Rattle.std.proofs.Common.{sym, ap, ◌∙◌, subst, slice_get, get_or, position, eqb-true, arith}
-use Rattle.std.specs.Option.{option_map, ok_or}
-use Rattle.std.proofs.lemmas.Bool.{leb-true}
+use Rattle.teco_law_expansion.proofs.Prelude.{◌≡◌, ℕ, zero, suc, ◌+◌, ◌-◌, ◌<◌, ◌≤◌, length, rules, List, [], ◌∷◌, ◌++◌}
+use Rattle.teco_law_expansion.proofs.Prelude.{map, drop, Bool, true, false, ◌==◌, Option, Some, None, Result, Ok, Err}
+use Rattle.teco_law_expansion.proofs.Prelude.{refl, sym, ap, ◌∙◌, subst, slice_get, get_or, eqb-true, arith, ok_or}
+use Rattle.teco_law_expansion.proofs.Prelude.{leb-true, register_of, register_name, Call, Kind, Element, blank_len}
+use Rattle.teco_law_expansion.proofs.Prelude.{element_from, element_at, letters, Reason, Unpaired, Library, macro}
+use Rattle.teco_law_expansion.proofs.Prelude.{call_of, Spot, Position, spot_at, starts_in, depth, past, read_at}
+use Rattle.teco_law_expansion.proofs.Prelude.{end_ways, call_ways, flow_ways, return_ways, element_ways, ways_at, Stand}
+use Rattle.teco_law_expansion.proofs.Prelude.{Node, beginning, over, stand_of_node, numbered, stand_at, base_of}
+use Rattle.teco_law_expansion.proofs.Prelude.{position_in_text, position_behind_call, stand_behind_kind, stand_behind}
+use Rattle.teco_law_expansion.proofs.Prelude.{Visit, next_visit, register_at, Walk, stand_of_visit, all_stands}
+use Rattle.teco_law_expansion.proofs.Prelude.{way_numbers, node_at, nodes_at, MOST_ELEMENTS, MOST_OPEN, IsNext, Lead}
+use Rattle.teco_law_expansion.proofs.Prelude.{IsLinked, ok, bound, some_of}
+use Rattle.std.proofs.Common.{not, ◌&&◌, bytes_eq}
+use Rattle.std.proofs.Common.{position}
+use Rattle.std.specs.Option.{option_map}
 use Rattle.std.proofs.lemmas.Slice.Eq.{bytes_eq-Decides}
 use Rattle.std.proofs.lemmas.List.Quantifiers.{position-Some}
 use Rattle.std.proofs.lemmas.Option.{slice_get-get_or}
-use Rattle.teco_base.specs.Register.{register_of, register_name}
-use Rattle.teco_model.specs.declared.kind.Call.{Call}
 use Rattle.teco_model.specs.declared.kind.Flow.TheVariants as flow
-use Rattle.teco_model.specs.declared.kind.Kind.{Kind}
 use Rattle.teco_model.specs.declared.kind.Kind.TheVariants as kind
-use Rattle.teco_model.specs.Element.{Element, blank_len, element_from, element_at}
-use Rattle.teco_model.specs.Letters.{letters}
-use Rattle.teco_verifier.specs.expansion.Refusal.{Reason, Unpaired, Recursion, TooLarge, unless}
-use Rattle.teco_model.specs.Macros.{Library, macro, call_of}
+use Rattle.teco_verifier.specs.expansion.Refusal.{Recursion, TooLarge, unless}
 use Rattle.teco_verifier.specs.expansion.Overlap.{overlaps}
-use Rattle.teco_verifier.specs.expansion.Position.{Spot, Position, spot_at, starts_in, depth}
-use Rattle.teco_verifier.specs.expansion.Ways.{past, read_at, end_ways, call_ways, flow_ways, return_ways}
-use Rattle.teco_verifier.specs.expansion.Ways.{element_ways, ways_at}
-use Rattle.teco_verifier.specs.expansion.Node.{Stand, Node, beginning, over, stand_of_node, numbered}
-use Rattle.teco_verifier.specs.expansion.Node.{stand_at, base_of}
-use Rattle.teco_verifier.specs.expansion.Order.{position_in_text, position_behind_call, stand_behind_kind, stand_behind}
-use Rattle.teco_verifier.specs.expansion.Expansion.{Visit, open_behind_kind, open_behind, visit_behind}
-use Rattle.teco_verifier.specs.expansion.Expansion.{is_recursion, is_within, next_visit, register_at, refusal_at}
-use Rattle.teco_verifier.specs.expansion.Expansion.{Walk}
-use Rattle.teco_verifier.specs.expansion.Expansion.{stand_of_visit, all_stands, same_spot, same_spots, same_position}
-use Rattle.teco_verifier.specs.expansion.Expansion.{same_stand, number_behind, refusal_of_way, way_numbers}
-use Rattle.teco_verifier.specs.expansion.Expansion.{refused_at, node_at, nodes_at}
-use Rattle.teco_verifier.specs.expansion.Expansion.{MOST_ELEMENTS, MOST_OPEN}
-use Rattle.teco_law_expansion.specs.Linked.{IsNext, Lead, IsLinked}
-use Rattle.teco_model.proofs.Chains.{ok, bound, some_of}
+use Rattle.teco_verifier.specs.expansion.Expansion.{open_behind_kind, open_behind, visit_behind}
+use Rattle.teco_verifier.specs.expansion.Expansion.{is_recursion, is_within, refusal_at}
+use Rattle.teco_verifier.specs.expansion.Expansion.{same_spot, same_spots, same_position}
+use Rattle.teco_verifier.specs.expansion.Expansion.{same_stand, number_behind, refusal_of_way}
+use Rattle.teco_verifier.specs.expansion.Expansion.{refused_at}
 
 and_left : (a b : Bool) → (a && b) ≡ true → a ≡ true
 and_left true b h = refl

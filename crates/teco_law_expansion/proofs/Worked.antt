@@ -1,10 +1,8 @@
-use Rattle.std.proofs.Common.{rules}
-use Rattle.teco_model.specs.Ahead.{reading_at, first_readings, readings}
-use Rattle.teco_model.specs.Element.{blank_len, element_from, element_at}
-use Rattle.teco_model.specs.Letters.{letters}
+use Rattle.teco_law_expansion.proofs.Prelude.{rules, reading_at, readings, blank_len, element_from, element_at, letters}
+use Rattle.teco_law_expansion.proofs.Prelude.{read_at, flow_ways, ways_at, next_visit, walk, way_numbers, node_at}
+use Rattle.teco_law_expansion.proofs.Prelude.{nodes_at, expansion}
+use Rattle.teco_model.specs.Ahead.{first_readings}
 use Rattle.teco_model.specs.Pattern.{part_at, parts_within, parts}
-use Rattle.teco_verifier.specs.expansion.Ways.{read_at, flow_ways, ways_at}
-use Rattle.teco_verifier.specs.expansion.Expansion.{next_visit, walk, way_numbers, node_at, nodes_at, expansion}
 use Rattle.teco_law_expansion.specs.Rows.{WorkedExpansions}
 
 pub worked_expansions : WorkedExpansions

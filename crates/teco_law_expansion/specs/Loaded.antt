@@ -1,21 +1,14 @@
 -- What a step leaves of the registers and the search mode; and that a library stays loaded.
-use Rattle.std.specs.Prelude.{◌≡◌, ◌≢◌, ℕ, Bool, false, true, Option, Some, None, ◌≤◌, length, Ok}
+use Rattle.std.specs.Prelude.{◌≡◌, ◌≢◌, ℕ, Bool, false, Option, Some, None, ◌≤◌, length, Ok}
 use Rattle.teco_model.specs.Element.{Element}
+pub use Rattle.teco_model.specs.Names.{sets_mode}
 use Rattle.teco_model.specs.Registers.{pair_of, with_texts}
 use Rattle.teco_model.specs.State.{Kept, State, Next}
 use Rattle.teco_model.specs.Step.{step}
 use Rattle.teco_model.specs.Macros.{Library, IsLoaded}
-use Rattle.teco_model.specs.declared.kind.Kind.{Kind}
-use Rattle.teco_model.specs.declared.kind.Kind.TheVariants as kind
-use Rattle.teco_model.specs.declared.kind.Query.TheVariants as query
 use Rattle.teco_verifier.specs.expansion.Names.{named_by, writes_macro, written_by}
 use Rattle.teco_verifier.specs.expansion.Position.{position_of}
 use Rattle.teco_verifier.specs.expansion.Ways.{read_at}
-
--- ^X may set the search mode
-abbrev pub sets_mode : Kind → Bool
-sets_mode (kind.Query query.Mode) = true
-sets_mode k = false
 
 -- No register but the one that is named has another number or text, and no text but that of the one that is written;
 -- the search mode stays, unless it is set.

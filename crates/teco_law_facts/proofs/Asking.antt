@@ -1,42 +1,26 @@
 -- Codes of characters, and what Q, ^X and \ give.
-use Rattle.std.proofs.Common.{ℕ, zero, suc, ◌+◌, ◌≤◌, arith, w32, FitsSigned, refl, ℤ, pos, negsuc, List, [], ◌∷◌}
-use Rattle.std.proofs.Common.{take, drop, length, length-take, length-drop, Option, Some, None, Bool, true, false}
-use Rattle.std.proofs.Common.{cond, ◌==◌, ◌||◌, get_or, ◌<◌, IfSome, option_map}
-use Rattle.std.specs.List.{prefix_len}
-use Rattle.std.proofs.lemmas.Int.{ints, SFits-int_wrap}
+use Rattle.teco_law_facts.proofs.Prelude.{ℕ, ◌+◌, ◌≤◌, arith, w32, FitsSigned, refl, ℤ, pos, negsuc, List, drop, length}
+use Rattle.teco_law_facts.proofs.Prelude.{length-drop, Option, Some, None, get_or, ◌<◌, IfSome, option_map, ints}
+use Rattle.teco_law_facts.proofs.Prelude.{number_at, empty_pair, Kept, Query, number, all_at, empty_whole, Run, IsWhole}
+use Rattle.teco_law_facts.proofs.Prelude.{IsWholePair, Holds, fore_of, back_of, Facts, number_of, IsWithin, IsValue}
+use Rattle.teco_law_facts.proofs.Prelude.{value_in, any_number, Interval, unwrap_or}
 use Rattle.std.proofs.lemmas.Fmt.{length_signed_le, decimal_nonempty}
-use Rattle.teco_base.specs.Bytes.{is_digit}
 use Rattle.teco_base.specs.NumberText.{decimal}
 use Rattle.teco_model.specs.Character.{code_at}
-use Rattle.teco_model.specs.Conversion.{sign_len, is_minus, signed_value, reading, number_at}
 use Rattle.teco_model.specs.Query as model
-use Rattle.teco_model.specs.Registers.{empty_pair}
-use Rattle.teco_model.specs.State.{Kept}
 use Rattle.teco_model.specs.Storage.{text_in, number_in}
-use Rattle.teco_model.specs.declared.kind.Query.{Query}
 use Rattle.teco_model.specs.declared.kind.Query.TheVariants.{Number, Mode, Conversion}
-use Rattle.teco_poly.specs.Polynomial.{number}
-use Rattle.teco_law_facts.proofs.Each.{all_at}
+use Rattle.teco_model.proofs.Bytes.{byte_at, number_short}
 use Rattle.teco_law_facts.proofs.Insertion.{inserted_foretold}
-use Rattle.teco_law_facts.proofs.Near.{empty_whole}
 use Rattle.teco_law_facts.proofs.Numbers.{value_in_in, any_within}
 use Rattle.teco_law_facts.proofs.Registers.{number_at as known_number_at, untouched}
 use Rattle.teco_law_facts.proofs.Saved.{saved_at}
 use Rattle.teco_law_facts.proofs.Shapes.{Shifts, Foretells, value-number, done_with}
-use Rattle.teco_law_facts.specs.Describes.{Run, IsWhole, IsWholePair, AreBytes, Holds, fore_of, back_of}
-use Rattle.teco_verifier.specs.facts.Facts.{Facts, number_of}
+use Rattle.teco_law_facts.specs.Describes.{AreBytes}
 use Rattle.teco_verifier.specs.facts.Queries as row
-use Rattle.teco_verifier.specs.facts.Values.{IsWithin, IsValue, value_in, any_number}
-use Rattle.teco_verifier.specs.declared.values.Interval.{Interval}
-use Rattle.std.specs.Prelude.{slice_get, unwrap_or}
 use Rattle.teco_law_facts.proofs.Motion.{pointer_at}
 
 -- ---- characters
-byte_at : (text : List ℕ) → AreBytes text → (n : ℕ) → IfSome (slice_get text n) (λ c. c < 256)
-byte_at [] h n = tt
-byte_at (c ∷ text) h zero = h.0
-byte_at (c ∷ text) h (suc n) = byte_at text h.1 n
-
 byte_within : (o : Option ℕ) → IfSome o (λ c. c < 256)
     → IsWithin row.character (unwrap_or (option_map pos o) (negsuc 0))
 byte_within None h = record { low = omega (arith, ints); high = omega (arith, ints) }
@@ -64,33 +48,6 @@ decimal_length (pos n) f = (
   length_signed_le 10 (pos n) (omega (arith, ints)) (omega (arith, ints)),
 )
 decimal_length (negsuc n) f = (omega arith, length_signed_le 10 (negsuc n) (omega (arith, ints)) (omega (arith, ints)))
-
-sign_short : (text : List ℕ) → sign_len text ≤ length text
-sign_short [] = omega arith
-sign_short (b ∷ text) = one_or (b == 43 || b == 45) where
-  one_or : (x : Bool) → cond x 1 0 ≤ suc (length text)
-  one_or true = omega arith
-  one_or false = omega arith
-
-read_short : (minus : Bool) (sign : ℕ) (digits : List ℕ) → (reading minus sign digits).len ≤ sign + length digits
-read_short minus sign [] = omega arith
-read_short minus sign (d ∷ digits) = omega arith
-
-pub number_short : (text : List ℕ) → (number_at text).len ≤ length text
-number_short text = search (read_short, length-take, length-drop, sign_short, arith)
-
--- what is read is a 32-bit number
-signed_fits : (minus : Bool) (digits : List ℕ) → FitsSigned w32 (signed_value minus digits)
-signed_fits true digits = SFits-int_wrap w32 _
-signed_fits false digits = SFits-int_wrap w32 _
-
-read_fits : (minus : Bool) (sign : ℕ) (digits : List ℕ) → FitsSigned w32 (reading minus sign digits).number
-read_fits minus sign [] = omega (arith, ints)
-read_fits minus sign (d ∷ digits) = signed_fits minus (d ∷ digits)
-
-pub number_fits : (text : List ℕ) → FitsSigned w32 (number_at text).number
-number_fits text = read_fits (is_minus text) (sign_len text)
-    (take (prefix_len is_digit (drop (sign_len text) text)) (drop (sign_len text) text))
 
 -- ---- queries
 module _ (run : Run) (facts : Facts) (unread : ℕ) (kept : Kept) (whole : IsWhole kept)

@@ -1,38 +1,29 @@
 -- The entry, the start of a body, and its turns.
-use Rattle.std.proofs.Common.{◌≡◌, ℕ, zero, suc, ◌+◌, ◌-◌, ◌*◌, ◌≤◌, arith, refl, sym, subst, ℤ, pos, List, [], ◌∷◌}
-use Rattle.std.proofs.Common.{drop, map, length, Bool, true, false, cond, Option, Some, None, ok_or, get_or}
-use Rattle.std.proofs.Common.{replicate, int_le}
-use Rattle.std.specs.Prelude.{IsTrue}
-use Rattle.std.specs.List.{AllByRecursion}
+use Rattle.teco_law_facts.proofs.Prelude.{◌≡◌, ℕ, zero, suc, ◌+◌, ◌-◌, ◌≤◌, arith, refl, sym, subst, ℤ, pos, List, []}
+use Rattle.teco_law_facts.proofs.Prelude.{◌∷◌, drop, map, length, Bool, true, false, cond, Option, Some, None, ok_or}
+use Rattle.teco_law_facts.proofs.Prelude.{get_or, replicate, int_le, IsTrue, AllByRecursion, ints, REGISTERS, Pair}
+use Rattle.teco_law_facts.proofs.Prelude.{empty_pair, Kept, values_compare, value_of_sum, values_of_constants}
+use Rattle.teco_law_facts.proofs.Prelude.{Polynomial, value, add, all_at, empty_whole, ◌>>=◌, covers_interval}
+use Rattle.teco_law_facts.proofs.Prelude.{covers_length, IsWhole, IsWholePair, AreEach, HasFallen, Holds, fore_of}
+use Rattle.teco_law_facts.proofs.Prelude.{back_of, Position, Facts, sum_of, entering, IsWithin, any_number, Interval}
+use Rattle.teco_law_facts.proofs.Prelude.{option_map_or}
+use Rattle.std.proofs.Common.{◌*◌}
 use Rattle.std.proofs.Math.Nat.{mul-le-mul}
-use Rattle.std.proofs.lemmas.Int.{ints}
-use Rattle.teco_base.specs.declared.TheConstants.{REGISTERS}
-use Rattle.teco_model.specs.Registers.{Pair, empty_pair}
-use Rattle.teco_model.specs.State.{Kept}
-use Rattle.teco_poly.proofs.Lawful.{values_compare, value_of_difference, value_of_product, value_of_one_less}
-use Rattle.teco_poly.proofs.Lawful.{value_of_sum, values_of_constants}
-use Rattle.teco_poly.specs.Polynomial.{Polynomial, value, variable, sub, mul, add, one_less}
+use Rattle.teco_poly.proofs.Lawful.{value_of_difference, value_of_product, value_of_one_less}
+use Rattle.teco_poly.specs.Polynomial.{variable, sub, mul, one_less}
 use Rattle.teco_law_facts.proofs.Asking.{interval_value}
 use Rattle.teco_law_facts.proofs.Numbers.{any_within}
 use Rattle.teco_law_facts.proofs.Covering.{and_both, each_covered, interval_covered, length_covered, pushed_covered}
 use Rattle.teco_law_facts.proofs.Covering.{saved_covered, le_holds}
-use Rattle.teco_law_facts.proofs.Each.{all_at, each_length}
-use Rattle.teco_law_facts.proofs.Near.{empty_whole}
+use Rattle.teco_law_facts.proofs.Each.{each_length}
 use Rattle.teco_law_facts.proofs.Saved.{none_are, saved_after_are, unsaved_are}
 use Rattle.teco_model.specs.Macros.{ArgumentRange, IsInRange}
-use Rattle.teco_verifier.specs.facts.Attempt.{◌>>=◌}
 use Rattle.teco_verifier.specs.facts.Bodies.{Choice, unknown_where, keeps, held_last, is_within, fall_if}
 use Rattle.teco_verifier.specs.facts.Bodies.{has_own_fall, own_fall}
-use Rattle.teco_verifier.specs.facts.Covers.{covers_interval, covers_length}
-use Rattle.teco_law_facts.specs.Describes.{IsWhole, IsWholePair, AreEach, HasFallen, Holds, fore_of, back_of}
-use Rattle.teco_verifier.specs.facts.Facts.{Position, Facts, entry_facts, sum_of}
-use Rattle.teco_verifier.specs.facts.Flows.{entering}
+use Rattle.teco_verifier.specs.facts.Facts.{entry_facts}
 use Rattle.teco_law_facts.specs.Laws.{BodyStartsAreSound, IsCarried, ReturnsAreSound, TurnsFall, HasRoom, RoomIsSound}
 use Rattle.teco_law_facts.specs.Laws.{IsEntry, EntryIsSound}
-use Rattle.teco_verifier.specs.facts.Values.{IsWithin, any_number}
 use Rattle.teco_verifier.specs.declared.refusal.Refusal.TheVariants as refusal
-use Rattle.teco_verifier.specs.declared.values.Interval.{Interval}
-use Rattle.std.specs.Option.{option_map_or}
 
 -- ---- numbers that are written are unknown
 unknown_one : (b : Bool) (i : Interval) (pair : Pair) → IsWholePair pair → IsWithin i pair.number

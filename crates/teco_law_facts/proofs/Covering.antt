@@ -1,32 +1,20 @@
 -- What covers facts that describe a state describes it.
-use Rattle.std.proofs.Common.{◌≡◌, ℕ, ◌≤◌, arith, ◌∙◌, refl, ℤ, pos, ◌≤ℤ◌, int_le, nat_le, List, [], ◌∷◌, Bool, true}
-use Rattle.std.proofs.Common.{false, ◌&&◌, Option, Some, None, cond, length, ◌+◌}
-use Rattle.std.specs.Prelude.{IsTrue}
-use Rattle.std.proofs.lemmas.Int.{ints}
-use Rattle.std.proofs.lemmas.Bool.Decides.{nat_tests}
-use Rattle.teco_model.specs.Arguments.{Arguments}
-use Rattle.teco_model.specs.Registers.{Pair}
-use Rattle.teco_model.specs.declared.arguments.Level.{Level}
-use Rattle.teco_model.specs.declared.arguments.Operator.{Operator}
-use Rattle.teco_model.specs.declared.arguments.Operator.TheVariants.{Plus, Minus, Times, Over, And, Or}
-use Rattle.teco_poly.proofs.Lawful.{values_compare}
-use Rattle.teco_poly.specs.Polynomial.{Polynomial, value}
+use Rattle.teco_law_facts.proofs.Prelude.{◌≡◌, ℕ, ◌≤◌, arith, ◌∙◌, refl, ℤ, pos, ◌≤ℤ◌, int_le, nat_le, List, [], ◌∷◌}
+use Rattle.teco_law_facts.proofs.Prelude.{Bool, true, false, ◌&&◌, Option, Some, None, cond, length, ◌+◌, IsTrue, ints}
+use Rattle.teco_law_facts.proofs.Prelude.{nat_tests, Arguments, Pair, Level, Operator, Plus, Minus, Times, Over, And}
+use Rattle.teco_law_facts.proofs.Prelude.{Or, values_compare, Polynomial, value, KnownLevel, KnownArguments}
+use Rattle.teco_law_facts.proofs.Prelude.{covers_interval, covers_saved, covers_length, Run, IsAt, AreSaved, Answers}
+use Rattle.teco_law_facts.proofs.Prelude.{ArePushed, IsLevel, ArePending, IsOptional, AreEach, HasFallen, fore_of}
+use Rattle.teco_law_facts.proofs.Prelude.{back_of, Position, Answer, Pushed, IsIn, IsValue, IsWithin, interval_of}
+use Rattle.teco_law_facts.proofs.Prelude.{Distances, Interval, Value}
 use Rattle.teco_law_facts.proofs.Numbers.{AreDistances, interval_of_in}
 use Rattle.teco_law_facts.proofs.Near.{distances}
 use Rattle.teco_law_facts.proofs.Saved.{IsSaved, place_covered}
-use Rattle.teco_verifier.specs.facts.Arguments.{KnownLevel, KnownArguments}
-use Rattle.teco_verifier.specs.facts.Covers.{each_covers, both_cover, covers_interval, is_interval, is_same}
+use Rattle.teco_verifier.specs.facts.Covers.{each_covers, both_cover, is_interval, is_same}
 use Rattle.teco_verifier.specs.facts.Covers.{covers_value, is_same_operator, covers_level, covers_arguments}
-use Rattle.teco_verifier.specs.facts.Covers.{covers_saved, covers_fall, covers_position, covers_answer, covers_length}
+use Rattle.teco_verifier.specs.facts.Covers.{covers_fall, covers_position, covers_answer}
 use Rattle.teco_verifier.specs.facts.Covers.{covers_pushed, covers, are_equal}
-use Rattle.teco_law_facts.specs.Describes.{Run, IsAt, AreSaved, Answers, ArePushed, IsLevel, ArePending, IsOptional}
-use Rattle.teco_law_facts.specs.Describes.{AreEach, HasFallen, fore_of, back_of}
-use Rattle.teco_verifier.specs.facts.Facts.{Position, Answer, Pushed}
 use Rattle.teco_law_facts.specs.Laws.{CoversAreSound}
-use Rattle.teco_verifier.specs.facts.Values.{IsIn, IsValue, IsWithin, interval_of}
-use Rattle.teco_verifier.specs.declared.values.Distances.{Distances}
-use Rattle.teco_verifier.specs.declared.values.Interval.{Interval}
-use Rattle.teco_verifier.specs.declared.values.Value.{Value}
 
 -- ---- tests
 pub and_both : (x y : Bool) → IsTrue (x && y) → IsTrue x × IsTrue y

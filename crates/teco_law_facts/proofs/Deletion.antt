@@ -1,33 +1,25 @@
 -- D and K.
-use Rattle.std.proofs.Common.{◌≡◌, ℕ, suc, ◌+◌, ◌-◌, ◌≤◌, min, max, arith, refl, ◌∙◌, ℤ, pos, negsuc, neg_ℤ, ◌+ℤ◌}
-use Rattle.std.proofs.Common.{◌≤ℤ◌, int_le, take, drop, length, length-append, length-take, length-drop, Option, Some}
-use Rattle.std.proofs.Common.{None, Ok, Err, IfSome, IfOk, Bool, true, false, ◌&&◌, cond, nat_le, sym, subst}
-use Rattle.std.specs.Prelude.{unwrap_or}
-use Rattle.std.proofs.lemmas.Int.{ints, clamps}
-use Rattle.std.proofs.lemmas.Bool.Decides.{nat_tests}
+use Rattle.teco_law_facts.proofs.Prelude.{◌≡◌, ℕ, suc, ◌+◌, ◌-◌, ◌≤◌, min, arith, refl, ◌∙◌, ℤ, pos, negsuc, neg_ℤ}
+use Rattle.teco_law_facts.proofs.Prelude.{◌+ℤ◌, ◌≤ℤ◌, int_le, drop, length, length-append, length-take, length-drop}
+use Rattle.teco_law_facts.proofs.Prelude.{Option, Some, None, Ok, Err, IfSome, IfOk, Bool, true, false, ◌&&◌, cond}
+use Rattle.teco_law_facts.proofs.Prelude.{nat_le, sym, subst, unwrap_or, ints, clamps, nat_tests, Kept, Taken, ok_then}
+use Rattle.teco_law_facts.proofs.Prelude.{KnownTaken, ◌>>=◌, Run, IsWhole, Holds, IsTaken, IsOptional, fore_of, back_of}
+use Rattle.teco_law_facts.proofs.Prelude.{Facts, nowhere, count_of, Shift, moving, ending, silent_behind, IsWithin}
+use Rattle.teco_law_facts.proofs.Prelude.{IsValue, IsIn, Interval, Value}
+use Rattle.std.proofs.Common.{max}
+use Rattle.std.proofs.Common.{take}
 use Rattle.teco_base.specs.declared.code.Code.TheVariants as code
 use Rattle.teco_base.specs.Text.{text_after_deletion}
 use Rattle.teco_model.specs.Deletion as model
 use Rattle.teco_model.specs.Places.{line_span}
-use Rattle.teco_model.specs.State.{Kept}
-use Rattle.teco_model.specs.declared.arguments.Taken.{Taken}
 use Rattle.teco_model.specs.declared.kind.Unit.{Unit as Counted}
 use Rattle.teco_model.specs.declared.kind.Unit.TheVariants.{Characters, Lines}
 use Rattle.teco_law_facts.proofs.Motion.{IsPlaced, count_within, line_within, line_on, line_back, placed_is}
 use Rattle.teco_law_facts.proofs.Shapes.{Shifts, Moves, IsDone, Foretells, shift_leads}
-use Rattle.teco_law_facts.proofs.Steps.{given_then}
 use Rattle.teco_law_facts.proofs.Leading.{leads_given}
-use Rattle.teco_verifier.specs.facts.Arguments.{KnownTaken}
-use Rattle.teco_verifier.specs.facts.Attempt.{◌>>=◌}
 use Rattle.teco_verifier.specs.facts.Deletions as row
-use Rattle.teco_law_facts.specs.Describes.{Run, IsWhole, Holds, IsTaken, IsOptional, fore_of, back_of}
-use Rattle.teco_verifier.specs.facts.Facts.{Facts, nowhere}
-use Rattle.teco_verifier.specs.facts.Motions.{count_of, shift_by_lines}
-use Rattle.teco_verifier.specs.facts.Shifts.{Shift, moving, ending, silent_behind}
-use Rattle.teco_verifier.specs.facts.Values.{IsWithin, IsValue, IsIn}
+use Rattle.teco_verifier.specs.facts.Motions.{shift_by_lines}
 use Rattle.teco_verifier.specs.declared.refusal.Refusal.TheVariants as refusal
-use Rattle.teco_verifier.specs.declared.values.Interval.{Interval}
-use Rattle.teco_verifier.specs.declared.values.Value.{Value}
 use Rattle.teco_law_facts.proofs.Parts.{in_text, within_text}
 
 -- the positive part keeps the order
@@ -162,10 +154,10 @@ module _ (run : Run) (facts : Facts) (unread : ℕ) (kept : Kept) (whole : IsWho
       → IfOk (row.range_deletion s t facts.position.distances)
       (λ shift. Moves run.n (ending shift) kept None (model.part_deletion (Some v) (Some w) kept))
   part_known s t v w i j =
-      given_then (IsPlaced run facts unread kept whole h v)
+      ok_then (IsPlaced run facts unread kept whole h v)
       (λ shift. Moves run.n (ending shift) kept None (model.part_deletion (Some v) (Some w) kept)) _ _
       (placed_is run facts unread kept whole h s v i) (λ from p.
-      given_then (IsPlaced run facts unread kept whole h w)
+      ok_then (IsPlaced run facts unread kept whole h w)
       (λ shift. Moves run.n (ending shift) kept None (model.part_deletion (Some v) (Some w) kept)) _ _
       (placed_is run facts unread kept whole h t w j) (λ to q. part_cut v w from to p q))
 

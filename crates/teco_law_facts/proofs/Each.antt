@@ -1,11 +1,6 @@
 -- Lists of which something is known at each place.
-use Rattle.std.proofs.Common.{◌≡◌, ℕ, zero, suc, ◌<◌, ◌≤◌, arith, List, [], ◌∷◌, length, get_or, set}
-use Rattle.std.specs.List.{AllByRecursion}
-use Rattle.teco_model.specs.Registers.{Pair}
-use Rattle.teco_poly.specs.Polynomial.{Polynomial, value}
-use Rattle.teco_law_facts.specs.Describes.{AreEach}
-use Rattle.teco_verifier.specs.facts.Values.{IsWithin}
-use Rattle.teco_verifier.specs.declared.values.Interval.{Interval}
+use Rattle.teco_law_facts.proofs.Prelude.{◌≡◌, ℕ, zero, suc, ◌<◌, ◌≤◌, arith, List, [], ◌∷◌, length, get_or, set}
+use Rattle.teco_law_facts.proofs.Prelude.{AllByRecursion, Pair, Polynomial, value, AreEach, IsWithin, Interval}
 
 -- what is known of a pair's number, and of its text
 abbrev pub IsNumber : Interval → Pair → Type 0
@@ -45,12 +40,6 @@ each_length P (x ∷ xs) (y ∷ ys) h = omega (arith, each_length P xs ys h.1)
 each_length P xs ys h = absurd (grind arith)
 
 -- of all of one list
-pub all_at : {X : Type 0} (P : X → Type 0) (xs : List X) (d : X) → AllByRecursion P xs → P d → (r : ℕ)
-    → P (get_or xs r d)
-all_at P [] d h p r = p
-all_at P (x ∷ xs) d h p zero = h.0
-all_at P (x ∷ xs) d h p (suc r) = all_at P xs d h.1 p r
-
 pub all_set : {X : Type 0} (P : X → Type 0) (xs : List X) (r : ℕ) (x : X) → r < length xs
     → AllByRecursion P (set xs r x) → P x
 all_set P [] r x l h = absurd (omega arith)

@@ -1,66 +1,46 @@
 -- One law of all elements: the first step, and each that follows.
-use Rattle.std.proofs.Common.{List, [], ◌∷◌, zero, suc, arith, inl, inr, ◌∙◌, ◌+◌, ◌≤◌, ◌⊎◌, ◌≡◌, ℕ, refl, sym, subst}
-use Rattle.std.proofs.Common.{ap, ℤ, true, Option, Some, None, Result, Ok, Err, IfOk, rules}
-use Rattle.teco_base.specs.declared.code.Code.{Code}
+use Rattle.teco_law_facts.proofs.Prelude.{List, [], ◌∷◌, arith, ◌∙◌, ◌+◌, ◌≤◌, ◌≡◌, ℕ, refl, sym, subst, ⊤, ap, ℤ, true}
+use Rattle.teco_law_facts.proofs.Prelude.{Option, Some, None, Result, Ok, Err, IfOk, Code, Input, settle, Frame, Kept}
+use Rattle.teco_law_facts.proofs.Prelude.{World, State, Next, step, Taken, Loop, Kind, Page, Search, Polynomial, value}
+use Rattle.teco_law_facts.proofs.Prelude.{number, KnownTaken, ◌>>=◌, Run, IsTaken, IsOptional, fore_of, back_of, Facts}
+use Rattle.teco_law_facts.proofs.Prelude.{Edges, steps_of_page, steps_of_search, steps, facts_answered, Succeeds, Leads}
+use Rattle.teco_law_facts.proofs.Prelude.{FitsOn, unread_of, IsInPages, KindEnds, IsNamed, KindStands, BeginsAt}
+use Rattle.teco_law_facts.proofs.Prelude.{IsUnderway, Proceeds, Placed, transfer, IsValue, Refusal, Value}
+use Rattle.std.proofs.Common.{rules}
 use Rattle.teco_model.specs.Arguments as model
-use Rattle.teco_model.specs.Files.{Input}
-use Rattle.teco_model.specs.Going.{settle}
-use Rattle.teco_model.specs.Outside as outside
 use Rattle.teco_model.specs.Paging as paging
-use Rattle.teco_model.specs.Run as runs
-use Rattle.teco_model.specs.Run.{Reaches}
 use Rattle.teco_model.specs.Searching as outcomes
-use Rattle.teco_model.specs.State.{Frame, Outcome, Kept, World, Frames, State, Next}
+use Rattle.teco_model.specs.State.{Frames}
 use Rattle.teco_model.specs.Step as stepping
-use Rattle.teco_model.specs.Step.{step}
-use Rattle.teco_model.specs.declared.arguments.Taken.{Taken}
-use Rattle.teco_model.specs.declared.flow.Loop.{Loop}
 use Rattle.teco_model.specs.declared.kind.File.{File}
-use Rattle.teco_model.specs.declared.kind.Kind.{Kind}
 use Rattle.teco_model.specs.declared.kind.Kind.TheVariants as kind
-use Rattle.teco_model.specs.declared.kind.Page.{Page}
 use Rattle.teco_model.specs.declared.kind.Page.TheVariants as page
-use Rattle.teco_model.specs.declared.kind.Search.{Search}
 use Rattle.teco_model.specs.declared.kind.Search.TheVariants as search
-use Rattle.teco_poly.specs.Polynomial.{Polynomial, value, number}
 use Rattle.teco_law_facts.proofs.Flowing.{taking_is}
 use Rattle.teco_law_facts.proofs.Going.{leads_at, ok_at}
 use Rattle.teco_law_facts.proofs.Onward.{outcome_goes, flow_proceeds, call_proceeds, search_proceeds, look_proceeds}
 use Rattle.teco_law_facts.proofs.Onward.{look_again}
-use Rattle.teco_law_facts.proofs.Paged.{IsOpen, turn_proceeds, write_proceeds, turn_again, write_again}
+use Rattle.teco_law_facts.proofs.Paged.{IsOpen, pages_proceed, pages_again, turns_repeat, writes_repeat}
 use Rattle.teco_law_facts.proofs.Paged.{append_proceeds}
+use Rattle.teco_law_facts.proofs.Repeats.{completed}
 use Rattle.teco_law_facts.proofs.Seeking.{search_steps_are_bounded}
 use Rattle.teco_law_facts.proofs.Shapes.{value-number}
-use Rattle.teco_law_facts.proofs.Steps.{Covers}
+use Rattle.teco_law_facts.proofs.Steps.{by_kind, Covers}
 use Rattle.teco_law_facts.proofs.Transfers.{arguments_are_sound, values_are_sound, commands_are_sound}
 use Rattle.teco_law_facts.proofs.Transfers.{queries_are_sound, stacks_are_sound, without_answer}
 use Rattle.teco_verifier.specs.facts.Arguments as known
-use Rattle.teco_verifier.specs.facts.Arguments.{KnownTaken}
-use Rattle.teco_verifier.specs.facts.Attempt.{◌>>=◌}
-use Rattle.teco_law_facts.specs.Describes.{Run, IsTaken, IsOptional, fore_of, back_of}
-use Rattle.teco_verifier.specs.facts.Facts.{Facts}
-use Rattle.teco_verifier.specs.facts.Flows.{Edges}
-use Rattle.teco_verifier.specs.facts.Printed.{needs, needs_of_page, steps_of_page, steps_of_search, steps}
-use Rattle.teco_verifier.specs.facts.Shifts.{facts_answered}
-use Rattle.teco_law_facts.specs.SoundElements.{Succeeds, Leads, FitsOn}
-use Rattle.teco_model.specs.Paging.{unread_of}
-use Rattle.teco_law_facts.specs.SoundSeeking.{IsInPages, SearchesAtMost}
-use Rattle.teco_law_facts.specs.SoundSteps.{ReturnsGoBack, KindEnds, IsNamed, KindStands, AreOpen, BeginsAt}
-use Rattle.teco_law_facts.specs.SoundSteps.{IsUnderway, Proceeds, StepsAreSound, LaterStepsAreSound, ElementsAreSound}
+use Rattle.teco_verifier.specs.facts.Printed.{needs, needs_of_page}
+use Rattle.teco_law_facts.specs.SoundSeeking.{SearchesAtMost}
+use Rattle.teco_law_facts.specs.SoundSteps.{ReturnsGoBack, AreOpen}
+use Rattle.teco_law_facts.specs.SoundSteps.{StepsAreSound, LaterStepsAreSound, ElementsAreSound}
 use Rattle.teco_verifier.specs.facts.Transfer as transfers
-use Rattle.teco_verifier.specs.facts.Transfer.{Placed, transfer}
-use Rattle.teco_verifier.specs.facts.Values.{IsValue}
-use Rattle.teco_verifier.specs.declared.refusal.Refusal.{Refusal}
 use Rattle.teco_verifier.specs.declared.refusal.Refusal.TheVariants as refusal
-use Rattle.teco_verifier.specs.declared.values.Value.{Value}
 
 -- ---- what is refused leads nowhere
 yank_refused : (x : Placed) (facts : Facts) → x.element.kind ≡ kind.Page page.Yank
     → IfOk (transfer x facts) (λ edges. ⊥)
-unfolding transfer
 yank_refused x facts e =
-    subst (λ k. IfOk (transfers.edges_of k x (transfers.answer_for k facts) (transfers.without_answer facts))
-    (λ edges. ⊥)) (sym e) (by (known.arguments_of facts.arguments.level)) where
+    by_kind x facts _ (λ r. IfOk r (λ edges. ⊥)) e (by (known.arguments_of facts.arguments.level)) where
       by : (r : Result KnownTaken Refusal)
           → IfOk (transfers.on (r >>= λ taken. Err refusal.Unverified >>= λ known. Ok (facts_answered known)))
           (λ edges. ⊥)
@@ -69,10 +49,8 @@ yank_refused x facts e =
 
 file_refused : (x : Placed) (facts : Facts) (f : File) → x.element.kind ≡ kind.File f
     → IfOk (transfer x facts) (λ edges. ⊥)
-unfolding transfer
 file_refused x facts f e =
-    subst (λ k. IfOk (transfers.edges_of k x (transfers.answer_for k facts) (transfers.without_answer facts))
-    (λ edges. ⊥)) (sym e) (by (known.arguments_of facts.arguments.level)) where
+    by_kind x facts _ (λ r. IfOk r (λ edges. ⊥)) e (by (known.arguments_of facts.arguments.level)) where
       by : (r : Result KnownTaken Refusal) → IfOk (r >>= λ taken. Err refusal.Unverified) (λ (edges : Edges). ⊥)
       by (Ok taken) = tt
       by (Err why) = tt
@@ -180,9 +158,13 @@ module _ (run : Run) (facts : Facts) (x : Placed) (edges : Edges) (s : State) (h
       (input_of most _ _ (taking_is run facts u kept s.arguments h.whole.world.kept h.described) m
       (needed (kind.Page page.Append) e))
   first_step (kind.Page page.Next) most e m =
-      turn_proceeds run facts x edges s h t fits most m e (page_output page.Next most e m (λ o. refl))
+      let o = page_output page.Next most e m (λ o. refl) in
+      pages_proceed run facts x edges s h t fits page.Next paging.page_turned tt o
+      (turns_repeat run facts x edges s h t fits e o) most m
   first_step (kind.Page page.Write) most e m =
-      write_proceeds run facts x edges s h t fits most m e (page_output page.Write most e m (λ o. refl))
+      let o = page_output page.Write most e m (λ o. refl) in
+      pages_proceed run facts x edges s h t fits page.Write paging.page_written tt o
+      (writes_repeat run facts x edges s h t fits e o) most m
   first_step (kind.Search search.Find) most e m = search_proceeds run facts x edges s h t search.Find (value most run.n)
       (one_step most m) fits tt e (stands (kind.Search search.Find) e)
   first_step (kind.Search search.Replace) most e m =
@@ -200,42 +182,36 @@ module _ (run : Run) (facts : Facts) (x : Placed) (edges : Edges) (s : State) (h
   abbrev later : World → Option ℕ → State
   later world left = record s { world = world; arguments = model.levels_after_taking s.arguments; left = left }
 
+  looks_again : (q : Search) (rest : ℕ) (world : World) (left : Option ℕ) → x.element.kind ≡ kind.Search q
+      → IsInPages q → IsOpen s.world → IsUnderway (kind.Search q) run facts x edges s rest (later world left)
+      → Proceeds (kind.Search q) run facts x edges s rest (settle x.element (later world left)
+      (outcomes.found_in_pages q x.element (outcomes.miss_of x.element s.frames.running) left
+      (model.levels_after_taking s.arguments) world))
+  looks_again q rest world left e b o i =
+      let w = i.work in
+      subst (λ l. Proceeds (kind.Search q) run facts x edges s rest
+      (settle x.element (later world left)
+      (outcomes.found_in_pages q x.element (outcomes.miss_of x.element s.frames.running) l
+      (model.levels_after_taking s.arguments) world))) (sym w.1.1)
+      (look_again run facts x edges s h t q rest fits b e (stands (kind.Search q) e) o.0 o.1 world w.1.0 left w.3 w.2)
+
   later_step : (k : Kind) (most : Polynomial) (rest : ℕ) (world : World) (left : Option ℕ) → x.element.kind ≡ k
       → steps k facts ≡ Ok most → IsUnderway k run facts x edges s rest (later world left)
       → Proceeds k run facts x edges s rest (stepping.outcome_of k x.element (later world left))
   unfolding stepping.reply_of
   later_step (kind.Page page.Next) most rest world left e m i =
-      let w = i.work in
       let o = page_output page.Next most e m (λ o. refl) in
-      subst (λ l. Proceeds (kind.Page page.Next) run facts x edges s rest
-      (settle x.element (later world left)
-      (outside.pages_reply paging.page_turned l (model.levels_after_taking s.arguments) world))) (sym w.1)
-      (turn_again run facts x edges s h t fits rest e o w.3.0 w.3.1 w.3.2 i.some world i.output w.2 left)
+      pages_again run facts x edges s h t fits page.Next paging.page_turned tt o
+      (turns_repeat run facts x edges s h t fits e o) rest world left i
   later_step (kind.Page page.Write) most rest world left e m i =
-      let w = i.work in
       let o = page_output page.Write most e m (λ o. refl) in
-      subst (λ l. Proceeds (kind.Page page.Write) run facts x edges s rest
-      (settle x.element (later world left)
-      (outside.pages_reply paging.page_written l (model.levels_after_taking s.arguments) world))) (sym w.1)
-      (write_again run facts x edges s h t fits rest o w.3.0 w.3.1 w.3.2 i.some world i.output w.2 left)
+      pages_again run facts x edges s h t fits page.Write paging.page_written tt o
+      (writes_repeat run facts x edges s h t fits e o) rest world left i
   later_step (kind.Search search.FindInPages) most rest world left e m i =
-      let w = i.work in
-      let o = (needed (kind.Search search.FindInPages) e).output refl in
-      subst (λ l. Proceeds (kind.Search search.FindInPages) run facts x edges s rest
-      (settle x.element (later world left)
-      (outcomes.found_in_pages search.FindInPages x.element (outcomes.miss_of x.element s.frames.running) l
-      (model.levels_after_taking s.arguments) world))) (sym w.1.1)
-      (look_again run facts x edges s h t search.FindInPages rest fits tt e (stands (kind.Search search.FindInPages) e)
-      o.0 o.1 world w.1.0 left w.3 w.2)
+      looks_again search.FindInPages rest world left e tt ((needed (kind.Search search.FindInPages) e).output refl) i
   later_step (kind.Search search.ReplaceInPages) most rest world left e m i =
-      let w = i.work in
-      let o = (needed (kind.Search search.ReplaceInPages) e).output refl in
-      subst (λ l. Proceeds (kind.Search search.ReplaceInPages) run facts x edges s rest
-      (settle x.element (later world left)
-      (outcomes.found_in_pages search.ReplaceInPages x.element (outcomes.miss_of x.element s.frames.running) l
-      (model.levels_after_taking s.arguments) world))) (sym w.1.1)
-      (look_again run facts x edges s h t search.ReplaceInPages rest fits tt e
-      (stands (kind.Search search.ReplaceInPages) e) o.0 o.1 world w.1.0 left w.3 w.2)
+      looks_again search.ReplaceInPages rest world left e tt
+      ((needed (kind.Search search.ReplaceInPages) e).output refl) i
   later_step (kind.Page page.Yank) most rest world left e m i = absurd i.work.0
   later_step (kind.Page page.Append) most rest world left e m i = absurd i.work.0
   later_step (kind.Search search.Find) most rest world left e m i = absurd i.work.0
@@ -270,88 +246,22 @@ later_steps_are_sound run facts x edges most old s rest h t fits m i =
     (later_step run facts x edges old h t fits x.element.kind most rest s.world s.left refl m j))
 
 -- ---- an element as a whole
-first_then : (n : ℕ) (s middle : State) → step s ≡ Next middle → runs.run (suc n) s ≡ runs.run n middle
-unfolding runs.run
-first_then zero s middle e = e
-first_then (suc n) s middle e = ap runs.go_on (first_then n s middle e)
-
-module _ (run : Run) (facts : Facts) (x : Placed) (edges : Edges) (most : Polynomial) (s : State)
-    (h : BeginsAt run facts x s) (t : transfer x facts ≡ Ok edges) (fits : FitsOn run.n edges)
-    (m : steps x.element.kind facts ≡ Ok most) where
-  abbrev Underway : ℕ → State → Type 0
-  Underway rest now = IsUnderway x.element.kind run facts x edges s rest now
-
-  -- from a state on
-  record Ends (bound : ℕ) (now : State) : Type 0 where
-    before : ℕ
-    last : State
-    new : State
-    few : before + 1 ≤ bound
-    reaches : Reaches before now last
-    stands : (last ≡ now) ⊎ ((rest : ℕ) × Underway rest last)
-    final : step last ≡ Next new
-    ends : KindEnds x.element.kind run facts x edges s new
-
-  ends_or_on : (fuel bound : ℕ) (now : State) → bound ≤ fuel → (o : Outcome) → step now ≡ o
-      → Proceeds x.element.kind run facts x edges s bound o → Ends bound now
-  unfolding runs.run
-  ends_or_on zero bound now l (Next new) e (inl (some, k)) =
-      record {
-        before = 0;
-        last = now;
-        new = new;
-        few = omega arith;
-        reaches = refl;
-        stands = inl refl;
-        final = e;
-        ends = k;
-      }
-  ends_or_on (suc fuel) bound now l (Next new) e (inl (some, k)) =
-      record {
-        before = 0;
-        last = now;
-        new = new;
-        few = omega arith;
-        reaches = refl;
-        stands = inl refl;
-        final = e;
-        ends = k;
-      }
-  ends_or_on zero bound now l (Next new) e (inr (rest, fewer, k)) = absurd (omega (arith, k.some))
-  ends_or_on (suc fuel) bound now l (Next new) e (inr (rest, fewer, k)) =
-      let j = ends_or_on fuel rest new (omega arith) _ refl
-      (later_steps_are_sound run facts x edges most s new rest h t fits m k) in record {
-        before = suc j.before;
-        last = j.last;
-        new = j.new;
-        few = omega (arith, j.few);
-        reaches = first_then j.before now new e ∙ j.reaches;
-        stands = inr (still rest new j.last k j.stands);
-        final = j.final;
-        ends = j.ends;
-      } where
-        still : (rest : ℕ) (new last : State) → Underway rest new → (last ≡ new) ⊎ ((rest : ℕ) × Underway rest last)
-            → (rest : ℕ) × Underway rest last
-        still rest new last k (inl e) = (rest, subst (λ s. Underway rest s) (sym e) k)
-        still rest new last k (inr i) = i
-  ends_or_on fuel bound now l o e k = absurd k
-
-  all_ends : Ends (value most run.n) s
-  all_ends = ends_or_on (value most run.n) (value most run.n) s (omega arith) _ refl
-      (steps_are_sound run facts x edges most s h t fits m)
-
 pub elements_are_sound : ElementsAreSound
 elements_are_sound run facts x edges most s h t fits m =
-    let j = all_ends run facts x edges most s h t fits m in
+    let c = completed (IsUnderway x.element.kind run facts x edges s) (KindEnds x.element.kind run facts x edges s)
+    (λ j now. ⊤) (value most run.n) s (record {
+      first = steps_are_sound run facts x edges most s h t fits m;
+      later = λ rest now i. later_steps_are_sound run facts x edges most s now rest h t fits m i;
+    }) (λ j rest now new at came k goes there i. tt) tt in
     record {
-      before = j.before;
-      last = j.last;
-      new = j.new;
-      few = j.few;
-      reaches = j.reaches;
-      stands = j.stands;
-      final = j.final;
-      ends = j.ends;
+      before = c.before;
+      last = c.last;
+      new = c.new;
+      few = c.few;
+      reaches = c.reaches;
+      stands = c.stands;
+      final = c.final;
+      ends = c.ends;
     }
 
 -- ---- the end of a called text

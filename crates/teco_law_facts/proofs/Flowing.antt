@@ -1,50 +1,36 @@
 -- Tests, iterations and tags: the edge that the machine goes along.
-use Rattle.std.proofs.Common.{◌≡◌, ℕ, zero, suc, ◌+◌, ◌≤◌, arith, refl, sym, subst, ℤ, pos, negsuc, ◌+ℤ◌, ◌≤ℤ◌}
-use Rattle.std.proofs.Common.{int_le, List, [], ◌∷◌, drop, Bool, true, false, cond, ◌&&◌, Option, Some, None}
-use Rattle.std.proofs.Common.{option_map, Result, Ok, Err, IfOk, ◌*ℤ◌}
-use Rattle.std.proofs.lemmas.Int.{ints}
-use Rattle.teco_base.specs.declared.code.Code.{Code}
+use Rattle.teco_law_facts.proofs.Prelude.{◌≡◌, ℕ, zero, suc, ◌+◌, ◌≤◌, arith, refl, sym, subst, ℤ, pos, negsuc, ◌+ℤ◌}
+use Rattle.teco_law_facts.proofs.Prelude.{◌≤ℤ◌, int_le, List, [], ◌∷◌, drop, Bool, true, false, cond, ◌&&◌, Option}
+use Rattle.teco_law_facts.proofs.Prelude.{Some, None, option_map, Result, Ok, Err, IfOk, ◌*ℤ◌, ints, Code, holds, Kept}
+use Rattle.teco_law_facts.proofs.Prelude.{Level, Taken, Test, Polynomial, value, number, Pair, KnownLevel, ◌>>=◌}
+use Rattle.teco_law_facts.proofs.Prelude.{positive, Run, Holds, run_behind, run_in_turn, IsWhole, Answers, Describes}
+use Rattle.teco_law_facts.proofs.Prelude.{AreEach, HasFallen, IsLevel, IsTaken, IsOptional, ArePending, fore_of}
+use Rattle.teco_law_facts.proofs.Prelude.{back_of, Position, Answer, Facts, Iteration, sum_of, at_position}
+use Rattle.teco_law_facts.proofs.Prelude.{without_arguments, Edges, facts_taken, leaving, entering, none_pending}
+use Rattle.teco_law_facts.proofs.Prelude.{IsTold, Tells, IsReached, number_needed, LeavingOr, EntersOr, EndsTurn}
+use Rattle.teco_law_facts.proofs.Prelude.{IsValue, IsWithin, interval_of, Numbers, Positive, NotPositive}
+use Rattle.teco_law_facts.proofs.Prelude.{Takes, position_by, way, Refusal, Value}
 use Rattle.teco_model.specs.Arguments as model
-use Rattle.teco_model.specs.Checked.{◌>>=◌ as ◌>>>=◌}
-use Rattle.teco_model.specs.Condition.{holds}
 use Rattle.teco_model.specs.Effect as effect
 use Rattle.teco_model.specs.Flow.{leaves}
-use Rattle.teco_model.specs.State.{Kept}
-use Rattle.teco_model.specs.declared.arguments.Level.{Level}
-use Rattle.teco_model.specs.declared.arguments.Taken.{Taken}
-use Rattle.teco_model.specs.declared.kind.Test.{Test}
 use Rattle.teco_model.specs.declared.kind.Test.TheVariants as test
-use Rattle.teco_poly.specs.Polynomial.{Polynomial, value, number}
-use Rattle.teco_model.specs.Registers.{Pair}
 use Rattle.teco_law_facts.proofs.Numbers.{AreDistances, interval_of_in, scaled_le}
 use Rattle.teco_law_facts.proofs.Pending.{taken_covers, empty_is, nothing_is, needed_covers}
 use Rattle.teco_law_facts.proofs.Near.{distances}
 use Rattle.teco_law_facts.proofs.Shapes.{value-sum_of, value-number}
-use Rattle.teco_law_facts.proofs.Steps.{Covers}
+use Rattle.teco_law_facts.proofs.Steps.{by_kind, Covers}
 use Rattle.teco_law_facts.proofs.Transfers.{without_answer}
 use Rattle.teco_law_facts.proofs.Ways.{IsOn, told_on, within_may}
 use Rattle.teco_verifier.specs.facts.Arguments as known
-use Rattle.teco_verifier.specs.facts.Arguments.{KnownLevel}
-use Rattle.teco_verifier.specs.facts.Attempt.{◌>>=◌}
-use Rattle.teco_verifier.specs.facts.Deletions.{positive}
-use Rattle.teco_law_facts.specs.Describes.{Run, run_behind, run_in_turn, IsWhole, IsAt, Answers, Describes, AreEach}
-use Rattle.teco_law_facts.specs.Describes.{HasFallen, IsLevel, IsTaken, IsOptional, ArePending, fore_of, back_of}
-use Rattle.teco_verifier.specs.facts.Facts.{Position, Answer, Facts, Iteration, sum_of, at_position}
-use Rattle.teco_verifier.specs.facts.Facts.{without_arguments}
-use Rattle.teco_verifier.specs.facts.Flows.{Edges, needed_taken, facts_taken, leaving, entering, begun, iteration}
+use Rattle.teco_verifier.specs.facts.Flows.{needed_taken, begun, iteration}
 use Rattle.teco_verifier.specs.facts.Flows.{leaving_numbers, turns_of, bound_by, bound_of, without_value, turn_end}
-use Rattle.teco_verifier.specs.facts.Joins.{is_empty, none_pending}
-use Rattle.teco_law_facts.specs.Laws.{IsTold}
-use Rattle.teco_law_facts.specs.SoundFlow.{Tells, IsReached, number_needed, TestsAreSound, LeavingOr, LeavesAreSound}
-use Rattle.teco_law_facts.specs.SoundFlow.{EntersOr, IterationsAreSound, AreTurns, TurnsAreSound, EndsTurn}
+use Rattle.teco_verifier.specs.facts.Joins.{is_empty}
+use Rattle.teco_law_facts.specs.SoundFlow.{TestsAreSound, LeavesAreSound}
+use Rattle.teco_law_facts.specs.SoundFlow.{IterationsAreSound, AreTurns, TurnsAreSound}
 use Rattle.teco_law_facts.specs.SoundFlow.{TurnEndsAreSound, TagsAreSound, OthersAreSound}
 use Rattle.teco_verifier.specs.facts.Transfer as transfers
-use Rattle.teco_verifier.specs.facts.Transfer.{transfer}
-use Rattle.teco_verifier.specs.facts.Values.{IsValue, IsWithin, interval_of}
-use Rattle.teco_verifier.specs.facts.Ways.{Numbers, Positive, NotPositive, Takes, holding, other, position_by, way}
-use Rattle.teco_verifier.specs.declared.refusal.Refusal.{Refusal}
+use Rattle.teco_verifier.specs.facts.Ways.{holding, other}
 use Rattle.teco_verifier.specs.declared.refusal.Refusal.TheVariants as refusal
-use Rattle.teco_verifier.specs.declared.values.Value.{Value}
 
 -- ---- steps
 pub tells_then : {X Y A : Type 0} (P : X → Y → Type 0) (Q : A → Y → Type 0) (r : Result X Refusal) (c : Result Y Code)
@@ -80,9 +66,29 @@ each_dropped P (suc count) [] [] h = tt
 each_dropped P (suc count) (x ∷ xs) (y ∷ ys) h = each_dropped P count xs ys h.1
 each_dropped P count xs ys h = absurd (grind arith)
 
+-- what leaves iterations drops what is known of them
+pub leaves_described : (run : Run) (count : ℕ) (next : Facts) (unread : ℕ) (kept : Kept) → Holds run next unread kept
+    → Describes (run_behind count run) (leaving count next) unread kept model.no_arguments
+leaves_described run count next unread kept h = record {
+  state = record {
+    position = record {
+      begin = h.position.begin;
+      end = h.position.end;
+      fallen = each_dropped (HasFallen (fore_of kept + unread)) count next.position.falls run.turns h.position.fallen;
+      ahead = h.position.ahead;
+      saved = h.position.saved;
+    };
+    held = h.held;
+    registers = record { numbers = h.registers.numbers; texts = h.registers.texts };
+    pushed = h.pushed;
+  };
+  pending = record { level = record { first = tt; value = tt; operator = refl }; outer = tt };
+  answers = tt;
+}
+
 -- the number of a level, as ; and " need it
 abbrev number_in : Level → Result ℤ Code
-number_in level = model.arguments_of level >>>= λ taken. effect.needed_value taken.value
+number_in level = model.arguments_of level >>= λ taken. effect.needed_value taken.value
 
 told_by : (run : Run) (o : Option Answer) (fore back unread : ℕ) (pairs : List Pair) (level : Level)
     (r : Result Value Refusal) → Answers run o fore back unread pairs level
@@ -128,32 +134,23 @@ module _ (run : Run) (facts : Facts) (unread : ℕ) (kept : Kept) (arguments : m
         answers = tt;
       }
 
-  pub behind : (count : ℕ) (p : Position) (state : Facts)
-      → IsAt run p (fore_of kept) (back_of kept) unread kept.registers.pairs → state.held ≡ facts.held
-      → state.numbers ≡ facts.numbers → state.texts ≡ facts.texts → state.pushes ≡ facts.pushes
-      → Describes (run_behind count run) (leaving count (at_position p state)) unread kept model.no_arguments
-  behind count p state i e f g k = let h = d.state in record {
-    state = record {
-      position = record {
-        begin = i.begin;
-        end = i.end;
-        fallen = each_dropped (HasFallen (fore_of kept + unread)) count p.falls run.turns i.fallen;
-        ahead = i.ahead;
-        saved = i.saved;
-      };
-      held = rw e h.held;
-      registers = let r = h.registers in record { numbers = rw f r.numbers; texts = rw g r.texts };
-      pushed = rw k h.pushed;
-    };
-    pending = nothing_is facts.position.distances (fore_of kept) (back_of kept) now;
-    answers = tt;
-  }
+  iterations_left : (count : ℕ)
+      → Describes (run_behind count run) (leaving count (transfers.without_answer facts)) unread kept model.no_arguments
+  iterations_left count = let h = d.state in
+      leaves_described run count (transfers.without_answer facts) unread kept (record {
+        position = h.position;
+        held = h.held;
+        registers = record { numbers = h.registers.numbers; texts = h.registers.texts };
+        pushed = h.pushed;
+      })
 
   left_behind : (o : Option Position) → IsOn run (fore_of kept) (back_of kept) unread kept.registers.pairs o
       → IsReached (run_behind 1 run) (option_map (leaving 1) (option_map (λ p. at_position p (facts_taken facts)) o))
       unread kept model.no_arguments
   left_behind None i = i
-  left_behind (Some p) i = behind 1 p (facts_taken facts) i refl refl refl refl
+  left_behind (Some p) i = let h = d.state in
+      leaves_described run 1 (at_position p (facts_taken facts)) unread kept
+      (record { position = i; held = h.held; registers = h.registers; pushed = h.pushed })
 
   told : (n : Numbers) (s : Value) (v : ℤ)
       → IsTold run facts.answer s (fore_of kept) (back_of kept) unread kept.registers.pairs v → Takes n v
@@ -447,7 +444,7 @@ module _ (run : Run) (facts : Facts) (unread : ℕ) (kept : Kept) (arguments : m
       pending = nothing_is facts.position.distances (fore_of kept) (back_of kept) now;
       answers = tt;
     };
-    on = λ e. rw e (behind 1 facts.position (transfers.without_answer facts) h.position refl refl refl refl);
+    on = λ e. rw e (iterations_left 1);
   }
 
   -- O
@@ -456,7 +453,7 @@ module _ (run : Run) (facts : Facts) (unread : ℕ) (kept : Kept) (arguments : m
       (leaving leaves (transfers.without_answer facts)) unread kept model.no_arguments)
   tagged leaves None None i = (
     refl,
-    behind leaves facts.position (transfers.without_answer facts) d.state.position refl refl refl refl,
+    iterations_left leaves,
   )
   tagged leaves (Some s) v i = tt
   tagged leaves None (Some v) i = absurd i
@@ -480,28 +477,21 @@ module _ (run : Run) (facts : Facts) (unread : ℕ) (kept : Kept) (arguments : m
 
 -- ---- the laws
 pub tests_are_sound : TestsAreSound
-unfolding transfer
 tests_are_sound run facts unread kept arguments x t whole d e =
-    subst (λ k. Tells (λ (edges : Edges) v. IsReached run (cond (holds t v) edges.on edges.away) unread kept
-    (model.levels_after_taking arguments))
-    (transfers.edges_of k x (transfers.answer_for k facts) (transfers.without_answer facts))
-    (number_needed arguments)) (sym e)
+    by_kind x facts _ (λ r. Tells (λ (edges : Edges) v. IsReached run (cond (holds t v) edges.on edges.away) unread kept
+    (model.levels_after_taking arguments)) r (number_needed arguments)) e
     (conditioned run facts unread kept arguments whole d t)
 
 pub leaves_are_sound : LeavesAreSound
-unfolding transfer
 leaves_are_sound run facts unread kept arguments x whole d e =
-    subst (λ k. Tells (λ (edges : Edges) v. LeavingOr run unread kept arguments (leaves x.element.colons v) edges)
-    (transfers.edges_of k x (transfers.answer_for k facts) (transfers.without_answer facts))
-    (number_needed arguments)) (sym e)
+    by_kind x facts _ (λ r. Tells (λ (edges : Edges) v. LeavingOr run unread kept arguments
+    (leaves x.element.colons v) edges) r (number_needed arguments)) e
     (left run facts unread kept arguments whole d x.element.colons)
 
 pub iterations_are_sound : IterationsAreSound
-unfolding transfer
 iterations_are_sound run facts unread kept arguments x whole d e =
-    subst (λ k. Tells (λ edges (taken : Taken). EntersOr run unread kept arguments taken.value edges)
-    (transfers.edges_of k x (transfers.answer_for k facts) (transfers.without_answer facts))
-    (model.arguments_of arguments.level)) (sym e)
+    by_kind x facts _ (λ r. Tells (λ edges (taken : Taken). EntersOr run unread kept arguments taken.value edges) r
+    (model.arguments_of arguments.level)) e
     (iterated run facts unread kept arguments whole d)
 
 pub turns_are_sound : TurnsAreSound
@@ -513,41 +503,31 @@ turns_are_sound run facts unread kept arguments whole d =
     (turns_for run facts unread kept arguments whole d known.value taken.value i.value))
 
 pub tags_are_sound : TagsAreSound
-unfolding transfer
 tags_are_sound run facts unread kept arguments x whole d e =
-    subst (λ k. Tells (λ (edges : Edges) (taken : Taken). (taken.value ≡ None)
-    × IsReached (run_behind x.leaves run) edges.away unread kept model.no_arguments)
-    (transfers.edges_of k x (transfers.answer_for k facts) (transfers.without_answer facts))
-    (model.arguments_of arguments.level)) (sym e)
+    by_kind x facts _ (λ r. Tells (λ (edges : Edges) (taken : Taken). (taken.value ≡ None)
+    × IsReached (run_behind x.leaves run) edges.away unread kept model.no_arguments) r
+    (model.arguments_of arguments.level)) e
     (gone run facts unread kept arguments whole d x.leaves)
 
 pub turn_ends_are_sound : TurnEndsAreSound
-unfolding transfer
 turn_ends_are_sound run facts unread kept arguments x i outer whole d e f =
-    subst (λ k. IfOk (transfers.edges_of k x (transfers.answer_for k facts) (transfers.without_answer facts))
-    (λ edges. EndsTurn run unread kept i.counted edges)) (sym e)
+    by_kind x facts _ (λ r. IfOk r (λ edges. EndsTurn run unread kept i.counted edges)) e
     (subst (λ iterations. IfOk (turn_end iterations (transfers.without_answer facts))
     (λ edges. EndsTurn run unread kept i.counted edges)) (sym f)
     (at_end run facts unread kept arguments whole d i outer))
 
 pub others_are_sound : OthersAreSound
-unfolding transfer
 others_are_sound run facts unread kept arguments x d =
     let n = without_answer run facts unread kept arguments d in record {
       otherwise =
-          λ e. subst (λ k. IfOk (transfers.edges_of k x (transfers.answer_for k facts) (transfers.without_answer facts))
-          (λ (edges : Edges). IsReached run edges.away unread kept arguments)) (sym e) n;
+          λ e. by_kind x facts _ (λ r. IfOk r (λ (edges : Edges). IsReached run edges.away unread kept arguments)) e n;
       ahead = λ g e.
-          subst (λ k. IfOk (transfers.edges_of k x (transfers.answer_for k facts) (transfers.without_answer facts))
-          (λ (edges : Edges). IsReached run edges.away unread kept arguments)) (sym e) n;
+          by_kind x facts _ (λ r. IfOk r (λ (edges : Edges). IsReached run edges.away unread kept arguments)) e n;
       end = λ e.
-          subst (λ k. IfOk (transfers.edges_of k x (transfers.answer_for k facts) (transfers.without_answer facts))
-          (λ (edges : Edges). IsReached run edges.on unread kept arguments)) (sym e) n;
+          by_kind x facts _ (λ r. IfOk r (λ (edges : Edges). IsReached run edges.on unread kept arguments)) e n;
       comment =
-          λ e. subst (λ k. IfOk (transfers.edges_of k x (transfers.answer_for k facts) (transfers.without_answer facts))
-          (λ (edges : Edges). IsReached run edges.on unread kept arguments)) (sym e) n;
+          λ e. by_kind x facts _ (λ r. IfOk r (λ (edges : Edges). IsReached run edges.on unread kept arguments)) e n;
       call = λ c e.
-          subst (λ k. IfOk (transfers.edges_of k x (transfers.answer_for k facts) (transfers.without_answer facts))
-          (λ (edges : Edges). IsReached run edges.on unread kept arguments)) (sym e) n;
+          by_kind x facts _ (λ r. IfOk r (λ (edges : Edges). IsReached run edges.on unread kept arguments)) e n;
       returns = n;
     }

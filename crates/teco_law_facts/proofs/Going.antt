@@ -1,48 +1,30 @@
 -- Elements of one step come to no code, and go along their edges.
-use Rattle.std.proofs.Common.{◌≡◌, ℕ, zero, suc, arith, refl, sym, subst, ℤ, List, [], ◌∷◌, drop, Bool, true, false}
-use Rattle.std.proofs.Common.{cond, Option, Some, None, option_map, IfSome, MatchOption, ok_or, Result, Ok, Err, IfOk}
-use Rattle.std.specs.Prelude.{⊤, is_some}
-use Rattle.teco_base.specs.declared.code.Code.{Code}
+use Rattle.teco_law_facts.proofs.Prelude.{◌≡◌, ℕ, zero, suc, arith, refl, subst, ℤ, List, [], ◌∷◌, drop, Bool, true}
+use Rattle.teco_law_facts.proofs.Prelude.{false, cond, Option, Some, None, option_map, IfSome, MatchOption, ok_or}
+use Rattle.teco_law_facts.proofs.Prelude.{Result, Ok, Err, IfOk, ⊤, Code, Whole, holds, Element, Turn, After, skip_of}
+use Rattle.teco_law_facts.proofs.Prelude.{Kept, World, Frame, State, Loop, Flow, Test, needed_value, Polynomial, ok_any}
+use Rattle.teco_law_facts.proofs.Prelude.{◌>>=◌, Run, run_behind, run_in_turn, Position, Answer, Facts, Iteration}
+use Rattle.teco_law_facts.proofs.Prelude.{at_position, without_arguments, Edges, none_pending, Succeeds, Leads, Arrives}
+use Rattle.teco_law_facts.proofs.Prelude.{ArrivesOn, IsReached, number_needed, LeavingOr, EntersOr, EndsTurn, unread_of}
+use Rattle.teco_law_facts.proofs.Prelude.{ComesTo, Comes, LeadsAhead, IsInside, FlowStands, BeginsAt, GoesBehind}
+use Rattle.teco_law_facts.proofs.Prelude.{FlowGoes, Placed, transfer, Numbers, way, Refusal, Value}
+use Rattle.std.specs.Prelude.{is_some}
 use Rattle.teco_base.specs.declared.code.Code.TheVariants as code
-use Rattle.teco_model.specs.Ahead.{Whole}
 use Rattle.teco_model.specs.Arguments as model
-use Rattle.teco_model.specs.Checked.{◌>>=◌ as ◌>>>=◌}
-use Rattle.teco_model.specs.Condition.{holds}
-use Rattle.teco_model.specs.Element.{Element}
 use Rattle.teco_model.specs.Flow as flows
-use Rattle.teco_model.specs.Flow.{Turn}
-use Rattle.teco_model.specs.Going.{After, with_kept}
-use Rattle.teco_model.specs.Skip.{skip_of}
-use Rattle.teco_model.specs.State.{Kept, World, Frame, State}
-use Rattle.teco_model.specs.declared.flow.Loop.{Loop}
-use Rattle.teco_model.specs.declared.kind.Flow.{Flow}
+use Rattle.teco_model.specs.Going.{with_kept}
 use Rattle.teco_model.specs.declared.kind.Flow.TheVariants as flow
 use Rattle.teco_model.specs.declared.kind.Goal.{Goal}
 use Rattle.teco_model.specs.declared.kind.Goal.TheVariants as goal
 use Rattle.teco_model.specs.declared.kind.Kind.TheVariants as kind
-use Rattle.teco_model.specs.declared.kind.Test.{Test}
-use Rattle.teco_model.specs.Effect.{needed_value}
-use Rattle.teco_poly.specs.Polynomial.{Polynomial}
 use Rattle.teco_law_facts.proofs.Flowing.{tests_are_sound, leaves_are_sound, iterations_are_sound}
 use Rattle.teco_law_facts.proofs.Flowing.{turn_ends_are_sound, tags_are_sound, others_are_sound}
+use Rattle.teco_law_facts.proofs.Steps.{by_kind}
 use Rattle.teco_verifier.specs.facts.Arguments as taking
-use Rattle.teco_verifier.specs.facts.Attempt.{◌>>=◌}
-use Rattle.teco_law_facts.specs.Describes.{Run, run_behind, run_in_turn}
-use Rattle.teco_verifier.specs.facts.Facts.{Position, Answer, Facts, Iteration, at_position, without_arguments}
 use Rattle.teco_verifier.specs.facts.Flows as edge
-use Rattle.teco_verifier.specs.facts.Flows.{Edges}
-use Rattle.teco_verifier.specs.facts.Joins.{none_pending}
-use Rattle.teco_law_facts.specs.SoundElements.{Succeeds, Leads, Arrives, ArrivesOn}
-use Rattle.teco_law_facts.specs.SoundFlow.{IsReached, number_needed, LeavingOr, EntersOr, EndsTurn}
-use Rattle.teco_model.specs.Paging.{unread_of}
-use Rattle.teco_law_facts.specs.SoundPages.{ComesTo, Comes}
-use Rattle.teco_law_facts.specs.SoundSteps.{LeadsAhead, IsInside, FlowStands, BeginsAt, GoesBehind, ReachedIf, enters}
-use Rattle.teco_law_facts.specs.SoundSteps.{is_last, run_begun, FlowGoes}
+use Rattle.teco_law_facts.specs.SoundSteps.{ReachedIf, enters}
+use Rattle.teco_law_facts.specs.SoundSteps.{is_last, run_begun}
 use Rattle.teco_verifier.specs.facts.Transfer as transfers
-use Rattle.teco_verifier.specs.facts.Transfer.{Placed, transfer}
-use Rattle.teco_verifier.specs.facts.Ways.{Numbers, way}
-use Rattle.teco_verifier.specs.declared.refusal.Refusal.{Refusal}
-use Rattle.teco_verifier.specs.declared.values.Value.{Value}
 
 -- ---- steps
 pub leads_at : {X Y : Type 0} (L : X → Type 0) (Q : X → Y → Type 0) (r : Result X Refusal) (c : Result Y Code) (x : X)
@@ -53,7 +35,7 @@ pub ok_at : {X : Type 0} (P : X → Type 0) (r : Result X Refusal) (x : X) → r
 ok_at P r x e h = subst (λ r. IfOk r P) e h
 
 pub then_so : {X Y : Type 0} (P : X → Type 0) (Q : Y → Type 0) (r : Result X Code) (f : X → Result Y Code)
-    → Succeeds P r → ((x : X) → r ≡ Ok x → P x → Succeeds Q (f x)) → Succeeds Q (r >>>= f)
+    → Succeeds P r → ((x : X) → r ≡ Ok x → P x → Succeeds Q (f x)) → Succeeds Q (r >>= f)
 then_so P Q (Ok x) f h k = k x refl h
 then_so P Q (Err c) f h k = absurd h
 
@@ -66,12 +48,12 @@ of_one P Q (Ok x) h k = k x h
 of_one P Q (Err c) h k = absurd h
 
 in_turn : {X Y Z : Type 0} (Q : Z → Type 0) (r : Result X Code) (f : X → Result Y Code) (g : Y → Result Z Code)
-    → Succeeds Q ((r >>>= f) >>>= g) → Succeeds Q (r >>>= λ x. f x >>>= g)
+    → Succeeds Q ((r >>= f) >>= g) → Succeeds Q (r >>= λ x. f x >>= g)
 in_turn Q (Ok x) f g h = h
 in_turn Q (Err c) f g h = h
 
 -- ---- behind an element
-arrives_comes : (run : Run) (held : Polynomial) (old : World) (kept : Kept) (arguments : model.Arguments)
+pub arrives_comes : (run : Run) (held : Polynomial) (old : World) (kept : Kept) (arguments : model.Arguments)
     (o : Option Facts) → MatchOption o ⊥
     (λ next. Arrives run held (unread_of old) old.kept next (record { kept = kept; arguments = arguments }))
     → MatchOption o ⊥ (λ next. ComesTo run held old next arguments (record old { kept = kept }))
@@ -100,11 +82,6 @@ goes_behind run held edges e s l (Ok done) h =
 abbrev KeepsHeld : Facts → Edges → Type 0
 KeepsHeld facts edges = IfSome edges.on (λ next. next.held ≡ facts.held)
     × IfSome edges.away (λ next. next.held ≡ facts.held)
-
-ok_always : {X Y : Type 0} (Q : Y → Type 0) (r : Result X Refusal) (f : X → Result Y Refusal) → ((x : X) → IfOk (f x) Q)
-    → IfOk (r >>= f) Q
-ok_always Q (Ok x) f k = k x
-ok_always Q (Err why) f k = tt
 
 way_held : (o : Option Position) (facts : Facts)
     → IfSome (option_map (λ p. at_position p facts) o) (λ next. next.held ≡ facts.held)
@@ -153,9 +130,9 @@ gone_held leaves facts (Err why) = tt
 flow_held : (f : Flow) (colons leaves : ℕ) (answer : Option Answer) (facts : Facts)
     → IfOk (edge.flow_edges f colons leaves answer facts) (KeepsHeld facts)
 flow_held flow.Iterate colons leaves answer facts =
-    ok_always (KeepsHeld facts) (taking.arguments_of facts.arguments.level) _
-    (λ taken. ok_always (KeepsHeld facts) (none_pending (taking.levels_after_taking facts.arguments)) _
-    (λ alone. ok_always (KeepsHeld facts) (edge.turns_of taken.value facts) _
+    ok_any (KeepsHeld facts) (taking.arguments_of facts.arguments.level) _
+    (λ taken. ok_any (KeepsHeld facts) (none_pending (taking.levels_after_taking facts.arguments)) _
+    (λ alone. ok_any (KeepsHeld facts) (edge.turns_of taken.value facts) _
     (λ most. entered_held taken.value (without_arguments facts))))
 flow_held flow.EndTurn colons leaves answer facts = ended_held facts.iterations facts
 flow_held flow.Leave colons leaves answer facts = left_or_held _ _ answer facts _
@@ -163,17 +140,16 @@ flow_held (flow.Test test) colons leaves answer facts = tested_held _ _ answer f
 flow_held flow.Otherwise colons leaves answer facts = (tt, refl)
 flow_held flow.EndTest colons leaves answer facts = (refl, tt)
 flow_held flow.GoTo colons leaves answer facts =
-    ok_always (KeepsHeld facts) (taking.arguments_of facts.arguments.level) _
+    ok_any (KeepsHeld facts) (taking.arguments_of facts.arguments.level) _
     (λ taken. gone_held leaves facts (edge.without_value taken.value))
 flow_held flow.Comment colons leaves answer facts = (refl, tt)
 flow_held (flow.GoAhead g) colons leaves answer facts = (tt, refl)
 
 pub held_kept : (x : Placed) (facts : Facts) (f : Flow) → x.element.kind ≡ kind.Flow f
     → IfOk (transfer x facts) (KeepsHeld facts)
-unfolding transfer
 held_kept x facts f e =
-    subst (λ k. IfOk (transfers.edges_of k x (transfers.answer_for k facts) (transfers.without_answer facts))
-    (KeepsHeld facts)) (sym e) (flow_held f x.element.colons x.leaves (transfers.answer_for (kind.Flow f) facts)
+    by_kind x facts _ (λ r. IfOk r (KeepsHeld facts)) e
+    (flow_held f x.element.colons x.leaves (transfers.answer_for (kind.Flow f) facts)
     (transfers.without_answer facts))
 
 -- ---- flow
@@ -200,7 +176,7 @@ module _ (run : Run) (facts : Facts) (x : Placed) (edges : Edges) (s : State) (h
       → Succeeds Q (flows.jump c x.element arguments frame)
   jumped Q c arguments (place, e) h = along _ e where
     along : (o : Option ℕ) → o ≡ Some place
-        → Succeeds Q (ok_or o c >>>= λ place.
+        → Succeeds Q (ok_or o c >>= λ place.
         Ok (flows.turn_to arguments place (drop (skip_of frame.text (Whole x.element)).leaves frame.loops) frame))
     along None e = absurd (cc)
     along (Some p) e = h p
@@ -392,14 +368,14 @@ module _ (run : Run) (facts : Facts) (x : Placed) (edges : Edges) (s : State) (h
       let told = leads_at (λ edges. ⊤) _ (transfer x facts) (model.arguments_of s.arguments.level) edges t tt
       (tags_are_sound run facts u kept s.arguments x h.whole.world.kept h.described e) in
       then_so _ (FlowGoes flow.GoTo run facts.held x edges s) (model.arguments_of s.arguments.level)
-      (λ taken. flows.jump code.Tag x.element model.no_arguments frame >>>= λ turn.
+      (λ taken. flows.jump code.Tag x.element model.no_arguments frame >>= λ turn.
       flows.without_value taken.value turn) told (λ taken w i.
       rw i.0 (without (jumped (FlowGoes flow.GoTo run facts.held x edges s) code.Tag model.no_arguments ahead
       (λ place. away_edge flow.GoTo e (run_behind x.leaves run) model.no_arguments refl i.1)))) where
         without : Succeeds (FlowGoes flow.GoTo run facts.held x edges s)
             (flows.jump code.Tag x.element model.no_arguments frame)
             → Succeeds (FlowGoes flow.GoTo run facts.held x edges s)
-            (flows.jump code.Tag x.element model.no_arguments frame >>>= λ turn. Ok turn)
+            (flows.jump code.Tag x.element model.no_arguments frame >>= λ turn. Ok turn)
         without j = then_so (FlowGoes flow.GoTo run facts.held x edges s) (FlowGoes flow.GoTo run facts.held x edges s)
             _ _ j (λ turn w i. i)
 

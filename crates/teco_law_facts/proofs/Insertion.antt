@@ -1,30 +1,19 @@
 -- I and TAB, and all that puts a text in the place of another.
-use Rattle.std.proofs.Common.{◌≡◌, ℕ, ◌+◌, ◌-◌, ◌≤◌, arith, refl, ℤ, pos, ◌+ℤ◌, ◌≤ℤ◌, List, [], ◌∷◌, length}
-use Rattle.std.proofs.Common.{length-append, length-take, length-drop, Option, Some, None, Ok, Err, IfSome, Bool}
-use Rattle.std.proofs.Common.{true, false, cond, nat_le, sym, subst}
-use Rattle.std.proofs.lemmas.Int.{ints}
-use Rattle.std.proofs.lemmas.Bool.Decides.{nat_tests}
-use Rattle.teco_base.specs.declared.TheConstants.{LIMIT}
+use Rattle.teco_law_facts.proofs.Prelude.{◌≡◌, ℕ, ◌+◌, ◌-◌, ◌≤◌, arith, refl, ℤ, pos, ◌+ℤ◌, ◌≤ℤ◌, List, [], ◌∷◌, length}
+use Rattle.teco_law_facts.proofs.Prelude.{length-append, length-take, length-drop, Option, Some, None, Ok, Err, IfSome}
+use Rattle.teco_law_facts.proofs.Prelude.{Bool, true, false, cond, nat_le, sym, subst, ints, nat_tests, LIMIT}
+use Rattle.teco_law_facts.proofs.Prelude.{text_after_replacement, no_answer, Element, Kept, Taken, Polynomial, value}
+use Rattle.teco_law_facts.proofs.Prelude.{number, KnownTaken, Run, IsWhole, Holds, IsTaken, IsOptional, fore_of}
+use Rattle.teco_law_facts.proofs.Prelude.{back_of, Facts, Shift, silent_behind, IsValue, Value}
 use Rattle.teco_base.specs.declared.code.Code.TheVariants as code
 use Rattle.teco_base.specs.Arithmetic.{byte_of}
 use Rattle.teco_base.specs.declared.bytes.TheConstants.{TAB}
-use Rattle.teco_base.specs.Text.{text_after_insertion, text_after_replacement}
-use Rattle.teco_model.specs.Effect.{no_answer}
-use Rattle.teco_model.specs.Element.{Element}
+use Rattle.teco_base.specs.Text.{text_after_insertion}
 use Rattle.teco_model.specs.Insertion as model_insertion
-use Rattle.teco_model.specs.State.{Kept}
-use Rattle.teco_model.specs.declared.arguments.Taken.{Taken}
 use Rattle.teco_model.specs.declared.kind.Insertion.{Insertion}
 use Rattle.teco_model.specs.declared.kind.Insertion.TheVariants.{Text, Tab}
-use Rattle.teco_poly.specs.Polynomial.{Polynomial, value, number}
 use Rattle.teco_law_facts.proofs.Shapes.{Shifts, Moves, Foretells, shift_leads, value-number}
-use Rattle.teco_verifier.specs.facts.Arguments.{KnownTaken}
-use Rattle.teco_law_facts.specs.Describes.{Run, IsWhole, Holds, IsTaken, IsOptional, fore_of, back_of}
-use Rattle.teco_verifier.specs.facts.Facts.{Facts}
 use Rattle.teco_verifier.specs.facts.Insertions as insertions
-use Rattle.teco_verifier.specs.facts.Shifts.{Shift, silent_behind}
-use Rattle.teco_verifier.specs.facts.Values.{IsValue}
-use Rattle.teco_verifier.specs.declared.values.Value.{Value}
 
 module _ (run : Run) (facts : Facts) (unread : ℕ) (kept : Kept) (whole : IsWhole kept)
     (h : Holds run facts unread kept) where

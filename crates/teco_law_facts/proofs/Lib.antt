@@ -1,4 +1,5 @@
 -- Lemmas of the laws.
+mod Prelude
 pub mod Steps
 pub mod Numbers
 pub mod Quotients
@@ -12,7 +13,6 @@ pub mod Meeting
 pub mod Bodies
 pub mod Worked
 pub mod Leading
-pub mod Lines
 pub mod Shapes
 pub mod Motion
 pub mod Deletion
@@ -23,17 +23,14 @@ pub mod Asking
 pub mod Transfers
 pub mod Flowing
 pub mod Matching
+pub mod Outcomes
 pub mod Searching
 pub mod Library
 pub mod Paging
 pub mod Steppings
 pub mod Seeking
-pub mod Bytes
-pub mod Keeping
-pub mod Levels
-pub mod Reading
-pub mod Filing
-pub mod Stepped
+pub mod Whole
+pub mod Repeats
 pub mod Going
 pub mod Onward
 pub mod Paged

@@ -1,22 +1,18 @@
 -- No text of the library is written.
-use Rattle.std.proofs.Common.{◌≡◌, ℕ, true, refl, sym, subst, List, Option, Some, None, Result, Ok, Err}
+use Rattle.teco_law_facts.proofs.Prelude.{◌≡◌, ℕ, true, refl, sym, subst, List, Option, Some, None, Result, Ok, Err}
+use Rattle.teco_law_facts.proofs.Prelude.{Kind, KnownTaken, ◌>>=◌, Facts, with_arguments, Foreseen, Placed, transfer}
+use Rattle.teco_law_facts.proofs.Prelude.{edges_of, answer_for, without_answer, Refusal, Value}
 use Rattle.std.specs.Prelude.{IsErr}
 use Rattle.teco_model.specs.declared.kind.Command.TheVariants as command
-use Rattle.teco_model.specs.declared.kind.Kind.{Kind}
 use Rattle.teco_model.specs.declared.kind.Kind.TheVariants as kind
 use Rattle.teco_model.specs.declared.kind.Stack.TheVariants as stack
 use Rattle.teco_model.specs.declared.kind.Storage.TheVariants as storage
-use Rattle.teco_verifier.specs.facts.Arguments.{KnownTaken, arguments_of, levels_after_taking}
-use Rattle.teco_verifier.specs.facts.Attempt.{◌>>=◌}
-use Rattle.teco_verifier.specs.facts.Facts.{Facts, with_arguments}
+use Rattle.teco_verifier.specs.facts.Arguments.{arguments_of, levels_after_taking}
 use Rattle.teco_law_facts.specs.Laws.{WritesText, LibraryStays}
-use Rattle.teco_verifier.specs.facts.Shifts.{Foreseen}
 use Rattle.teco_verifier.specs.facts.Storages.{own_text_storage, copy}
-use Rattle.teco_verifier.specs.facts.Transfer.{Placed, transfer, edges_of, answer_for, without_answer, after_taking}
+use Rattle.teco_verifier.specs.facts.Transfer.{after_taking}
 use Rattle.teco_verifier.specs.facts.Transfer.{execution, on}
 use Rattle.teco_verifier.specs.facts.Typings.{part_named}
-use Rattle.teco_verifier.specs.declared.refusal.Refusal.{Refusal}
-use Rattle.teco_verifier.specs.declared.values.Value.{Value}
 
 refused_then : {X Y : Type 0} (r : Result X Refusal) (f : X → Result Y Refusal) → IsErr r → IsErr (r >>= f)
 refused_then (Err why) f h = refl

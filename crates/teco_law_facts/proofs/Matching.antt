@@ -1,49 +1,18 @@
 -- Where a match lies, and the pattern of a search text that has a minimum length.
-use Rattle.std.proofs.Common.{◌≡◌, ℕ, zero, suc, ◌+◌, ◌-◌, ◌≤◌, ◌<◌, arith, refl, subst, ap, pos, List, [], ◌∷◌}
-use Rattle.std.proofs.Common.{length, Option, Some, None, Result, Ok, Err, IfSome, MatchOption, Bool}
-use Rattle.std.proofs.lemmas.Option.{slice_get_within}
-use Rattle.std.specs.Option.{option_map_or}
-use Rattle.std.specs.Prelude.{flat_map, fold, ⊤}
-use Rattle.teco_base.specs.declared.code.Code.{Code}
+use Rattle.teco_law_facts.proofs.Prelude.{◌≡◌, ℕ, zero, suc, ◌+◌, ◌≤◌, arith, refl, subst, ap, pos, List, length}
+use Rattle.teco_law_facts.proofs.Prelude.{Option, Some, None, Result, Ok, Err, IfSome, MatchOption, Bool, option_map_or}
+use Rattle.teco_law_facts.proofs.Prelude.{⊤, Code, IsMatch, Pattern, minimum, parts, Sought, Last, Wanted, Span}
+use Rattle.std.specs.Prelude.{flat_map, fold}
+use Rattle.teco_model.proofs.upkeep.Searches.{match_within}
 use Rattle.teco_model.proofs.Searches.{here_finds, forward_finds, none_is_shorter}
 use Rattle.teco_model.specs.Checked.{◌>>=◌}
 use Rattle.teco_model.specs.Match.{here, forward}
 use Rattle.teco_model.specs.Paging.{sought}
-use Rattle.teco_model.specs.laws.Matching.{HasAt, Matches, InTurn, IsMatch, IsMatchAt, IsFirstFrom, IsNth}
-use Rattle.teco_model.specs.Pattern.{Pattern, pattern, minimum, parts, with_part, items_of}
+use Rattle.teco_model.specs.laws.Matching.{IsMatchAt, IsFirstFrom, IsNth}
+use Rattle.teco_model.specs.Pattern.{pattern, with_part, items_of}
 use Rattle.teco_model.specs.Registers.{Registers}
 use Rattle.teco_model.specs.Search.{match_of}
-use Rattle.teco_model.specs.declared.pattern.Item.{Item}
-use Rattle.teco_model.specs.declared.pattern.Item.TheVariants as item
 use Rattle.teco_model.specs.declared.pattern.Part.{Part}
-use Rattle.teco_model.specs.declared.pattern.Sought.{Sought}
-use Rattle.teco_model.specs.declared.pattern.Sought.TheVariants.{Last, Wanted}
-use Rattle.teco_model.specs.declared.pattern.Span.{Span}
-
--- ---- a match lies in the text
-has_within : (passes : ℕ → Bool) (text : List ℕ) (at : ℕ) → HasAt passes text at → at < length text
-has_within passes text at (c, e, p) = slice_get_within text at c e
-
-item_within : (i : Item) (text : List ℕ) (start end : ℕ) → Matches i text start end → end ≤ length text
-item_within (item.Is c) text start end m = omega (arith, has_within _ text start m.has, m.ends)
-item_within (item.IsNot c) text start end m = omega (arith, has_within _ text start m.has, m.ends)
-item_within item.Blanks text start end m =
-    omega (
-      arith,
-      has_within _ text (end - 1) (m.each (end - 1) (omega (arith, m.some)) (omega (arith, m.some))),
-      m.some,
-    )
-
-turn_within : (items : List Item) (text : List ℕ) (start end : ℕ) → start ≤ length text → InTurn items text start end
-    → end ≤ length text
-turn_within [] text start end w m = omega (arith, m)
-turn_within (i ∷ items) text start end w (middle, m, rest) =
-    turn_within items text middle end (item_within i text start middle m) rest
-
-pub match_within : (p : Pattern) (text : List ℕ) (span : Span) → IsMatch p text span → span.end ≤ length text
-match_within [] text span m = absurd m
-match_within (i ∷ items) text span (middle, m, rest) =
-    turn_within items text middle span.end (item_within i text span.start middle m) rest
 
 -- ---- the pattern of a text with a minimum length
 pub record HasPattern (registers : Registers) (exact : Bool) (text : List ℕ) (least : ℕ) : Type 0 where

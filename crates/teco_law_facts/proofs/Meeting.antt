@@ -1,25 +1,18 @@
 -- Where ways meet: what is known of each is true of both.
-use Rattle.std.proofs.Common.{◌≡◌, ℕ, ◌≤◌, arith, refl, List, [], ◌∷◌, length, Option, Some, None, Result, Ok, Err}
-use Rattle.std.proofs.Common.{IfOk, ok_or, ◌+◌, ℤ}
-use Rattle.std.proofs.lemmas.Int.{ints, clamps}
+use Rattle.teco_law_facts.proofs.Prelude.{◌≡◌, ℕ, ◌≤◌, arith, refl, List, [], ◌∷◌, length, Option, Some, None, Result}
+use Rattle.teco_law_facts.proofs.Prelude.{Ok, Err, IfOk, ok_or, ◌+◌, ℤ, ints, clamps, Polynomial, value, ◌>>=◌, Run}
+use Rattle.teco_law_facts.proofs.Prelude.{IsAt, AreEach, HasFallen, ArePushed, ArePending, fore_of, back_of, Position}
+use Rattle.teco_law_facts.proofs.Prelude.{Pushed, Facts, without_arguments, joined_saved, none_pending, Interval, Value}
+use Rattle.teco_law_facts.proofs.Prelude.{KnownLevel, KnownArguments, ok_then, Arguments, Pair, Operator, Refusal}
 use Rattle.teco_poly.proofs.Lawful.{value_of_join}
-use Rattle.teco_poly.specs.Polynomial.{Polynomial, value, join}
-use Rattle.teco_verifier.specs.facts.Attempt.{◌>>=◌}
-use Rattle.teco_law_facts.specs.Describes.{Run, IsAt, AreEach, HasFallen, ArePushed, ArePending, fore_of, back_of}
-use Rattle.teco_verifier.specs.facts.Facts.{Position, Pushed, Facts, join_of, without_arguments}
-use Rattle.teco_verifier.specs.facts.Joins.{nearer_of, joined_saved, joined_position, hull, hulls, joined_lengths}
-use Rattle.teco_verifier.specs.facts.Joins.{joined_pushes, none_pending, smaller_fall, smaller_falls}
+use Rattle.teco_poly.specs.Polynomial.{join}
+use Rattle.teco_verifier.specs.facts.Facts.{join_of}
+use Rattle.teco_verifier.specs.facts.Joins.{nearer_of, joined_position, hull, hulls, joined_lengths}
+use Rattle.teco_verifier.specs.facts.Joins.{joined_pushes, smaller_fall, smaller_falls}
 use Rattle.teco_law_facts.specs.Laws.{MayMeet, MeetsBoth, JoinsAreSound}
-use Rattle.teco_verifier.specs.declared.values.Interval.{Interval}
-use Rattle.teco_verifier.specs.declared.values.Value.{Value}
-use Rattle.teco_verifier.specs.facts.Arguments.{KnownLevel, KnownArguments, no_arguments}
+use Rattle.teco_verifier.specs.facts.Arguments.{no_arguments}
 use Rattle.teco_law_facts.proofs.Each.{IsNumber, IsText}
 use Rattle.teco_law_facts.proofs.Saved.{saved_left, saved_right}
-use Rattle.teco_law_facts.proofs.Steps.{given_then}
-use Rattle.teco_model.specs.Arguments.{Arguments}
-use Rattle.teco_model.specs.Registers.{Pair}
-use Rattle.teco_model.specs.declared.arguments.Operator.{Operator}
-use Rattle.teco_verifier.specs.declared.refusal.Refusal.{Refusal}
 use Rattle.teco_verifier.specs.declared.refusal.Refusal.TheVariants as refusal
 
 -- ---- polynomials
@@ -275,16 +268,16 @@ all_joins p q (Err why) h = tt
 
 pub joins_are_sound : JoinsAreSound
 joins_are_sound facts others m =
-    given_then (λ (u : Unit {0}). IsNone facts.arguments) (MeetsBoth facts others) _ _ (none_is facts.arguments)
+    ok_then (λ (u : Unit {0}). IsNone facts.arguments) (MeetsBoth facts others) _ _ (none_is facts.arguments)
     (λ one p.
-    given_then (λ (u : Unit {0}). IsNone others.arguments) (MeetsBoth facts others) _ _ (none_is others.arguments)
+    ok_then (λ (u : Unit {0}). IsNone others.arguments) (MeetsBoth facts others) _ _ (none_is others.arguments)
     (λ two q.
-    given_then (ArePushedBoth facts.pushes others.pushes) (MeetsBoth facts others) _ _
+    ok_then (ArePushedBoth facts.pushes others.pushes) (MeetsBoth facts others) _ _
     (pushes_both facts.pushes others.pushes) (λ pushes s.
-    given_then (λ j. (run : Run) → IsJoin run facts.position others.position j) (MeetsBoth facts others) _ _
+    ok_then (λ j. (run : Run) → IsJoin run facts.position others.position j) (MeetsBoth facts others) _ _
     (all_joins _ _ _ (λ run. position_joined run facts.position others.position m.falls m.saved)) (λ position j.
-    given_then (λ r. (n : ℕ) → IsAbove n facts.held others.held r) (MeetsBoth facts others) _ _
+    ok_then (λ r. (n : ℕ) → IsAbove n facts.held others.held r) (MeetsBoth facts others) _ _
     (all_above _ _ _ (λ n. value-join_of n facts.held others.held)) (λ held a.
-    given_then (AreAbove facts.texts others.texts) (MeetsBoth facts others) _ _
+    ok_then (AreAbove facts.texts others.texts) (MeetsBoth facts others) _ _
     (lengths_above facts.texts others.texts m.texts) (λ texts t.
     met facts others m p q pushes s position j held a texts t))))))

@@ -1,40 +1,27 @@
 -- C, R, J and L.
-use Rattle.std.proofs.Common.{◌≡◌, ℕ, zero, suc, ◌+◌, ◌-◌, ◌≤◌, arith, refl, ℤ, pos, negsuc, ◌+ℤ◌, ◌-ℤ◌, ◌≤ℤ◌, int_le}
-use Rattle.std.proofs.Common.{int_lt, unsigned_abs, min, length, Option, Some, None, Result, Ok, Err, is_ok, IfSome}
-use Rattle.std.proofs.Common.{IfOk, Bool, true, false, ◌||◌, cond, nat_le}
-use Rattle.std.specs.Prelude.{unwrap_or}
-use Rattle.std.proofs.lemmas.Int.{ints}
-use Rattle.std.proofs.lemmas.Bool.Decides.{nat_tests}
-use Rattle.teco_base.specs.declared.TheConstants.{LIMIT}
+use Rattle.teco_law_facts.proofs.Prelude.{◌≡◌, ℕ, zero, suc, ◌+◌, ◌-◌, ◌≤◌, arith, refl, ℤ, pos, negsuc, ◌+ℤ◌, ◌-ℤ◌}
+use Rattle.teco_law_facts.proofs.Prelude.{◌≤ℤ◌, int_le, int_lt, min, length, Option, Some, None, Result, Ok, Err}
+use Rattle.teco_law_facts.proofs.Prelude.{IfSome, IfOk, Bool, true, false, ◌||◌, cond, nat_le, unwrap_or, ints}
+use Rattle.teco_law_facts.proofs.Prelude.{nat_tests, LIMIT, Element, place_in, Kept, Taken, ok_then, KnownTaken, Run}
+use Rattle.teco_law_facts.proofs.Prelude.{IsWhole, Holds, IsTaken, IsOptional, fore_of, back_of, Facts, nowhere, Shift}
+use Rattle.teco_law_facts.proofs.Prelude.{moving, IsIn, IsWithin, IsPlaceIf, single, size, minus, least, IsValue}
+use Rattle.teco_law_facts.proofs.Prelude.{value_in, Refusal, Distances, Interval, Value, number}
+use Rattle.std.proofs.Common.{unsigned_abs, is_ok}
 use Rattle.teco_base.specs.Lines.{line_place}
 use Rattle.teco_model.specs.Effect.{with_answer}
-use Rattle.teco_model.specs.Element.{Element}
 use Rattle.teco_model.specs.Motion as model
-use Rattle.teco_model.specs.Places.{place_in}
-use Rattle.teco_model.specs.State.{Kept}
-use Rattle.teco_model.specs.declared.arguments.Taken.{Taken}
 use Rattle.teco_model.specs.declared.kind.Motion.{Motion}
 use Rattle.teco_model.specs.declared.kind.Motion.TheVariants.{Forward, Backward, To, Lines}
-use Rattle.teco_law_facts.proofs.Lines.{on_within, none_within, back_within}
+use Rattle.teco_model.proofs.Lines.{on_within, none_within, back_within}
 use Rattle.teco_law_facts.proofs.Numbers.{AreLeast, least_in, plus_in, minus_in, interval_of_in}
 use Rattle.teco_law_facts.proofs.Near.{distances}
 use Rattle.teco_law_facts.proofs.Shapes.{Shifts, Moves, IsDone, Foretells, shift_leads}
-use Rattle.teco_law_facts.proofs.Steps.{given_then}
 use Rattle.teco_law_facts.proofs.Leading.{leads_given}
-use Rattle.teco_verifier.specs.facts.Arguments.{KnownTaken}
-use Rattle.teco_law_facts.specs.Describes.{Run, IsWhole, Holds, IsTaken, IsOptional, fore_of, back_of}
-use Rattle.teco_verifier.specs.facts.Facts.{Facts, nowhere}
 use Rattle.teco_verifier.specs.facts.Motions as row
 use Rattle.teco_verifier.specs.facts.Shifts as shifts
-use Rattle.teco_verifier.specs.facts.Shifts.{Shift, moving}
-use Rattle.teco_verifier.specs.facts.Values.{IsIn, IsWithin, IsPlaceIf, single, size, pointer, minus, least}
-use Rattle.teco_verifier.specs.facts.Values.{distance_of, IsValue, value_in}
-use Rattle.teco_verifier.specs.declared.refusal.Refusal.{Refusal}
+use Rattle.teco_verifier.specs.facts.Values.{pointer}
+use Rattle.teco_verifier.specs.facts.Values.{distance_of}
 use Rattle.teco_verifier.specs.declared.refusal.Refusal.TheVariants as refusal
-use Rattle.teco_verifier.specs.declared.values.Distances.{Distances}
-use Rattle.teco_verifier.specs.declared.values.Interval.{Interval}
-use Rattle.teco_verifier.specs.declared.values.Value.{Value}
-use Rattle.teco_poly.specs.Polynomial.{number}
 
 -- ---- what may be absent
 pub or_single : (fore back : ℕ) (o : Option Value) (v : Option ℤ) (d : ℤ) → IsOptional (IsValue fore back) o v
@@ -86,9 +73,9 @@ module _ (run : Run) (facts : Facts) (unread : ℕ) (kept : Kept) (whole : IsWho
       let b = (distances run facts unread kept whole h).least in
       let from_end = minus_in size p (fore_of kept) (back_of kept) (pos (length kept.text)) z size_in i in
       let from_here = minus_in p pointer (fore_of kept) (back_of kept) z (pos kept.pointer) i pointer_in in
-      given_then (λ m. pos m ≤ℤ z) (IsPlaced z) _ _ (distance_at refusal.Place p facts.position.distances (fore_of kept)
+      ok_then (λ m. pos m ≤ℤ z) (IsPlaced z) _ _ (distance_at refusal.Place p facts.position.distances (fore_of kept)
       (back_of kept) z b i) (λ back low.
-      given_then (λ m. pos m ≤ℤ (pos (length kept.text) -ℤ z)) (IsPlaced z) _ _
+      ok_then (λ m. pos m ≤ℤ (pos (length kept.text) -ℤ z)) (IsPlaced z) _ _
       (distance_at refusal.Place (minus size p) facts.position.distances (fore_of kept) (back_of kept) _ b from_end)
       (λ fore high.
       record {

@@ -1,24 +1,20 @@
 -- The register that an element names is one of the 36.
-use Rattle.std.proofs.Common.{◌≡◌, ℕ, ◌<◌, ◌≤◌, arith, List, [], ◌∷◌, Option, Some, None, option_map, IfSome, Result}
-use Rattle.std.proofs.Common.{IfOk, Bool, true, false, cond, nat_le, ◌&&◌}
+use Rattle.teco_law_facts.proofs.Prelude.{◌≡◌, ℕ, ◌<◌, ◌≤◌, arith, List, [], ◌∷◌, Option, Some, None, option_map}
+use Rattle.teco_law_facts.proofs.Prelude.{IfSome, Result, IfOk, Bool, true, false, cond, nat_le, ◌&&◌, ⊤, nat_tests}
+use Rattle.teco_law_facts.proofs.Prelude.{REGISTERS, Code, letters, Kind, IsNamed}
 use Rattle.std.specs.Option.{option_or}
-use Rattle.std.specs.Prelude.{⊤, codes, option_and_then}
-use Rattle.std.proofs.lemmas.Bool.Decides.{nat_tests}
+use Rattle.std.specs.Prelude.{codes, option_and_then}
 use Rattle.teco_base.specs.Bytes.{is_among, to_upper, control}
 use Rattle.teco_base.specs.Register.{register_of}
-use Rattle.teco_base.specs.declared.TheConstants.{REGISTERS}
-use Rattle.teco_base.specs.declared.code.Code.{Code}
 use Rattle.teco_model.specs.Form.{kind_on}
 use Rattle.teco_model.specs.Letters as letter
-use Rattle.teco_model.specs.Letters.{letters}
 use Rattle.teco_model.specs.declared.head.Head.{Head}
 use Rattle.teco_model.specs.declared.head.Head.TheVariants as head
 use Rattle.teco_model.specs.declared.head.OnRegister.{OnRegister}
 use Rattle.teco_model.specs.declared.head.OnRegister.TheVariants as on_register
-use Rattle.teco_model.specs.declared.kind.Kind.{Kind}
 use Rattle.teco_model.proofs.Standing.{IsOfHead, found_read}
-use Rattle.teco_law_facts.proofs.Bytes.{of_either}
-use Rattle.teco_law_facts.specs.SoundSteps.{IsNamed, ElementsAreNamed}
+use Rattle.teco_model.proofs.Bytes.{of_either}
+use Rattle.teco_law_facts.specs.SoundSteps.{ElementsAreNamed}
 
 -- ---- heads
 abbrev IsPlain : Head → Type 0

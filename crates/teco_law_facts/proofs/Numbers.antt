@@ -1,19 +1,18 @@
 -- What is done with spans is true of the numbers in them.
-use Rattle.std.proofs.Common.{◌≡◌, ℕ, zero, suc, ℤ, pos, negsuc, ◌+ℤ◌, ◌-ℤ◌, ◌*ℤ◌, neg_ℤ, ◌≤ℤ◌, ◌≤◌, ◌+◌, ◌-◌, ◌^◌}
-use Rattle.std.proofs.Common.{arith, int_le, int_lt, Bool, true, false, ◌&&◌, ◌||◌, subst, FitsSigned, w32, IfSome}
-use Rattle.std.proofs.Common.{refl, sym, cond, Some, None}
+use Rattle.teco_law_facts.proofs.Prelude.{◌≡◌, ℕ, zero, suc, ℤ, pos, negsuc, ◌+ℤ◌, ◌-ℤ◌, ◌*ℤ◌, neg_ℤ, ◌≤ℤ◌, ◌≤◌, ◌+◌}
+use Rattle.teco_law_facts.proofs.Prelude.{◌-◌, arith, int_le, int_lt, Bool, true, false, ◌&&◌, ◌||◌, subst, FitsSigned}
+use Rattle.teco_law_facts.proofs.Prelude.{w32, IfSome, refl, sym, cond, Some, None, ints, clamps, SFits-int_wrap}
+use Rattle.teco_law_facts.proofs.Prelude.{int_min, int_max, in_32_bits, LIMIT, Value, Interval, Distances, IsIn}
+use Rattle.teco_law_facts.proofs.Prelude.{IsWithin, value_in, any_number, plus, minus, least, interval_of}
+use Rattle.teco_law_facts.proofs.Prelude.{kept_in_32_bits, interval_sum}
+use Rattle.std.proofs.Common.{◌^◌}
 use Rattle.std.proofs.Math.IntN.{*ℤ_comm, suc_ℤ-*ℤ, zero-*ℤ}
 use Rattle.std.proofs.Math.Nat.{mul-le-mul_right}
-use Rattle.std.proofs.lemmas.Int.{ints, clamps, int_wrap_fits, SFits-int_wrap}
-use Rattle.std.specs.Int.{int_min, int_max}
-use Rattle.teco_base.specs.Arithmetic.{in_32_bits, add, sub, mul}
-use Rattle.teco_base.specs.declared.TheConstants.{LIMIT}
-use Rattle.teco_verifier.specs.declared.values.Value.{Value}
-use Rattle.teco_verifier.specs.declared.values.Interval.{Interval}
-use Rattle.teco_verifier.specs.declared.values.Distances.{Distances}
-use Rattle.teco_verifier.specs.facts.Values.{IsIn, IsWithin, value_in, any_number, plus, minus, least, least_share}
-use Rattle.teco_verifier.specs.facts.Values.{most_share, interval_of, kept_in_32_bits, is_sign, is_linear}
-use Rattle.teco_verifier.specs.facts.Values.{interval_sum, interval_difference, sum, difference, interval_product}
+use Rattle.std.proofs.lemmas.Int.{int_wrap_fits}
+use Rattle.teco_base.specs.Arithmetic.{add, sub, mul}
+use Rattle.teco_verifier.specs.facts.Values.{least_share}
+use Rattle.teco_verifier.specs.facts.Values.{most_share, is_sign, is_linear}
+use Rattle.teco_verifier.specs.facts.Values.{interval_difference, sum, difference, interval_product}
 use Rattle.teco_verifier.specs.facts.Values.{product}
 
 pub scaled_sum : (n : ℕ) (a c : ℤ) → pos n *ℤ (a +ℤ c) ≡ pos n *ℤ a +ℤ pos n *ℤ c

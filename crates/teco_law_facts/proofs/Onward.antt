@@ -1,51 +1,37 @@
 -- Each element proceeds along its edges.
-use Rattle.std.proofs.Common.{ap, drop, ◌∙◌, ◌≡◌, ℕ, zero, suc, ◌+◌, ◌≤◌, arith, refl, sym, subst, ℤ, pos, negsuc}
-use Rattle.std.proofs.Common.{List, [], ◌∷◌, Bool, true, false, ◌||◌, nat_lt, Option, Some, None, IfSome, MatchOption}
-use Rattle.std.proofs.Common.{Result, Ok, Err, IfOk, inl, inr}
-use Rattle.std.proofs.lemmas.Bool.Decides.{nat_tests}
-use Rattle.teco_base.specs.declared.code.Code.{Code}
+use Rattle.teco_law_facts.proofs.Prelude.{ap, drop, ◌∙◌, ◌≡◌, ℕ, zero, suc, ◌+◌, ◌≤◌, arith, refl, sym, subst, ℤ, pos}
+use Rattle.teco_law_facts.proofs.Prelude.{negsuc, List, [], ◌∷◌, Bool, true, false, ◌||◌, Option, Some, None, IfSome}
+use Rattle.teco_law_facts.proofs.Prelude.{MatchOption, Result, Ok, Err, IfOk, inl, inr, nat_tests, Code, Output, Turn}
+use Rattle.teco_law_facts.proofs.Prelude.{After, settle, Met, Turned, unread_of, Finding, Found, Missed, Whole}
+use Rattle.teco_law_facts.proofs.Prelude.{readings, skip_of, Kept, World, Frame, State, Outcome, Taken, Loop, Flow}
+use Rattle.teco_law_facts.proofs.Prelude.{Kind, Search, Polynomial, Run, Describes, run_behind, Facts, Edges, Succeeds}
+use Rattle.teco_law_facts.proofs.Prelude.{Arrives, FitsOn, ArrivesOn, IsReached, ComesTo, Comes, answer_where}
+use Rattle.teco_law_facts.proofs.Prelude.{IsInBuffer, MissArrives, SearchArrives, finding, IsInPages, facts_seeking}
+use Rattle.teco_law_facts.proofs.Prelude.{IsSeeking, MissComes, LooksOn, Seeks, LeadsAhead, IsInside, KindStands}
+use Rattle.teco_law_facts.proofs.Prelude.{FlowStands, BeginsAt, GoesBehind, FlowGoes, KindEnds, Proceeds, Placed}
+use Rattle.teco_law_facts.proofs.Prelude.{transfer}
+use Rattle.std.proofs.Common.{nat_lt}
 use Rattle.teco_base.specs.declared.code.Code.TheVariants as code
 use Rattle.teco_model.specs.Arguments as model
-use Rattle.teco_model.specs.Files.{Output}
 use Rattle.teco_model.specs.Flow as flows
-use Rattle.teco_model.specs.Flow.{Turn}
-use Rattle.teco_model.specs.Checked.{◌>>=◌ as ◌>>>=◌}
+use Rattle.teco_model.specs.Checked.{◌>>=◌}
 use Rattle.teco_model.specs.Element as model_element
-use Rattle.teco_model.specs.Going.{After, Behind, Reply, replying, on_editor, settle}
+use Rattle.teco_model.specs.Going.{Behind, Reply, replying, on_editor}
 use Rattle.teco_model.specs.Paging as paging
-use Rattle.teco_model.specs.Paging.{Looked, Met, Turned, Through, unread_of}
+use Rattle.teco_model.specs.Paging.{Looked, Through}
 use Rattle.teco_model.specs.Search as searching
-use Rattle.teco_model.specs.Search.{Finding, Found, Missed}
 use Rattle.teco_model.specs.Searching as outcomes
-use Rattle.teco_model.specs.Ahead.{Whole, readings}
-use Rattle.teco_model.specs.Skip.{skip_of, skip_on, route_of}
-use Rattle.teco_model.specs.State.{Kept, World, Frame, State, Outcome}
+use Rattle.teco_model.specs.Skip.{skip_on, route_of}
 use Rattle.teco_model.specs.Step as stepping
-use Rattle.teco_model.specs.declared.arguments.Taken.{Taken}
-use Rattle.teco_model.specs.declared.flow.Loop.{Loop}
 use Rattle.teco_model.specs.declared.kind.Call.{Call}
-use Rattle.teco_model.specs.declared.kind.Flow.{Flow}
-use Rattle.teco_model.specs.declared.kind.Kind.{Kind}
 use Rattle.teco_model.specs.declared.kind.Kind.TheVariants as kind
-use Rattle.teco_model.specs.declared.kind.Search.{Search}
-use Rattle.teco_poly.specs.Polynomial.{Polynomial}
+use Rattle.teco_law_facts.proofs.Steps.{by_kind}
 use Rattle.teco_law_facts.proofs.Flowing.{others_are_sound}
-use Rattle.teco_law_facts.proofs.Going.{leads_at, ok_at, then_so, of_one, on_comes, goes_behind, flow_goes}
+use Rattle.teco_law_facts.proofs.Going.{leads_at, ok_at, then_so, of_one, arrives_comes, on_comes, goes_behind}
+use Rattle.teco_law_facts.proofs.Going.{flow_goes}
 use Rattle.teco_law_facts.proofs.Searching.{searches_are_sound}
 use Rattle.teco_law_facts.proofs.Seeking.{page_searches_are_sound}
-use Rattle.teco_law_facts.specs.Describes.{Run, Describes, run_behind}
-use Rattle.teco_verifier.specs.facts.Facts.{Facts}
-use Rattle.teco_verifier.specs.facts.Flows.{Edges}
-use Rattle.teco_law_facts.specs.SoundElements.{Succeeds, Arrives, FitsOn, ArrivesOn}
-use Rattle.teco_law_facts.specs.SoundFlow.{IsReached}
-use Rattle.teco_law_facts.specs.SoundPages.{ComesTo, Comes}
-use Rattle.teco_law_facts.specs.SoundSearches.{answer_where, IsInBuffer, MissArrives, SearchArrives, finding}
-use Rattle.teco_law_facts.specs.SoundSeeking.{IsInPages, facts_seeking, IsSeeking, ComesAway, MissComes, LooksOn}
-use Rattle.teco_law_facts.specs.SoundSeeking.{Seeks}
-use Rattle.teco_law_facts.specs.SoundSteps.{LeadsAhead, IsInside, KindStands, FlowStands, BeginsAt, GoesBehind}
-use Rattle.teco_law_facts.specs.SoundSteps.{FlowGoes, KindEnds, Proceeds}
-use Rattle.teco_verifier.specs.facts.Transfer as transfers
-use Rattle.teco_verifier.specs.facts.Transfer.{Placed, transfer}
+use Rattle.teco_law_facts.specs.SoundSeeking.{ComesAway}
 
 -- a search that counts as having no colon has none
 no_colons : (colons : ℕ) (leave : Bool) → (nat_lt 0 colons || leave) ≡ false → colons ≡ 0
@@ -72,18 +58,8 @@ answers_where false e frame = silent_within frame.loops e frame
 -- a call changes nothing
 call_held : (x : Placed) (facts : Facts) (c : Call) → x.element.kind ≡ kind.Call c
     → IfOk (transfer x facts) (λ edges. IfSome edges.on (λ next. next.held ≡ facts.held))
-unfolding transfer
 call_held x facts c e =
-    subst (λ k. IfOk (transfers.edges_of k x (transfers.answer_for k facts) (transfers.without_answer facts))
-    (λ edges. IfSome edges.on (λ next. next.held ≡ facts.held))) (sym e) refl
-
-away_comes : (run : Run) (held : Polynomial) (old : World) (kept : Kept) (arguments : model.Arguments)
-    (o : Option Facts) → MatchOption o ⊥
-    (λ next. Arrives run held (unread_of old) old.kept next (record { kept = kept; arguments = arguments }))
-    → MatchOption o ⊥ (λ next. ComesTo run held old next arguments (record old { kept = kept }))
-away_comes run held old kept arguments None h = h
-away_comes run held old kept arguments (Some next) h =
-    record { described = h.described; grown = omega (arith, h.grown) }
+    by_kind x facts _ (λ r. IfOk r (λ edges. IfSome edges.on (λ next. next.held ≡ facts.held))) e refl
 
 all_away : (run : Run) (held : Polynomial) (old : World) (kept : Kept) (o : Option Facts)
     → ((typed : List ℕ) → MatchOption o ⊥
@@ -93,7 +69,7 @@ all_away : (run : Run) (held : Polynomial) (old : World) (kept : Kept) (o : Opti
     → ComesTo run held old next model.no_arguments (record old { kept = record kept { typed = typed } }))
 all_away run held old kept None h = h []
 all_away run held old kept (Some next) h =
-    λ typed. away_comes run held old (record kept { typed = typed }) model.no_arguments (Some next) (h typed)
+    λ typed. arrives_comes run held old (record kept { typed = typed }) model.no_arguments (Some next) (h typed)
 
 with_typed : (run : Run) (held : Polynomial) (old new : World) (o : Option Facts)
     → MatchOption o ⊥ (λ next. (typed : List ℕ)
@@ -251,7 +227,7 @@ module _ (run : Run) (facts : Facts) (x : Placed) (edges : Edges) (s : State) (h
     finding_goes : (x.colon ≡ false → x.element.colons ≡ 0) → (r : Result Finding Code)
         → Succeeds (SearchArrives run facts.held u s.world.kept s.arguments x edges) r
         → Replies s.world s.arguments s.left
-        (r >>>= λ finding. Ok (outcomes.found x.element (outcomes.miss_where x.colon x.element frame) s.left rest
+        (r >>= λ finding. Ok (outcomes.found x.element (outcomes.miss_where x.colon x.element frame) s.left rest
         s.world finding))
     finding_goes z (Err c) g = absurd g
     finding_goes z (Ok (Found new)) g =
@@ -261,9 +237,9 @@ module _ (run : Run) (facts : Facts) (x : Placed) (edges : Edges) (s : State) (h
     -- the arguments are taken first
     taken_goes : (x.colon ≡ false → x.element.colons ≡ 0) → (r : Result Taken Code)
         → Succeeds (SearchArrives run facts.held u s.world.kept s.arguments x edges)
-        (r >>>= λ taken. searching.search q x.element taken s.world.kept) →
+        (r >>= λ taken. searching.search q x.element taken s.world.kept) →
         Replies s.world s.arguments s.left
-        (r >>>= λ taken. searching.search q x.element taken s.world.kept >>>= λ finding.
+        (r >>= λ taken. searching.search q x.element taken s.world.kept >>= λ finding.
         Ok (outcomes.found x.element (outcomes.miss_where x.colon x.element frame) s.left rest s.world finding))
     taken_goes z (Err c) g = absurd g
     taken_goes z (Ok taken) g = finding_goes z _ g
@@ -300,9 +276,9 @@ module _ (run : Run) (facts : Facts) (x : Placed) (edges : Edges) (s : State) (h
 
     first_goes : IsInPages q → unread_of s.world + 1 ≤ most → (r : Result Taken Code)
         → Succeeds (LooksOn run (facts_seeking facts) s.world s.arguments x edges s.world)
-        (r >>>= λ taken. paging.look_first q x.element taken s.world) →
+        (r >>= λ taken. paging.look_first q x.element taken s.world) →
         Replies s.world s.arguments s.left
-        (r >>>= λ taken. outcomes.looking (outcomes.miss_where x.colon x.element frame) rest
+        (r >>= λ taken. outcomes.looking (outcomes.miss_where x.colon x.element frame) rest
         (paging.look_first q x.element taken s.world))
     first_goes p b (Err c) g = absurd g
     first_goes p b (Ok taken) g = looked_goes p s.world s.arguments s.left b _ g

@@ -1,38 +1,23 @@
 -- A, P and PW proceed along their edges.
-use Rattle.std.proofs.Common.{◌≡◌, ℕ, zero, suc, ◌+◌, ◌-◌, ◌≤◌, arith, refl, sym, subst, ℤ, pos, negsuc, ◌≤ℤ◌, List}
-use Rattle.std.proofs.Common.{Option, Some, None, MatchOption, ok_or, Result, Ok, Err, IfOk, inl, inr}
-use Rattle.std.specs.Prelude.{⊤, unwrap_or}
-use Rattle.std.proofs.lemmas.Int.{ints}
-use Rattle.teco_base.specs.declared.code.Code.{Code}
-use Rattle.teco_base.specs.declared.code.Code.TheVariants as code
+use Rattle.teco_law_facts.proofs.Prelude.{◌≡◌, ℕ, zero, suc, ◌+◌, ◌≤◌, arith, refl, sym, subst, ℤ, pos, negsuc, ◌≤ℤ◌}
+use Rattle.teco_law_facts.proofs.Prelude.{List, Option, Some, None, MatchOption, Result, Ok, Err, IfOk, inl, inr, ⊤}
+use Rattle.teco_law_facts.proofs.Prelude.{unwrap_or, ints, Code, Input, Output, settle, first_page, unread_of, World}
+use Rattle.teco_law_facts.proofs.Prelude.{State, Outcome, Next, Taken, Page, Polynomial, value, ok_any, ok_then, Run}
+use Rattle.teco_law_facts.proofs.Prelude.{Facts, Edges, steps, Succeeds, FitsOn, ComesTo, Comes, TurnsPages, Appends}
+use Rattle.teco_law_facts.proofs.Prelude.{PagesAtMost, IsTurnOrWrite, BeginsAt, IsUnderway, Proceeds, Placed, transfer}
 use Rattle.teco_model.specs.Arguments as model
-use Rattle.teco_model.specs.Checked.{◌>>=◌ as ◌>>>=◌}
-use Rattle.teco_model.specs.Files.{Input, Output}
-use Rattle.teco_model.specs.Going.{settle}
+use Rattle.teco_model.specs.Checked.{◌>>=◌}
 use Rattle.teco_model.specs.Outside as outside
-use Rattle.teco_model.specs.Pages.{first_page}
 use Rattle.teco_model.specs.Paging as paging
-use Rattle.teco_model.specs.Paging.{Progress, unread_of}
+use Rattle.teco_model.specs.Paging.{Progress}
 use Rattle.teco_model.specs.Places.{text_between}
-use Rattle.teco_model.specs.State.{World, State, Outcome, Next}
-use Rattle.teco_model.specs.declared.arguments.Taken.{Taken}
 use Rattle.teco_model.specs.declared.kind.Kind.TheVariants as kind
-use Rattle.teco_model.specs.declared.kind.Page.{Page}
 use Rattle.teco_model.specs.declared.kind.Page.TheVariants as page
-use Rattle.teco_poly.specs.Polynomial.{Polynomial, value}
-use Rattle.teco_law_facts.proofs.Bytes.{ok_then, ok_any}
 use Rattle.teco_law_facts.proofs.Going.{leads_at, then_so, so_far, on_comes}
+use Rattle.teco_law_facts.proofs.Leading.{succeeds_with}
 use Rattle.teco_law_facts.proofs.Paging.{appends_are_sound, page_turns_are_sound, page_writes_are_sound}
 use Rattle.teco_law_facts.proofs.Seeking.{written_out}
 use Rattle.teco_law_facts.proofs.Steppings.{page_steps_are_bounded}
-use Rattle.teco_law_facts.specs.Describes.{Run}
-use Rattle.teco_verifier.specs.facts.Facts.{Facts}
-use Rattle.teco_verifier.specs.facts.Flows.{Edges}
-use Rattle.teco_verifier.specs.facts.Printed.{steps}
-use Rattle.teco_law_facts.specs.SoundElements.{Succeeds, FitsOn}
-use Rattle.teco_law_facts.specs.SoundPages.{ComesTo, Comes, TurnsPages, Appends, PagesAtMost, IsTurnOrWrite}
-use Rattle.teco_law_facts.specs.SoundSteps.{BeginsAt, Proceeds}
-use Rattle.teco_verifier.specs.facts.Transfer.{Placed, transfer}
 
 -- an output is open
 abbrev pub IsOpen : World → Type 0
@@ -66,7 +51,7 @@ one_left page world o k most n first some few none =
     (λ done i. record { fewer = omega arith; alone = λ more. none; output = i }))
 
 counted_left : (page : World → Result World Code) (world : World) → IsOpen world → IfOk (page world) IsOpen
-    → (most : ℕ) (z : ℤ) → z ≤ℤ pos most → IfOk (paging.page_count z >>>= λ n. paging.one_page_of page n world)
+    → (most : ℕ) (z : ℤ) → z ≤ℤ pos most → IfOk (paging.page_count z >>= λ n. paging.one_page_of page n world)
     (IsLeft most None)
 counted_left page world o k most (pos zero) l = tt
 counted_left page world o k most (pos (suc n)) l =
@@ -107,7 +92,7 @@ module _ (run : Run) (facts : Facts) (x : Placed) (edges : Edges) (s : State) (h
   abbrev from : World → model.Arguments → Option ℕ → State
   from world arguments left = record s { world = world; arguments = arguments; left = left }
 
-  abbrev ComesBehind : World → Type 0
+  abbrev pub ComesBehind : World → Type 0
   ComesBehind new = Comes run facts.held s.world (model.levels_after_taking s.arguments) edges new
 
   module _ (p : Page) where
@@ -145,58 +130,71 @@ module _ (run : Run) (facts : Facts) (x : Placed) (edges : Edges) (s : State) (h
         },
       )
 
-    module _ (turns : IsTurnOrWrite p) (page : World → Result World Code) (opens : (world : World) → IsOpen world
-        → IfOk (page world) IsOpen) (o : IsOpen s.world) where
-      first_pages : (most : ℕ) (r : Result Taken Code) → model.arguments_of s.arguments.level ≡ r
-          → IfOk r (λ (taken : Taken). (m : ℤ) → taken.first ≡ Some m → taken.value ≡ None → ⊥)
-          → Succeeds (λ (taken : Taken). PagesAtMost most taken.first taken.value) r
-          → Succeeds (λ (taken : Taken). Succeeds (λ (done : Progress). ComesBehind done.world)
-          (paging.pages page taken s.world)) r
-          → Goes most (settle x.element s (r >>>= λ taken. outside.in_pages rest (paging.pages page taken s.world)))
-      first_pages most (Err c) e w b g = absurd g
-      first_pages most (Ok taken) e w b g =
-          progress_goes turns most taken e s.world s.arguments s.left (paging.pages page taken s.world)
-          (ok_any (IsLeft most taken.first) (paging.needed_output s.world) _
-          (λ output. pages_left page s.world o (opens s.world o) most taken.first taken.value b w)) g
+  -- The first step of P or PW does a page, or a part, and each later step does the next page.
+  abbrev pub Begins : (World → Result World Code) → Taken → Type 0
+  Begins page taken = Succeeds (λ (done : Progress). ComesBehind done.world) (paging.pages page taken s.world)
 
-      well_taken : IfOk (model.arguments_of s.arguments.level) (λ (taken : Taken). (m : ℤ) → taken.first ≡ Some m
-          → taken.value ≡ None → ⊥)
-      well_taken = ok_any (λ (taken : Taken). (m : ℤ) → taken.first ≡ Some m → taken.value ≡ None → ⊥)
-          (model.final_value s.arguments.level) (λ value. model.arguments_from s.arguments.level.first value)
-          (taken_both s.arguments.level.first)
+  pub record RepeatsPage (page : World → Result World Code) : Type 0 where
+    pub opens : (world : World) → IsOpen world → IfOk (page world) IsOpen
+    pub begins : Succeeds (Begins page) (model.arguments_of s.arguments.level)
+    pub more : (taken : Taken) → model.arguments_of s.arguments.level ≡ Ok taken → taken.first ≡ None
+        → (now : World) → ComesBehind now → Succeeds ComesBehind (page now)
 
-      pages_proceed : (most : Polynomial) → steps (kind.Page p) facts ≡ Ok most
-          → Succeeds (λ (taken : Taken). Succeeds (λ (done : Progress). ComesBehind done.world)
-          (paging.pages page taken s.world)) (model.arguments_of s.arguments.level)
-          → Goes (value most run.n) (settle x.element s (outside.pages_reply page s.left s.arguments s.world))
-      pages_proceed most m g =
-          subst (λ left. Goes (value most run.n)
-          (settle x.element s (outside.pages_reply page left s.arguments s.world))) (sym h.left)
-          (first_pages (value most run.n) _ refl well_taken
-          (leads_at (λ most. ⊤) (λ most (taken : Taken). PagesAtMost (value most run.n) taken.first taken.value)
-          (steps (kind.Page p) facts) (model.arguments_of s.arguments.level) most m tt
-          (page_steps_are_bounded run facts (unread_of s.world) s.world.kept s.arguments p h.whole.world.kept
-          h.described turns)) g)
+  module _ (p : Page) (page : World → Result World Code) (turns : IsTurnOrWrite p) (o : IsOpen s.world)
+      (r : RepeatsPage page) where
+    well_taken : IfOk (model.arguments_of s.arguments.level) (λ (taken : Taken). (m : ℤ) → taken.first ≡ Some m
+        → taken.value ≡ None → ⊥)
+    well_taken = ok_any (λ (taken : Taken). (m : ℤ) → taken.first ≡ Some m → taken.value ≡ None → ⊥)
+        (model.final_value s.arguments.level) (λ value. model.arguments_from s.arguments.level.first value)
+        (taken_both s.arguments.level.first)
 
-      page_later : (most : ℕ) (taken : Taken) → model.arguments_of s.arguments.level ≡ Ok taken → taken.first ≡ None
-          → 1 ≤ most → (now : World) → IsOpen now → Succeeds ComesBehind (page now) → (left : Option ℕ)
-          → Goes most (settle x.element (at now left) (outside.in_pages rest (paging.one_page_of page most now)))
-      page_later most taken w none some now k g left =
-          progress_goes turns most taken w now rest left _
-          (one_left page now k (opens now k) most most taken.first some (omega arith) none)
-          (by_output now.files.output k.1) where
-            by_output : (out : Option Output) → out ≡ Some k.0
-                → Succeeds (λ (done : Progress). ComesBehind done.world) (ok_or out code.Nfo >>>= λ output.
-                page now >>>= λ done. Ok (record { world = done; left = most - 1 }))
-            by_output None e = absurd (cc)
-            by_output (Some q) e = then_so ComesBehind (λ (done : Progress). ComesBehind done.world) (page now) _ g
-                (λ done w c. c)
+    first_pages : (most : ℕ) (c : Result Taken Code) → model.arguments_of s.arguments.level ≡ c
+        → IfOk c (λ (taken : Taken). (m : ℤ) → taken.first ≡ Some m → taken.value ≡ None → ⊥)
+        → Succeeds (λ (taken : Taken). PagesAtMost most taken.first taken.value) c → Succeeds (Begins page) c
+        → Goes p most (settle x.element s (c >>= λ taken. outside.in_pages rest (paging.pages page taken s.world)))
+    first_pages most (Err c) e w b g = absurd g
+    first_pages most (Ok taken) e w b g =
+        progress_goes p turns most taken e s.world s.arguments s.left (paging.pages page taken s.world)
+        (ok_any (IsLeft most taken.first) (paging.needed_output s.world) _
+        (λ output. pages_left page s.world o (r.opens s.world o) most taken.first taken.value b w)) g
 
-  turns_known : x.element.kind ≡ kind.Page page.Next → IsOpen s.world
-      → Succeeds (λ (taken : Taken). TurnsPages run facts.held s.world s.arguments edges taken.first taken.value)
-      (model.arguments_of s.arguments.level)
-  turns_known e (output, o) = leads_at (FitsOn run.n) _ (transfer x facts) (model.arguments_of s.arguments.level) edges
-      t fits (page_turns_are_sound run facts s.world s.arguments x output h.whole.world.kept h.described e o)
+    pub pages_proceed : (most : Polynomial) → steps (kind.Page p) facts ≡ Ok most
+        → Goes p (value most run.n) (settle x.element s (outside.pages_reply page s.left s.arguments s.world))
+    pages_proceed most m =
+        subst (λ left. Goes p (value most run.n)
+        (settle x.element s (outside.pages_reply page left s.arguments s.world))) (sym h.left)
+        (first_pages (value most run.n) _ refl well_taken
+        (leads_at (λ most. ⊤) (λ most (taken : Taken). PagesAtMost (value most run.n) taken.first taken.value)
+        (steps (kind.Page p) facts) (model.arguments_of s.arguments.level) most m tt
+        (page_steps_are_bounded run facts (unread_of s.world) s.world.kept s.arguments p h.whole.world.kept
+        h.described turns)) r.begins)
+
+    pub pages_again : (rest : ℕ) (now : World) (left : Option ℕ)
+        → IsUnderway (kind.Page p) run facts x edges s rest (at now left)
+        → Goes p rest (settle x.element (at now left)
+        (outside.pages_reply page left (model.levels_after_taking s.arguments) now))
+    pages_again rest now left i =
+        let w = i.work in let k = w.3 in
+        subst (λ l. Goes p rest (settle x.element (at now left)
+        (outside.pages_reply page l (model.levels_after_taking s.arguments) now))) (sym w.1)
+        (progress_goes p turns rest k.0 k.1 now (model.levels_after_taking s.arguments) left _
+        (one_left page now i.output (r.opens now i.output) rest rest k.0.first i.some (omega arith) k.2)
+        (succeeds_with (λ (done : Progress). ComesBehind done.world) now.files.output i.output.0 _ _ i.output.1
+        (λ q. then_so ComesBehind (λ (done : Progress). ComesBehind done.world) (page now) _
+        (r.more k.0 k.1 k.2 now w.2) (λ done w c. c))))
+
+  abbrev Turns : Taken → Type 0
+  Turns taken = TurnsPages run facts.held s.world s.arguments edges taken.first taken.value
+
+  pub turns_repeat : x.element.kind ≡ kind.Page page.Next → IsOpen s.world → RepeatsPage paging.page_turned
+  turns_repeat e (output, o) = record {
+    opens = turned_open;
+    begins = so_far Turns (Begins paging.page_turned) _ (λ taken i. i.begins) known;
+    more = λ taken w none now c. let i : Turns taken = subst (λ c. Succeeds Turns c) w known in i.more now none c;
+  } where
+    known : Succeeds Turns (model.arguments_of s.arguments.level)
+    known = leads_at (FitsOn run.n) _ (transfer x facts) (model.arguments_of s.arguments.level) edges t fits
+        (page_turns_are_sound run facts s.world s.arguments x output h.whole.world.kept h.described e o)
 
   -- what is written changes nothing that is known
   writes_stay : (bytes : List ℕ) (now : World) (o : Option Facts)
@@ -206,47 +204,13 @@ module _ (run : Run) (facts : Facts) (x : Placed) (edges : Edges) (s : State) (h
   writes_stay bytes now None c = c
   writes_stay bytes now (Some next) c = record { described = c.described; grown = c.grown }
 
-  pub turn_proceeds : (most : Polynomial) → steps (kind.Page page.Next) facts ≡ Ok most
-      → x.element.kind ≡ kind.Page page.Next → IsOpen s.world
-      → Proceeds (kind.Page page.Next) run facts x edges s (value most run.n)
-      (settle x.element s (outside.pages_reply paging.page_turned s.left s.arguments s.world))
-  turn_proceeds most m e o = pages_proceed page.Next tt paging.page_turned turned_open o most m
-      (so_far (λ (taken : Taken). TurnsPages run facts.held s.world s.arguments edges taken.first taken.value)
-      (λ (taken : Taken). Succeeds (λ (done : Progress). ComesBehind done.world)
-      (paging.pages paging.page_turned taken s.world)) (model.arguments_of s.arguments.level) (λ taken i. i.begins)
-      (turns_known e o))
-
-  pub write_proceeds : (most : Polynomial) → steps (kind.Page page.Write) facts ≡ Ok most
-      → x.element.kind ≡ kind.Page page.Write → IsOpen s.world
-      → Proceeds (kind.Page page.Write) run facts x edges s (value most run.n)
-      (settle x.element s (outside.pages_reply paging.page_written s.left s.arguments s.world))
-  write_proceeds most m e (output, o) = pages_proceed page.Write tt paging.page_written written_open (output, o) most m
-      (leads_at (FitsOn run.n) _ (transfer x facts) (model.arguments_of s.arguments.level) edges t fits
-      (page_writes_are_sound run facts s.world s.arguments x output h.whole.world.kept h.described e o))
-
-  pub turn_again : (most : ℕ) → x.element.kind ≡ kind.Page page.Next → IsOpen s.world → (taken : Taken)
-      → model.arguments_of s.arguments.level ≡ Ok taken → taken.first ≡ None → 1 ≤ most → (now : World) → IsOpen now
-      → ComesBehind now → (left : Option ℕ)
-      → Proceeds (kind.Page page.Next) run facts x edges s most
-      (settle x.element (at now left) (outside.in_pages rest (paging.one_page_of paging.page_turned most now)))
-  turn_again most e o taken w none some now k c left =
-      page_later page.Next tt paging.page_turned turned_open o most taken w none some now k
-      (at_taken (model.arguments_of s.arguments.level) w (turns_known e o)) left where
-        at_taken : (r : Result Taken Code) → r ≡ Ok taken
-            → Succeeds (λ (taken : Taken). TurnsPages run facts.held s.world s.arguments edges taken.first taken.value)
-            r
-            → Succeeds ComesBehind (paging.page_turned now)
-        at_taken (Err c) q i = absurd i
-        at_taken (Ok other) q i = let same : other ≡ taken = cc in
-            i.more now (subst (λ (t : Taken). t.first ≡ None) (sym same) none) c
-
-  pub write_again : (most : ℕ) → IsOpen s.world → (taken : Taken) → model.arguments_of s.arguments.level ≡ Ok taken
-      → taken.first ≡ None → 1 ≤ most → (now : World) → IsOpen now → ComesBehind now → (left : Option ℕ)
-      → Proceeds (kind.Page page.Write) run facts x edges s most
-      (settle x.element (at now left) (outside.in_pages rest (paging.one_page_of paging.page_written most now)))
-  write_again most o taken w none some now k c left =
-      page_later page.Write tt paging.page_written written_open o most taken w none some now k
-      (writes_stay _ now edges.on c) left
+  pub writes_repeat : x.element.kind ≡ kind.Page page.Write → IsOpen s.world → RepeatsPage paging.page_written
+  writes_repeat e (output, o) = record {
+    opens = written_open;
+    begins = leads_at (FitsOn run.n) _ (transfer x facts) (model.arguments_of s.arguments.level) edges t fits
+        (page_writes_are_sound run facts s.world s.arguments x output h.whole.world.kept h.described e o);
+    more = λ taken w none now c. writes_stay _ now edges.on c;
+  }
 
   -- ---- A
   abbrev Adds : ℕ → Outcome → Type 0
@@ -275,14 +239,14 @@ module _ (run : Run) (facts : Facts) (x : Placed) (edges : Edges) (s : State) (h
   append_taken : (most : ℕ) → 1 ≤ most → (r : Result Taken Code)
       → Succeeds (λ (taken : Taken). taken.value ≡ None → (input : Input) × (s.world.files.input ≡ Some input)) r
       → Succeeds (Appends run facts.held s.world s.arguments edges) r
-      → Adds most (settle x.element s (r >>>= λ taken. outside.append_reply taken.value s.left rest s.world))
+      → Adds most (settle x.element s (r >>= λ taken. outside.append_reply taken.value s.left rest s.world))
   append_taken most some (Err c) ready g = absurd g
   append_taken most some (Ok taken) ready g = append_by most some taken taken.value ready g
 
   pub append_proceeds : (most : ℕ) → 1 ≤ most → x.element.kind ≡ kind.Page page.Append
       → Succeeds (λ (taken : Taken). taken.value ≡ None → (input : Input) × (s.world.files.input ≡ Some input))
       (model.arguments_of s.arguments.level)
-      → Adds most (settle x.element s (model.arguments_of s.arguments.level >>>= λ taken.
+      → Adds most (settle x.element s (model.arguments_of s.arguments.level >>= λ taken.
       outside.append_reply taken.value s.left rest s.world))
   append_proceeds most some e ready =
       append_taken most some _ ready (leads_at (FitsOn run.n) _ (transfer x facts)

@@ -1,57 +1,40 @@
 -- A, P and PW.
-use Rattle.std.proofs.Common.{◌≡◌, ℕ, suc, ◌+◌, ◌≤◌, arith, refl, sym, subst, ap, ℤ, pos, ◌≤ℤ◌, int_le, List, [], ◌∷◌}
-use Rattle.std.proofs.Common.{◌++◌, length, length-append, Bool, true, false, cond, nat_le, ◌==◌, Option, Some, None}
-use Rattle.std.proofs.Common.{option_map, Result, Ok, Err, IfOk, MatchOption, ok_or}
-use Rattle.std.specs.Prelude.{unwrap_or, ⊤}
-use Rattle.std.specs.Option.{option_map_or}
-use Rattle.std.proofs.lemmas.Int.{ints}
-use Rattle.std.proofs.lemmas.Bool.Decides.{nat_tests}
-use Rattle.teco_base.specs.declared.TheConstants.{LIMIT, REGISTERS}
-use Rattle.teco_base.specs.declared.bytes.TheConstants.{FF}
-use Rattle.teco_base.specs.declared.code.Code.{Code}
+use Rattle.teco_law_facts.proofs.Prelude.{◌≡◌, ℕ, suc, ◌+◌, ◌-◌, ◌≤◌, arith, refl, sym, subst, ap, ℤ, pos, ◌≤ℤ◌, int_le}
+use Rattle.teco_law_facts.proofs.Prelude.{List, [], ◌∷◌, ◌++◌, length, length-append, Bool, true, false, cond, nat_le}
+use Rattle.teco_law_facts.proofs.Prelude.{◌==◌, Option, Some, None, option_map, Result, Ok, Err, IfOk, MatchOption}
+use Rattle.teco_law_facts.proofs.Prelude.{ok_or, unwrap_or, option_map_or, ints, nat_tests, LIMIT, REGISTERS, FF, Code}
+use Rattle.teco_law_facts.proofs.Prelude.{Taken, part_named, Part, Placed, transfer, Page, after, KnownTaken, ◌>>=◌}
+use Rattle.teco_law_facts.proofs.Prelude.{count_of, IsWithin, IsValue, Value, Edges, facts_taken, Refusal, Input}
+use Rattle.teco_law_facts.proofs.Prelude.{Output, behind_form_feed, first_page, unread, unread_of, Kept, World}
+use Rattle.teco_law_facts.proofs.Prelude.{Polynomial, value, number, Run, IsWhole, Holds, Describes, IsTaken}
+use Rattle.teco_law_facts.proofs.Prelude.{IsOptional, ArePending, fore_of, back_of, Facts, nowhere, none_saved, moving}
+use Rattle.teco_law_facts.proofs.Prelude.{ending, facts_behind, Foreseen, facts_answered, silent, Succeeds, Leads}
+use Rattle.teco_law_facts.proofs.Prelude.{FitsOn, Arrives, ComesTo, Comes, TurnsPages, Appends, Distances}
 use Rattle.teco_base.specs.declared.code.Code.TheVariants as code
 use Rattle.teco_model.specs.Arguments as arguments
-use Rattle.teco_model.specs.declared.arguments.Taken.{Taken}
-use Rattle.teco_model.specs.Places.{part_named, characters_of}
-use Rattle.teco_model.specs.declared.pattern.Span.{Span as Part}
+use Rattle.teco_law_facts.proofs.Steps.{by_kind}
 use Rattle.teco_law_facts.proofs.Parts as Parts
 use Rattle.teco_law_facts.proofs.Searching.{succeeds_then, of_count}
 use Rattle.teco_verifier.specs.facts.Pages as row
-use Rattle.teco_verifier.specs.facts.Transfer.{transfer}
+use Rattle.teco_verifier.specs.facts.Typings as typings
+use Rattle.teco_model.specs.declared.kind.Page.TheVariants as page
+use Rattle.teco_model.specs.declared.kind.Kind.TheVariants as kind
 use Rattle.teco_model.specs.Character.{character}
-use Rattle.teco_model.specs.Going.{after}
 use Rattle.teco_law_facts.proofs.Flowing.{taken_are, taking_is}
 use Rattle.teco_law_facts.proofs.Near.{distances}
 use Rattle.teco_law_facts.proofs.Pending.{settled_are}
-use Rattle.teco_law_facts.proofs.Steps.{Covers}
+use Rattle.teco_law_facts.proofs.Leading.{taken_lead, succeeds_with}
 use Rattle.teco_law_facts.proofs.Transfers.{pending_again, without_answer}
 use Rattle.teco_verifier.specs.facts.Arguments as known
-use Rattle.teco_verifier.specs.facts.Arguments.{KnownTaken}
-use Rattle.teco_verifier.specs.facts.Attempt.{◌>>=◌}
-use Rattle.teco_verifier.specs.facts.Motions.{count_of}
-use Rattle.teco_verifier.specs.facts.Values.{IsWithin, IsValue}
-use Rattle.teco_verifier.specs.declared.values.Value.{Value}
 use Rattle.teco_verifier.specs.declared.refusal.Refusal.TheVariants as refusal
-use Rattle.teco_verifier.specs.facts.Flows.{Edges, facts_taken}
 use Rattle.teco_verifier.specs.facts.Transfer as transfers
-use Rattle.teco_verifier.specs.declared.refusal.Refusal.{Refusal}
-use Rattle.teco_model.specs.Checked.{◌>>=◌ as ◌>>>=◌}
-use Rattle.teco_model.specs.Files.{Input, Output, Files}
-use Rattle.teco_model.specs.Pages.{before_form_feed, behind_form_feed, first_page, behind_first_page, written_page}
+use Rattle.teco_model.specs.Files.{Files}
+use Rattle.teco_model.specs.Pages.{before_form_feed, behind_first_page, written_page}
 use Rattle.teco_model.specs.Paging as model
-use Rattle.teco_model.specs.Paging.{unread, unread_of}
-use Rattle.teco_model.specs.State.{Kept, World}
-use Rattle.teco_poly.specs.Polynomial.{Polynomial, value, number}
 use Rattle.teco_law_facts.proofs.Saved.{Widens, none_again, saved_after_are}
 use Rattle.teco_law_facts.proofs.Shapes.{ahead_most, value-sum_of, falls_after}
-use Rattle.teco_law_facts.specs.Describes.{Run, IsWhole, Holds, Describes, IsTaken, IsOptional, ArePending, fore_of}
-use Rattle.teco_law_facts.specs.Describes.{back_of}
-use Rattle.teco_verifier.specs.facts.Facts.{Facts, nowhere, none_saved}
-use Rattle.teco_verifier.specs.facts.Shifts.{moving, ending, facts_behind, Foreseen, facts_answered, silent}
-use Rattle.teco_law_facts.specs.SoundElements.{Succeeds, Leads, FitsOn, Arrives}
-use Rattle.teco_law_facts.specs.SoundPages.{ComesTo, Comes, TurnsPages, Appends, AppendsAreSound, PageTurnsAreSound}
+use Rattle.teco_law_facts.specs.SoundPages.{AppendsAreSound, PageTurnsAreSound}
 use Rattle.teco_law_facts.specs.SoundPages.{PageWritesAreSound}
-use Rattle.teco_verifier.specs.declared.values.Distances.{Distances}
 use Rattle.teco_law_facts.proofs.Asking.{code_value}
 use Rattle.teco_law_facts.proofs.Bodies.{falls_carried}
 
@@ -112,9 +95,9 @@ turned_world world = model.world_after_writing (written_page (model.page_of_buff
 pub turned_to : (world : World) (b : Bool) → nat_le (length (before_form_feed (unread world.files))) LIMIT ≡ b
     → length (before_form_feed (unread world.files)) ≤ LIMIT → (P : World → Type 0) → P (turned_world world)
     → Succeeds P
-    (((cond b (Ok (before_form_feed (unread world.files))) (Err code.Ful) >>>= λ text.
-    Ok (model.kept_with_page (first_page (unread world.files)) world.kept)) >>>= λ kept.
-    Ok (record { kept = kept; files = model.files_behind_page world.files })) >>>= λ turned.
+    (((cond b (Ok (before_form_feed (unread world.files))) (Err code.Ful) >>= λ text.
+    Ok (model.kept_with_page (first_page (unread world.files)) world.kept)) >>= λ kept.
+    Ok (record { kept = kept; files = model.files_behind_page world.files })) >>= λ turned.
     Ok (model.world_after_writing (written_page (model.page_of_buffer world.kept)) turned))
 turned_to world true e short P h = h
 turned_to world false e short P h = absurd (grind (arith, nat_tests))
@@ -166,15 +149,6 @@ module _ (run : Run) (facts : Facts) (world : World) (h : Holds run facts (unrea
       }
 
 -- ---- the laws
-taking_leads : (L : Edges → Type 0) (Q : Edges → Taken → Type 0) (T : Facts) (act : KnownTaken
-    → Result Foreseen Refusal) (P : KnownTaken → Taken → Type 0) (r : Result KnownTaken Refusal) (c : Result Taken Code)
-    → Covers P r c → ((k : KnownTaken) (t : Taken) → P k t
-    → Leads L Q (transfers.on (act k >>= λ known. Ok (facts_answered known))) (Ok t))
-    → Leads L Q (transfers.on (r >>= λ k. act k >>= λ known. Ok (facts_answered known))) c
-taking_leads L Q T act P (Ok k) (Ok t) h g = g k t h
-taking_leads L Q T act P (Ok k) (Err e) h g = absurd h
-taking_leads L Q T act P (Err e) c h g = tt
-
 module _ (run : Run) (facts : Facts) (world : World) (pending : arguments.Arguments) (whole : IsWhole world.kept)
     (d : Describes run facts (unread_of world) world.kept pending) where
   abbrev taking : Facts
@@ -193,40 +167,39 @@ module _ (run : Run) (facts : Facts) (world : World) (pending : arguments.Argume
       (back_of world.kept) fore back (distances run facts (unread_of world) world.kept whole d.state) w taking.arguments
       (arguments.levels_after_taking pending) own_is
 
+  -- what is known describes a world behind the element
+  abbrev Behind : Facts → World → Type 0
+  Behind next now = ComesTo run facts.held world next (arguments.levels_after_taking pending) now
+
+  abbrev DoneBehind : Facts → model.Progress → Type 0
+  DoneBehind next done = Behind next done.world
+
   -- a page that is turned, and what is known behind it
   abbrev page_behind : Polynomial → Facts
   page_behind held = facts_answered (silent (facts_behind (ending (moving nowhere (Some (pos 0)))) held taking))
 
   module _ (held : Polynomial) (e : value held run.n ≡ value facts.held run.n + value (number 0) run.n)
       (fits : value held run.n ≤ LIMIT) where
-    page_comes : ComesTo run facts.held world (page_behind held) (arguments.levels_after_taking pending)
-        (turned_world world)
-    page_comes = record {
-      described = record {
-        state = pending_again run _ _ _ (turned_holds run taking world taking_holds held e whole.count) _;
-        pending = settled_at true (fore_of (turned_world world).kept) (back_of (turned_world world).kept)
-            (λ e. absurd (cc));
-        answers = tt;
-      };
-      grown = let t = turned_less run taking world taking_holds held e in omega (arith, e);
-    }
-
-    page_succeeds : Succeeds (ComesTo run facts.held world (page_behind held) (arguments.levels_after_taking pending))
-        (model.page_turned world)
+    page_succeeds : Succeeds (Behind (page_behind held)) (model.page_turned world)
     page_succeeds = turned_to world _ refl (turned_short run taking world taking_holds held e fits)
-        (ComesTo run facts.held world (page_behind held) (arguments.levels_after_taking pending)) page_comes
+        (Behind (page_behind held)) (record {
+          described = record {
+            state = pending_again run _ _ _ (turned_holds run taking world taking_holds held e whole.count) _;
+            pending = settled_at true (fore_of (turned_world world).kept) (back_of (turned_world world).kept)
+                (λ e. absurd (cc));
+            answers = tt;
+          };
+          grown = let t = turned_less run taking world taking_holds held e in omega (arith, e);
+        })
 
     -- each page that follows
-    page_again : (later : World) → ComesTo run facts.held world (page_behind held)
-        (arguments.levels_after_taking pending) later
-        → Succeeds (ComesTo run facts.held world (page_behind held) (arguments.levels_after_taking pending))
-        (model.page_turned later)
+    page_again : (later : World) → Behind (page_behind held) later
+        → Succeeds (Behind (page_behind held)) (model.page_turned later)
     page_again later c =
         let h = c.described.state in
         let p = page_short (unread later.files) in
         let r = again_rest run (page_behind held) later h refl refl in
-        turned_to later _ refl (omega (arith, p, h.held, fits))
-        (ComesTo run facts.held world (page_behind held) (arguments.levels_after_taking pending)) (record {
+        turned_to later _ refl (omega (arith, p, h.held, fits)) (Behind (page_behind held)) (record {
           described = record {
             state = again_holds run (page_behind held) later h refl refl;
             pending = settled_at true (fore_of (turned_world later).kept) (back_of (turned_world later).kept)
@@ -236,13 +209,6 @@ module _ (run : Run) (facts : Facts) (world : World) (pending : arguments.Argume
           grown = omega (arith, c.grown);
         })
 
-  -- some pages
-  counted_pages : (page : World → Result World Code) (z : ℤ) (P : model.Progress → Type 0) → pos 1 ≤ℤ z
-      → ((n : ℕ) → Succeeds P (model.one_page_of page n world))
-      → Succeeds P (model.page_count z >>>= λ n. model.one_page_of page n world)
-  counted_pages page (pos (suc n)) P l h = h (suc n)
-  counted_pages page z P l h = absurd (grind arith)
-
   some_known : (b : Bool) (o : Option Value) (v : Option ℤ)
       → int_le (pos 1) (count_of o facts.position.distances).lo ≡ b
       → IsWithin (count_of o facts.position.distances) (unwrap_or v (pos 1))
@@ -250,23 +216,23 @@ module _ (run : Run) (facts : Facts) (world : World) (pending : arguments.Argume
   some_known true o v e w = omega (arith, ints)
   some_known false o v e w = tt
 
-  -- the edges where what is known fits
-  abbrev FitsThen : (Edges → Type 0) → Result Edges Refusal → Type 0
-  FitsThen P (Ok edges) = FitsOn run.n edges → P edges
-  FitsThen P (Err why) = ⊤
+  -- what is true where the facts behind an element fit
+  abbrev FitsThen : (Edges → Type 0) → Result Foreseen Refusal → Type 0
+  FitsThen P known = IfOk (transfers.on (known >>= λ known. Ok (facts_answered known)))
+      (λ edges. FitsOn run.n edges → P edges)
 
-  as_leads : (Q : Edges → Taken → Type 0) (t : Taken) (r : Result Edges Refusal) → FitsThen (λ edges. Q edges t) r
-      → Leads (FitsOn run.n) Q r (Ok t)
-  as_leads Q t (Ok edges) h = h
-  as_leads Q t (Err why) h = tt
+  -- what is checked first
+  checked_then : (Q : Edges → Type 0) (P : Type 0) (r : Result (Unit {0}) Refusal) (known : Result Foreseen Refusal)
+      → IfOk r (λ u. P) → (P → FitsThen Q known) → FitsThen Q (r >>= λ u. known)
+  checked_then Q P (Ok u) known h k = k h
+  checked_then Q P (Err why) known h k = tt
 
   -- nothing is changed
   abbrev unchanged : Facts
   unchanged = facts_answered (silent taking)
 
   stays : (files : Files) → unread files ≡ unread world.files
-      → ComesTo run facts.held world unchanged (arguments.levels_after_taking pending)
-      (record { kept = world.kept; files = files })
+      → Behind unchanged (record { kept = world.kept; files = files })
   stays files e = let l : length (unread files) ≡ unread_of world = ap length e in record {
     described = subst (λ u. Describes run unchanged u world.kept (arguments.levels_after_taking pending)) (sym l)
         (record {
@@ -277,122 +243,90 @@ module _ (run : Run) (facts : Facts) (world : World) (pending : arguments.Argume
     grown = omega arith;
   }
 
-  -- a part that is written
-  part_written : (P : model.Progress → Type 0) (r : Result Part Code) → Parts.Comes r
-      → ((part : Part) → P (record {
-        world = model.world_after_writing (characters_of part world.kept) world;
-        left = 0;
-      }))
-      → Succeeds P (((r >>>= λ part. Ok (characters_of part world.kept)) >>>= λ text.
-      Ok (model.world_after_writing text world)) >>>= λ done. Ok (record { world = done; left = 0 }))
-  part_written P (Ok part) c h = h part
-  part_written P (Err e) c h = absurd c
+  abbrev IsGiven : Option Value → Option ℤ → Type 0
+  IsGiven o v = IsOptional (IsValue (fore_of world.kept) (back_of world.kept)) o v
 
+  -- P and PW
   module _ (output : Output) (out : world.files.output ≡ Some output) where
+    -- a part is written
+    part_done : (page : World → Result World Code) (v w : ℤ) (r : Result Part Code)
+        → part_named (Some v) (Some w) world.kept ≡ r → Parts.Comes r
+        → Succeeds (DoneBehind unchanged) (model.pages page (record { first = Some v; value = Some w }) world)
+    part_done page v w (Ok part) e c =
+        succeeds_with (DoneBehind unchanged) world.files.output output _ _ out (λ q. rw e (stays _ refl))
+    part_done page v w (Err why) e c = absurd c
+
+    -- of some pages the first is done
+    pages_done : (page : World → Result World Code) (m v : Option ℤ)
+        → model.pages_of page m v world ≡ (model.page_count (unwrap_or v (pos 1)) >>= λ n.
+        model.one_page_of page n world) → pos 1 ≤ℤ unwrap_or v (pos 1) → (next : Facts)
+        → Succeeds (Behind next) (page world)
+        → Succeeds (DoneBehind next) (model.pages page (record { first = m; value = v }) world)
+    pages_done page m v e l next h =
+        succeeds_with (DoneBehind next) world.files.output output _ _ out
+        (λ q. rw e (counted (unwrap_or v (pos 1)) l)) where
+          counted : (z : ℤ) → pos 1 ≤ℤ z
+              → Succeeds (DoneBehind next) (model.page_count z >>= λ n. model.one_page_of page n world)
+          counted (pos (suc n)) l = succeeds_with (DoneBehind next) world.files.output output _ _ out
+              (λ q. succeeds_then (Behind next) (DoneBehind next) (page world)
+              (λ done. record { world = done; left = suc n - 1 })
+              (λ w c. c) h)
+          counted z l = absurd (grind arith)
+
     abbrev Turns : Option ℤ → Option ℤ → Edges → Type 0
     Turns m v edges = TurnsPages run facts.held world pending edges m v
 
-    with_output : {X : Type 0} (P : X → Type 0) (o : Option Output) (f : Output → Result X Code) → o ≡ Some output
-        → ((q : Output) → Succeeds P (f q)) → Succeeds P (ok_or o code.Nfo >>>= f)
-    with_output P None f e h = absurd (cc)
-    with_output P (Some q) f e h = h q
+    abbrev Writes : Option ℤ → Option ℤ → Edges → Type 0
+    Writes m v edges = Succeeds
+        (λ (p : model.Progress). Comes run facts.held world (arguments.levels_after_taking pending) edges p.world)
+        (model.pages model.page_written (record { first = m; value = v }) world)
 
-    range_turns : (r : Result (Unit {0}) Refusal) (v w : ℤ)
-        → IfOk r (λ u. Parts.Comes (part_named (Some v) (Some w) world.kept))
-        → FitsThen (Turns (Some v) (Some w))
-        (transfers.on ((r >>= λ named. Ok (silent taking)) >>= λ known. Ok (facts_answered known)))
-    range_turns (Err why) v w h = tt
-    range_turns (Ok u) v w h = λ l. record {
-      begins = with_output (λ p. ComesTo run facts.held world unchanged (arguments.levels_after_taking pending) p.world)
-          _ _ out (λ q. part_written (λ p. ComesTo run facts.held world unchanged
-          (arguments.levels_after_taking pending) p.world) _ h (λ part. stays _ refl));
-      more = λ later none c. absurd (cc);
-    }
+    by_part : (Q : Edges → Type 0) (s t : Value) (v w : ℤ) → IsValue (fore_of world.kept) (back_of world.kept) s v
+        → IsValue (fore_of world.kept) (back_of world.kept) t w
+        → (Parts.Comes (part_named (Some v) (Some w) world.kept) → FitsThen Q (Ok (silent taking)))
+        → FitsThen Q (typings.part_named (Some s) (Some t) facts.position.distances >>= λ named. Ok (silent taking))
+    by_part Q s t v w i j = checked_then Q _ _ _
+        (Parts.both_named run taking (unread_of world) world.kept whole taking_holds s t v w i.is j.is)
 
-    counted_turns : (m v : Option ℤ) (as_counted : (P : model.Progress → Type 0)
-        → Succeeds P (model.page_count (unwrap_or v (pos 1)) >>>= λ n. model.one_page_of model.page_turned n world)
-        → Succeeds P (model.pages_of model.page_turned m v world)) (r : Result (Unit {0}) Refusal)
-        → IfOk r (λ u. pos 1 ≤ℤ unwrap_or v (pos 1)) → (sum : Result Polynomial Refusal)
+    by_count : (Q : Edges → Type 0) (o : Option Value) (v : Option ℤ) → IsGiven o v
+        → (known : Result Foreseen Refusal) → (pos 1 ≤ℤ unwrap_or v (pos 1) → FitsThen Q known)
+        → FitsThen Q (row.some_pages (count_of o facts.position.distances) >>= λ some. known)
+    by_count Q o v i known = checked_then Q _ _ known
+        (some_known _ o v refl (of_count run taking (unread_of world) world.kept whole taking_holds o v i))
+
+    -- P
+    turned_if : (m v : Option ℤ)
+        → model.pages_of model.page_turned m v world ≡ (model.page_count (unwrap_or v (pos 1)) >>= λ n.
+        model.one_page_of model.page_turned n world) → (sum : Result Polynomial Refusal)
         → IfOk sum (λ held. value held run.n ≡ value facts.held run.n + value (number 0) run.n)
-        → FitsThen (Turns m v) (transfers.on
-        ((r >>= λ some. (sum >>= λ held. Ok (facts_behind (ending (moving nowhere (Some (pos 0)))) held taking))
-        >>= λ known. Ok (silent known)) >>= λ known. Ok (facts_answered known)))
-    counted_turns m v c (Err why) h sum e = tt
-    counted_turns m v c (Ok u) h (Err why) e = tt
-    counted_turns m v c (Ok u) h (Ok held) e = λ l. record {
-      begins = with_output (λ p. ComesTo run facts.held world (page_behind held) (arguments.levels_after_taking pending)
-          p.world) _ _ out
-          (λ q. c _ (counted_pages model.page_turned (unwrap_or v (pos 1))
-          (λ p. ComesTo run facts.held world (page_behind held) (arguments.levels_after_taking pending) p.world) h
-          (λ k. with_output (λ p. ComesTo run facts.held world (page_behind held)
-          (arguments.levels_after_taking pending) p.world) _ _ out
-          (λ opened. succeeds_then (ComesTo run facts.held world (page_behind held)
-          (arguments.levels_after_taking pending))
-          (λ p. ComesTo run facts.held world (page_behind held) (arguments.levels_after_taking pending) p.world) _ _
-          (λ w c. c) (page_succeeds held e l.buffer)))));
-      more = λ later none c. page_again held e l.buffer later c;
+        → pos 1 ≤ℤ unwrap_or v (pos 1) → FitsThen (Turns m v)
+        ((sum >>= λ held. Ok (facts_behind (ending (moving nowhere (Some (pos 0)))) held taking)) >>= λ known.
+        Ok (silent known))
+    turned_if m v counted (Err why) e l = tt
+    turned_if m v counted (Ok held) e l = λ f. record {
+      begins = pages_done model.page_turned m v counted l (page_behind held) (page_succeeds held e f.buffer);
+      more = λ later none c. page_again held e f.buffer later c;
     }
 
-    turning_turns : (f o : Option Value) (m v : Option ℤ)
-        → IsOptional (IsValue (fore_of world.kept) (back_of world.kept)) f m
-        → IsOptional (IsValue (fore_of world.kept) (back_of world.kept)) o v
-        → FitsThen (Turns m v) (transfers.on (row.turning f o taking >>= λ known. Ok (facts_answered known)))
-    turning_turns (Some s) (Some t) (Some v) (Some w) i j =
-        range_turns _ v w (Parts.both_named run taking (unread_of world) world.kept whole taking_holds s t v w i.is
-        j.is)
-    turning_turns None o None v i j =
-        counted_turns None v (λ P h. h) _
-        (some_known _ o v refl (of_count run taking (unread_of world) world.kept whole taking_holds o v j)) _
-        (value-sum_of run.n facts.held (number 0))
-    turning_turns (Some s) None (Some v) None i j =
-        counted_turns (Some v) None (λ P h. h) _
-        (some_known _ None None refl (of_count run taking (unread_of world) world.kept whole taking_holds None None tt))
-        _ (value-sum_of run.n facts.held (number 0))
+    turning_turns : (f o : Option Value) (m v : Option ℤ) → IsGiven f m → IsGiven o v
+        → FitsThen (Turns m v) (row.turning f o taking)
+    turning_turns (Some s) (Some t) (Some v) (Some w) i j = by_part (Turns (Some v) (Some w)) s t v w i j
+        (λ c l. record { begins = part_done model.page_turned v w _ refl c; more = λ later none c. absurd (cc) })
+    turning_turns None o None v i j = by_count (Turns None v) o v j _
+        (turned_if None v refl _ (value-sum_of run.n facts.held (number 0)))
+    turning_turns (Some s) None (Some v) None i j = by_count (Turns (Some v) None) None None tt _
+        (turned_if (Some v) None refl _ (value-sum_of run.n facts.held (number 0)))
     turning_turns f o m v i j = absurd (grind arith)
 
     -- PW
-    abbrev Writes : Option ℤ → Option ℤ → Edges → Type 0
-    Writes m v edges =
-        Succeeds (λ (p : model.Progress). Comes run facts.held world (arguments.levels_after_taking pending) edges
-        p.world) (model.pages model.page_written (record { first = m; value = v }) world)
-
-    range_writes : (r : Result (Unit {0}) Refusal) (v w : ℤ)
-        → IfOk r (λ u. Parts.Comes (part_named (Some v) (Some w) world.kept))
-        → FitsThen (Writes (Some v) (Some w))
-        (transfers.on ((r >>= λ named. Ok (silent taking)) >>= λ known. Ok (facts_answered known)))
-    range_writes (Err why) v w h = tt
-    range_writes (Ok u) v w h = λ l.
-        with_output (λ p. ComesTo run facts.held world unchanged (arguments.levels_after_taking pending) p.world) _ _
-        out (λ q. part_written (λ p. ComesTo run facts.held world unchanged (arguments.levels_after_taking pending)
-        p.world) _ h (λ part. stays _ refl))
-
-    counted_writes : (m v : Option ℤ) (as_counted : (P : model.Progress → Type 0)
-        → Succeeds P (model.page_count (unwrap_or v (pos 1)) >>>= λ n. model.one_page_of model.page_written n world)
-        → Succeeds P (model.pages_of model.page_written m v world)) (r : Result (Unit {0}) Refusal)
-        → IfOk r (λ u. pos 1 ≤ℤ unwrap_or v (pos 1))
-        → FitsThen (Writes m v) (transfers.on ((r >>= λ some. Ok (silent taking)) >>= λ known.
-        Ok (facts_answered known)))
-    counted_writes m v c (Err why) h = tt
-    counted_writes m v c (Ok u) h =
-        λ l. with_output (λ p. ComesTo run facts.held world unchanged (arguments.levels_after_taking pending) p.world) _
-        _ out (λ q. c _ (counted_pages model.page_written (unwrap_or v (pos 1))
-        (λ p. ComesTo run facts.held world unchanged (arguments.levels_after_taking pending) p.world) h
-        (λ k. with_output (λ p. ComesTo run facts.held world unchanged (arguments.levels_after_taking pending) p.world)
-        _ _ out (λ opened. stays _ refl))))
-
-    writing_writes : (f o : Option Value) (m v : Option ℤ)
-        → IsOptional (IsValue (fore_of world.kept) (back_of world.kept)) f m
-        → IsOptional (IsValue (fore_of world.kept) (back_of world.kept)) o v
-        → FitsThen (Writes m v) (transfers.on (row.writing f o taking >>= λ known. Ok (facts_answered known)))
-    writing_writes (Some s) (Some t) (Some v) (Some w) i j =
-        range_writes _ v w (Parts.both_named run taking (unread_of world) world.kept whole taking_holds s t v w i.is
-        j.is)
-    writing_writes None o None v i j =
-        counted_writes None v (λ P h. h) _
-        (some_known _ o v refl (of_count run taking (unread_of world) world.kept whole taking_holds o v j))
-    writing_writes (Some s) None (Some v) None i j =
-        counted_writes (Some v) None (λ P h. h) _
-        (some_known _ None None refl (of_count run taking (unread_of world) world.kept whole taking_holds None None tt))
+    writing_writes : (f o : Option Value) (m v : Option ℤ) → IsGiven f m → IsGiven o v
+        → FitsThen (Writes m v) (row.writing f o taking)
+    writing_writes (Some s) (Some t) (Some v) (Some w) i j = by_part (Writes (Some v) (Some w)) s t v w i j
+        (λ c l. part_done model.page_written v w _ refl c)
+    writing_writes None o None v i j = by_count (Writes None v) o v j _
+        (λ l f. pages_done model.page_written None v refl l unchanged (stays _ refl))
+    writing_writes (Some s) None (Some v) None i j = by_count (Writes (Some v) None) None None tt _
+        (λ l f. pages_done model.page_written (Some v) None refl l unchanged (stays _ refl))
     writing_writes f o m v i j = absurd (grind arith)
 
   -- A
@@ -411,7 +345,7 @@ module _ (run : Run) (facts : Facts) (world : World) (pending : arguments.Argume
 
   module _ (held : Polynomial) (e : value held run.n ≡ value facts.held run.n + value (number 0) run.n)
       (fits : value held run.n ≤ LIMIT) where
-    grown_comes : ComesTo run facts.held world (grown_behind held) (arguments.levels_after_taking pending) grown_world
+    grown_comes : Behind (grown_behind held) grown_world
     grown_comes =
         let p = page_short (unread world.files) in
         let r : unread_of grown_world ≡ length (behind_form_feed (unread world.files)) =
@@ -431,7 +365,7 @@ module _ (run : Run) (facts : Facts) (world : World) (pending : arguments.Argume
           grown = omega (arith, e);
         }
 
-    ended_comes : ComesTo run facts.held world (grown_behind held) (arguments.levels_after_taking pending) world
+    ended_comes : Behind (grown_behind held) world
     ended_comes = let h = d.state in record {
       described = record {
         state = pending_again run _ _ _
@@ -446,29 +380,29 @@ module _ (run : Run) (facts : Facts) (world : World) (pending : arguments.Argume
 
     fitted : (b : Bool) (text : List ℕ) (kept : Kept) (files : Files) (P : World → Type 0)
         → nat_le (length text) LIMIT ≡ b → length text ≤ LIMIT → P (record { kept = kept; files = files })
-        → Succeeds P ((cond b (Ok text) (Err code.Ful) >>>= λ t. Ok kept) >>>= λ k.
+        → Succeeds P ((cond b (Ok text) (Err code.Ful) >>= λ t. Ok kept) >>= λ k.
         Ok (record { kept = k; files = files }))
     fitted true text kept files P q short h = h
     fitted false text kept files P q short h = absurd (grind (arith, nat_tests))
 
     appended_comes : (bytes : List ℕ) → unread world.files ≡ bytes
-        → Succeeds (ComesTo run facts.held world (grown_behind held) (arguments.levels_after_taking pending))
+        → Succeeds (Behind (grown_behind held))
         (model.appended bytes world)
     appended_comes [] q = ended_comes
     appended_comes (c ∷ bytes) q =
         let p = page_short (unread world.files) in
         let l = length-append world.kept.text (before_form_feed (unread world.files)) in
-        subst (λ bytes. Succeeds (ComesTo run facts.held world (grown_behind held)
-        (arguments.levels_after_taking pending)) ((model.page_added (first_page bytes) world.kept) >>>= λ kept.
+        subst (λ bytes. Succeeds (Behind (grown_behind held))
+        ((model.page_added (first_page bytes) world.kept) >>= λ kept.
         Ok (record { kept = kept; files = model.files_behind_page world.files }))) q
         (fitted _ (world.kept.text ++ before_form_feed (unread world.files)) _ _
-        (ComesTo run facts.held world (grown_behind held) (arguments.levels_after_taking pending)) refl
+        (Behind (grown_behind held)) refl
         (omega (arith, d.state.held, e)) grown_comes)
 
   with_input : (held : Polynomial) (e : value held run.n ≡ value facts.held run.n + value (number 0) run.n)
       (fits : value held run.n ≤ LIMIT) (input : Input) (o : Option Input) → world.files.input ≡ o → o ≡ Some input
-      → Succeeds (ComesTo run facts.held world (grown_behind held) (arguments.levels_after_taking pending))
-      (ok_or o code.Nfi >>>= λ i. model.appended i.unread world)
+      → Succeeds (Behind (grown_behind held))
+      (ok_or o code.Nfi >>= λ i. model.appended i.unread world)
   with_input held e fits input None q o = absurd (cc)
   with_input held e fits input (Some i) q o =
       appended_comes held e fits i.unread (ap (λ o. option_map_or (λ (input : Input). input.unread) o []) q)
@@ -482,14 +416,13 @@ module _ (run : Run) (facts : Facts) (world : World) (pending : arguments.Argume
 
   page_added : (sum : Result Polynomial Refusal)
       → IfOk sum (λ held. value held run.n ≡ value facts.held run.n + value (number 0) run.n)
-      → FitsThen (AppendsBy None) (transfers.on
-      (((sum >>= λ held. Ok (facts_behind (moving facts.position.distances (Some (pos 0))) held taking)) >>= λ known.
-      Ok (silent known)) >>= λ known. Ok (facts_answered known)))
+      → FitsThen (AppendsBy None)
+      ((sum >>= λ held. Ok (facts_behind (moving facts.position.distances (Some (pos 0))) held taking)) >>= λ known.
+      Ok (silent known))
   page_added (Err why) e = tt
   page_added (Ok held) e = λ l input q. with_input held e l.buffer input world.files.input refl q
 
-  appends : (o : Option Value) (v : Option ℤ) → IsOptional (IsValue (fore_of world.kept) (back_of world.kept)) o v
-      → FitsThen (AppendsBy v) (transfers.on (row.append o taking >>= λ known. Ok (facts_answered known)))
+  appends : (o : Option Value) (v : Option ℤ) → IsGiven o v → FitsThen (AppendsBy v) (row.append o taking)
   appends None None i = page_added _ (value-sum_of run.n facts.held (number 0))
   appends (Some s) (Some n) i = λ l. record {
     described = record {
@@ -510,63 +443,55 @@ module _ (run : Run) (facts : Facts) (world : World) (pending : arguments.Argume
   appends None (Some v) i = absurd i
   appends (Some s) None i = absurd i
 
-  -- what is taken
-  taken_is : Covers (IsTaken (fore_of world.kept) (back_of world.kept)) (known.arguments_of facts.arguments.level)
+-- ---- the laws
+module _ (run : Run) (facts : Facts) (world : World) (pending : arguments.Arguments) (x : Placed)
+    (whole : IsWhole world.kept) (d : Describes run facts (unread_of world) world.kept pending) where
+  abbrev plain : Facts
+  plain = transfers.without_answer facts
+
+  is_plain : Describes run plain (unread_of world) world.kept pending
+  is_plain = without_answer run facts (unread_of world) world.kept pending d
+
+  page_leads : (p : Page) (Q : Edges → Taken → Type 0) → ((k : KnownTaken) (t : Taken)
+      → IsTaken (fore_of world.kept) (back_of world.kept) k t
+      → FitsThen run plain world pending whole is_plain (λ edges. Q edges t) (row.pages p k (facts_taken plain)))
+      → x.element.kind ≡ kind.Page p → Leads (FitsOn run.n) Q (transfer x facts) (arguments.arguments_of pending.level)
+  page_leads p Q h e =
+      by_kind x facts _ (λ r. Leads (FitsOn run.n) Q r (arguments.arguments_of pending.level)) e
+      (taken_lead (FitsOn run.n) Q (IsTaken (fore_of world.kept) (back_of world.kept)) _ _ _ _
+      (taking_is run plain (unread_of world) world.kept pending whole is_plain) h)
+
+  appends_lead : x.element.kind ≡ kind.Page page.Append
+      → Leads (FitsOn run.n) (Appends run facts.held world pending) (transfer x facts)
       (arguments.arguments_of pending.level)
-  taken_is = taking_is run facts (unread_of world) world.kept pending whole d
+  appends_lead = page_leads page.Append (Appends run facts.held world pending)
+      (λ k t i. appends run plain world pending whole is_plain k.value t.value i.value)
+
+  module _ (output : Output) (out : world.files.output ≡ Some output) where
+    abbrev TurnsAll : Edges → Taken → Type 0
+    TurnsAll edges taken = Turns run plain world pending whole is_plain output out taken.first taken.value edges
+
+    abbrev WritesAll : Edges → Taken → Type 0
+    WritesAll edges taken = Writes run plain world pending whole is_plain output out taken.first taken.value edges
+
+    turns_lead : x.element.kind ≡ kind.Page page.Next
+        → Leads (FitsOn run.n) TurnsAll (transfer x facts) (arguments.arguments_of pending.level)
+    turns_lead = page_leads page.Next TurnsAll (λ k t i.
+        turning_turns run plain world pending whole is_plain output out k.first k.value t.first t.value i.first i.value)
+
+    writes_lead : x.element.kind ≡ kind.Page page.Write
+        → Leads (FitsOn run.n) WritesAll (transfer x facts) (arguments.arguments_of pending.level)
+    writes_lead = page_leads page.Write WritesAll (λ k t i.
+        writing_writes run plain world pending whole is_plain output out k.first k.value t.first t.value i.first
+        i.value)
 
 pub appends_are_sound : AppendsAreSound
-unfolding transfer
-appends_are_sound run facts world pending x whole d e =
-    let n = without_answer run facts (unread_of world) world.kept pending d in
-    subst (λ k. Leads (FitsOn run.n) (Appends run facts.held world pending)
-    (transfers.edges_of k x (transfers.answer_for k facts) (transfers.without_answer facts))
-    (arguments.arguments_of pending.level)) (sym e)
-    (taking_leads (FitsOn run.n) (Appends run facts.held world pending) (facts_taken (transfers.without_answer facts))
-    (λ k. row.append k.value (facts_taken (transfers.without_answer facts)))
-    (IsTaken (fore_of world.kept) (back_of world.kept)) _ _
-    (taken_is run (transfers.without_answer facts) world pending whole n) (λ k t i.
-    as_leads run (transfers.without_answer facts) world pending whole n (Appends run facts.held world pending) t _
-    (appends run (transfers.without_answer facts) world pending whole n k.value t.value i.value)))
+appends_are_sound run facts world pending x = appends_lead run facts world pending x
 
 pub page_turns_are_sound : PageTurnsAreSound
-unfolding transfer
-page_turns_are_sound run facts world pending x output whole d e q =
-    let n = without_answer run facts (unread_of world) world.kept pending d in
-    subst (λ k. Leads (FitsOn run.n)
-    (λ (edges : Edges) (t : Taken). TurnsPages run facts.held world pending edges t.first t.value)
-    (transfers.edges_of k x (transfers.answer_for k facts) (transfers.without_answer facts))
-    (arguments.arguments_of pending.level)) (sym e)
-    (taking_leads (FitsOn run.n) (λ (edges : Edges) (t : Taken). TurnsPages run facts.held world pending edges t.first
-    t.value) (facts_taken (transfers.without_answer facts))
-    (λ k. row.turning k.first k.value (facts_taken (transfers.without_answer facts)))
-    (IsTaken (fore_of world.kept) (back_of world.kept)) _ _
-    (taken_is run (transfers.without_answer facts) world pending whole n) (λ k t i.
-    as_leads run (transfers.without_answer facts) world pending whole n
-    (λ (edges : Edges) (t : Taken). TurnsPages run facts.held world pending edges t.first t.value) t _
-    (turning_turns run (transfers.without_answer facts) world pending whole n output q k.first k.value t.first
-    t.value i.first i.value)))
+page_turns_are_sound run facts world pending x output whole d e out =
+    turns_lead run facts world pending x whole d output out e
 
 pub page_writes_are_sound : PageWritesAreSound
-unfolding transfer
-page_writes_are_sound run facts world pending x output whole d e q =
-    let n = without_answer run facts (unread_of world) world.kept pending d in
-    subst (λ k. Leads (FitsOn run.n)
-    (λ (edges : Edges) (t : Taken). Succeeds
-    (λ (p : model.Progress). Comes run facts.held world (arguments.levels_after_taking pending) edges p.world)
-    (model.pages model.page_written (record { first = t.first; value = t.value }) world))
-    (transfers.edges_of k x (transfers.answer_for k facts) (transfers.without_answer facts))
-    (arguments.arguments_of pending.level)) (sym e)
-    (taking_leads (FitsOn run.n) (λ (edges : Edges) (t : Taken). Succeeds
-    (λ (p : model.Progress). Comes run facts.held world (arguments.levels_after_taking pending) edges p.world)
-    (model.pages model.page_written (record { first = t.first; value = t.value }) world))
-    (facts_taken (transfers.without_answer facts))
-    (λ k. row.writing k.first k.value (facts_taken (transfers.without_answer facts)))
-    (IsTaken (fore_of world.kept) (back_of world.kept)) _ _
-    (taken_is run (transfers.without_answer facts) world pending whole n) (λ k t i.
-    as_leads run (transfers.without_answer facts) world pending whole n
-    (λ (edges : Edges) (t : Taken). Succeeds
-    (λ (p : model.Progress). Comes run facts.held world (arguments.levels_after_taking pending) edges p.world)
-    (model.pages model.page_written (record { first = t.first; value = t.value }) world)) t _
-    (writing_writes run (transfers.without_answer facts) world pending whole n output q k.first k.value t.first
-    t.value i.first i.value)))
+page_writes_are_sound run facts world pending x output whole d e out =
+    writes_lead run facts world pending x whole d output out e

@@ -1,27 +1,12 @@
 -- Parts of the buffer that are named.
-use Rattle.std.proofs.Common.{◌≡◌, ℕ, ◌≤◌, arith, ap, ℤ, pos, negsuc, length, Option, Some, None, Result, Ok, Err}
-use Rattle.std.proofs.Common.{IfOk, true, cond, nat_le}
-use Rattle.std.specs.Prelude.{⊤}
-use Rattle.std.proofs.lemmas.Int.{ints}
-use Rattle.std.proofs.lemmas.Bool.Decides.{nat_tests}
-use Rattle.teco_base.specs.declared.code.Code.{Code}
-use Rattle.teco_model.specs.Checked.{◌>>=◌ as ◌>>>=◌}
-use Rattle.teco_model.specs.Effect.{Effect}
-use Rattle.teco_model.specs.Places.{place_in, part_named}
-use Rattle.teco_model.specs.State.{Kept}
-use Rattle.teco_model.specs.declared.pattern.Span.{Span as Part}
+use Rattle.teco_law_facts.proofs.Prelude.{◌≡◌, ℕ, ◌≤◌, arith, ap, ℤ, pos, negsuc, length, Option, Some, None, Result}
+use Rattle.teco_law_facts.proofs.Prelude.{Ok, Err, IfOk, true, cond, nat_le, ⊤, ints, nat_tests, Code, Effect, place_in}
+use Rattle.teco_law_facts.proofs.Prelude.{part_named, Kept, Part, ok_then, ◌>>=◌, Run, IsWhole, Holds, IsOptional}
+use Rattle.teco_law_facts.proofs.Prelude.{fore_of, back_of, Facts, Foreseen, Shift, IsValue, IsIn, Refusal, Value}
 use Rattle.teco_law_facts.proofs.Motion.{IsPlaced, placed_is}
 use Rattle.teco_law_facts.proofs.Shapes.{IsDone, Foretells}
-use Rattle.teco_law_facts.proofs.Steps.{given_then}
 use Rattle.teco_law_facts.proofs.Leading.{leads_given}
-use Rattle.teco_verifier.specs.facts.Attempt.{◌>>=◌}
-use Rattle.teco_law_facts.specs.Describes.{Run, IsWhole, Holds, IsOptional, fore_of, back_of}
-use Rattle.teco_verifier.specs.facts.Facts.{Facts}
-use Rattle.teco_verifier.specs.facts.Shifts.{Foreseen, Shift}
 use Rattle.teco_verifier.specs.facts.Typings as typings
-use Rattle.teco_verifier.specs.facts.Values.{IsValue, IsIn}
-use Rattle.teco_verifier.specs.declared.refusal.Refusal.{Refusal}
-use Rattle.teco_verifier.specs.declared.values.Value.{Value}
 
 nat_le_true : (a b : ℕ) → a ≤ b → nat_le a b ≡ true
 nat_le_true a b h = grind (arith, nat_tests)
@@ -52,14 +37,14 @@ module _ (run : Run) (facts : Facts) (unread : ℕ) (kept : Kept) (whole : IsWho
       → IsIn t (fore_of kept) (back_of kept) w → IfOk (typings.part_named (Some s) (Some t) facts.position.distances)
       (λ u. Comes (part_named (Some v) (Some w) kept))
   both_named s t v w i j =
-      given_then (IsPlaced run facts unread kept whole h v) (λ u. Comes (part_named (Some v) (Some w) kept)) _ _
+      ok_then (IsPlaced run facts unread kept whole h v) (λ u. Comes (part_named (Some v) (Some w) kept)) _ _
       (placed_is run facts unread kept whole h s v i) (λ from p.
-      given_then (IsPlaced run facts unread kept whole h w) (λ u. Comes (part_named (Some v) (Some w) kept)) _ _
+      ok_then (IsPlaced run facts unread kept whole h w) (λ u. Comes (part_named (Some v) (Some w) kept)) _ _
       (placed_is run facts unread kept whole h t w j) (λ to q. both_in v w from to p q))
 
   part_leads : (known : Result Foreseen Refusal) (go_on : Part → Result Effect Code)
       → ((part : Part) → Foretells run facts unread kept known (go_on part)) → (part : Result Part Code) → Comes part
-      → Foretells run facts unread kept known (part >>>= go_on)
+      → Foretells run facts unread kept known (part >>= go_on)
   part_leads known go_on k (Ok part) c = k part
   part_leads known go_on k (Err e) c = absurd c
 
@@ -69,7 +54,7 @@ module _ (run : Run) (facts : Facts) (unread : ℕ) (kept : Kept) (whole : IsWho
       → (known : Result Foreseen Refusal) (go_on : Part → Result Effect Code)
       → ((part : Part) → Foretells run facts unread kept known (go_on part))
       → Foretells run facts unread kept (typings.part_named f o facts.position.distances >>= λ named. known)
-      (part_named m v kept >>>= go_on)
+      (part_named m v kept >>= go_on)
   parts_lead (Some s) (Some t) (Some v) (Some w) i j known go_on k =
       leads_given (λ u. Comes (part_named (Some v) (Some w) kept)) _ (IsDone run facts unread kept) _ _ _
       (both_named s t v w i.is j.is) (λ u ok. part_leads known go_on k _ ok)

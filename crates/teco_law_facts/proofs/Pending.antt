@@ -1,32 +1,19 @@
 -- What is done with known arguments is true of the pending ones.
-use Rattle.std.proofs.Common.{◌≡◌, ℤ, pos, negsuc, arith, w32, FitsSigned, refl, int_le, Bool, true, false, cond, map}
-use Rattle.std.proofs.Common.{ok_or, Result, Ok, Err, Option, Some, None, List, [], ◌∷◌, ℕ}
-use Rattle.std.specs.Prelude.{⊤}
-use Rattle.std.proofs.lemmas.Int.{ints, SFits-int_wrap}
-use Rattle.teco_base.specs.Arithmetic.{and, or}
-use Rattle.teco_base.specs.declared.code.Code.{Code}
+use Rattle.teco_law_facts.proofs.Prelude.{◌≡◌, ℤ, pos, negsuc, arith, w32, FitsSigned, refl, int_le, Bool, true, false}
+use Rattle.teco_law_facts.proofs.Prelude.{cond, map, ok_or, Result, Ok, Err, Option, Some, None, List, [], ◌∷◌, ℕ, ⊤}
+use Rattle.teco_law_facts.proofs.Prelude.{ints, SFits-int_wrap, and, or, Code, needed_value, Level, Operator, Plus}
+use Rattle.teco_law_facts.proofs.Prelude.{Minus, Times, Over, And, Or, ◌>>=◌, KnownLevel, KnownArguments, IsOptional}
+use Rattle.teco_law_facts.proofs.Prelude.{IsLevel, ArePending, AreEach, IsTaken, single, value_in, plus, minus}
+use Rattle.teco_law_facts.proofs.Prelude.{interval_of, IsValue, IsPlaceIf, Refusal, Distances, Interval, Value}
 use Rattle.teco_base.specs.declared.code.Code.TheVariants as code
 use Rattle.teco_model.specs.Arguments as model
-use Rattle.teco_model.specs.Checked.{◌>>=◌ as ◌>>>=◌}
-use Rattle.teco_model.specs.Effect.{needed_value}
-use Rattle.teco_model.specs.declared.arguments.Level.{Level}
-use Rattle.teco_model.specs.declared.arguments.Operator.{Operator}
-use Rattle.teco_model.specs.declared.arguments.Operator.TheVariants.{Plus, Minus, Times, Over, And, Or}
 use Rattle.teco_law_facts.proofs.Numbers.{AreDistances, interval_of_in, value_in_in, sum_in, difference_in}
 use Rattle.teco_law_facts.proofs.Numbers.{product_in}
 use Rattle.teco_law_facts.proofs.Quotients.{divided_covers, bitwise_in, and_fits, or_fits}
 use Rattle.teco_law_facts.proofs.Saved.{Widens, place_after}
 use Rattle.teco_law_facts.proofs.Steps.{Covers, covers_then}
 use Rattle.teco_verifier.specs.facts.Arguments as known
-use Rattle.teco_verifier.specs.facts.Attempt.{◌>>=◌}
-use Rattle.teco_verifier.specs.facts.Arguments.{KnownLevel, KnownArguments}
-use Rattle.teco_law_facts.specs.Describes.{IsOptional, IsLevel, ArePending, AreEach, IsTaken}
-use Rattle.teco_verifier.specs.facts.Values.{single, value_in, plus, minus, interval_of, IsValue, IsPlaceIf}
-use Rattle.teco_verifier.specs.declared.refusal.Refusal.{Refusal}
 use Rattle.teco_verifier.specs.declared.refusal.Refusal.TheVariants as refusal
-use Rattle.teco_verifier.specs.declared.values.Distances.{Distances}
-use Rattle.teco_verifier.specs.declared.values.Interval.{Interval}
-use Rattle.teco_verifier.specs.declared.values.Value.{Value}
 
 module _ (distances : Distances) (fore back : ℕ) (b : AreDistances distances fore back) where
   pub single_in : (v : ℤ) → FitsSigned w32 v → IsValue fore back (single v) v
@@ -197,7 +184,7 @@ module _ (distances : Distances) (fore back : ℕ) (b : AreDistances distances f
 
   pub needed_covers : (k : KnownLevel) (level : Level) → IsLevel fore back k level
       → Covers (IsValue fore back) (known.arguments_of k >>= λ taken. known.needed_value taken.value)
-      (model.arguments_of level >>>= λ taken. needed_value taken.value)
+      (model.arguments_of level >>= λ taken. needed_value taken.value)
   needed_covers k level i = covers_then (IsTaken fore back) (IsValue fore back) _ _ _ _ (taken_covers k level i)
       (λ known taken j. the_value known.value taken.value j.value)
 

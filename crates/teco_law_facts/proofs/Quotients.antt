@@ -1,19 +1,18 @@
 -- Quotients lie between the corners.
-use Rattle.std.proofs.Common.{◌≡◌, ℕ, zero, suc, ◌/◌, ◌≤◌, arith, refl, ℤ, pos, negsuc, ◌≤ℤ◌, ◌⊎◌, inl, inr, w32}
-use Rattle.std.proofs.Common.{FitsSigned, Ok, Err, Bool, true, false, ◌||◌, ◌&&◌, int_lt, cond, int_div}
+use Rattle.teco_law_facts.proofs.Prelude.{◌≡◌, ℕ, zero, suc, ◌≤◌, arith, refl, ℤ, pos, negsuc, ◌≤ℤ◌, inl, inr, w32}
+use Rattle.teco_law_facts.proofs.Prelude.{FitsSigned, Ok, Err, Bool, true, false, ◌||◌, ◌&&◌, int_lt, cond, ints}
+use Rattle.teco_law_facts.proofs.Prelude.{clamps, SFits-int_wrap, int_min, int_max, in_32_bits, and, or, Value}
+use Rattle.teco_law_facts.proofs.Prelude.{Interval, Distances, IsValue, IsWithin, single, any_number, value_in}
+use Rattle.teco_law_facts.proofs.Prelude.{interval_of}
+use Rattle.std.proofs.Common.{◌/◌, ◌⊎◌}
+use Rattle.std.proofs.Common.{int_div}
 use Rattle.std.proofs.Math.Nat.{div-mul-le_self, mul-le-mul_left}
 use Rattle.std.proofs.lemmas.Nat.{le-div}
-use Rattle.std.proofs.lemmas.Int.{ints, clamps, SFits-int_wrap}
-use Rattle.std.specs.Int.{int_min, int_max}
 use Rattle.std.specs.Option.{ok_or}
-use Rattle.teco_base.specs.Arithmetic.{in_32_bits, div, and, or}
+use Rattle.teco_base.specs.Arithmetic.{div}
 use Rattle.teco_base.specs.declared.code.Code.TheVariants as code
-use Rattle.teco_verifier.specs.declared.values.Value.{Value}
-use Rattle.teco_verifier.specs.declared.values.Interval.{Interval}
-use Rattle.teco_verifier.specs.declared.values.Distances.{Distances}
 use Rattle.teco_verifier.specs.declared.refusal.Refusal.TheVariants as refusal
 use Rattle.teco_law_facts.proofs.Steps.{Covers}
-use Rattle.teco_verifier.specs.facts.Values.{IsValue, IsWithin, single, any_number, value_in, interval_of}
 use Rattle.teco_verifier.specs.facts.Values.{interval_quotient, quotient, bitwise, is_single}
 use Rattle.teco_verifier.specs.facts.Arguments.{quotient_of}
 use Rattle.teco_law_facts.proofs.Numbers.{AreDistances, interval_of_in, value_in_in, kept_in_32_bits_in}

@@ -1,28 +1,23 @@
 -- U, %, X, ^U, G, the push-down list, and what types.
-use Rattle.std.proofs.Common.{◌≡◌, ℕ, zero, suc, ◌+◌, ◌-◌, ◌≤◌, arith, w32, refl, ℤ, pos, ◌+ℤ◌, List, [], length}
-use Rattle.std.proofs.Common.{drop, length-take, length-drop, length-append, ◌++◌, ◌<◌, get_or, set, Bool, true}
-use Rattle.std.proofs.Common.{false, cond, nat_le, IfOk, Option, Some, None, Result, Ok, Err}
-use Rattle.std.specs.Prelude.{unwrap_or}
-use Rattle.std.proofs.lemmas.Int.{ints, SFits-int_wrap}
-use Rattle.std.proofs.lemmas.Bool.Decides.{nat_tests}
-use Rattle.teco_base.specs.declared.TheConstants.{LIMIT, REGISTERS}
-use Rattle.teco_base.specs.declared.code.Code.{Code}
+use Rattle.teco_law_facts.proofs.Prelude.{◌≡◌, ℕ, zero, suc, ◌+◌, ◌-◌, ◌≤◌, arith, w32, refl, ℤ, pos, ◌+ℤ◌, List, []}
+use Rattle.teco_law_facts.proofs.Prelude.{length, drop, length-take, length-drop, length-append, ◌++◌, ◌<◌, get_or, set}
+use Rattle.teco_law_facts.proofs.Prelude.{Bool, true, false, cond, nat_le, IfOk, Option, Some, None, Result, Ok, Err}
+use Rattle.teco_law_facts.proofs.Prelude.{unwrap_or, ints, SFits-int_wrap, nat_tests, LIMIT, REGISTERS, Code, Effect}
+use Rattle.teco_law_facts.proofs.Prelude.{no_answer, needed_value, Element, Pair, empty_pair, Kept, Taken, Part}
+use Rattle.teco_law_facts.proofs.Prelude.{Polynomial, value, KnownTaken, ◌>>=◌, Run, IsWhole, Holds, IsAt, ArePushed}
+use Rattle.teco_law_facts.proofs.Prelude.{IsTaken, IsOptional, fore_of, back_of, Facts, Pushed, number_of, count_of}
+use Rattle.teco_law_facts.proofs.Prelude.{Foreseen, silent, Succeeds, Fits, IsWithin, IsPlaceIf, any_number}
+use Rattle.teco_law_facts.proofs.Prelude.{interval_of, interval_sum, kept_in_32_bits, IsValue, value_in, Refusal}
+use Rattle.teco_law_facts.proofs.Prelude.{Interval, Value}
 use Rattle.teco_base.specs.declared.code.Code.TheVariants as code
-use Rattle.teco_model.specs.Checked.{◌>>=◌ as ◌>>>=◌}
-use Rattle.teco_model.specs.Effect.{Effect, no_answer, needed_value}
-use Rattle.teco_model.specs.Element.{Element}
 use Rattle.teco_model.specs.Places.{characters_of}
-use Rattle.teco_model.specs.Registers.{Pair, empty_pair, with_pair, with_text}
-use Rattle.teco_model.specs.State.{Kept}
+use Rattle.teco_model.specs.Registers.{with_pair, with_text}
 use Rattle.teco_model.specs.Storage as model
 use Rattle.teco_model.specs.Typing as model_typing
-use Rattle.teco_model.specs.declared.arguments.Taken.{Taken}
 use Rattle.teco_model.specs.declared.kind.Storage.{Storage}
 use Rattle.teco_model.specs.declared.kind.Storage.TheVariants.{SetNumber, Add, Copy, SetText, Get}
 use Rattle.teco_model.specs.declared.kind.Typing.{Typing}
 use Rattle.teco_model.specs.declared.kind.Typing.TheVariants as typing_kind
-use Rattle.teco_model.specs.declared.pattern.Span.{Span as Part}
-use Rattle.teco_poly.specs.Polynomial.{Polynomial, value}
 use Rattle.teco_law_facts.proofs.Saved.{IsSaved, saved_at}
 use Rattle.teco_law_facts.proofs.Each.{IsNumber, IsText, each_at, each_set, each_kept, each_length, all_set}
 use Rattle.teco_law_facts.proofs.Insertion.{inserted_foretold}
@@ -31,22 +26,13 @@ use Rattle.teco_law_facts.proofs.Motion.{place_known, count_within}
 use Rattle.teco_law_facts.proofs.Numbers.{interval_of_in, value_in_in, kept_in_32_bits_in}
 use Rattle.teco_law_facts.proofs.Near.{distances}
 use Rattle.teco_law_facts.proofs.Shapes.{IsDone, Foretells, value-sum_of, value-number, done_with}
-use Rattle.teco_verifier.specs.facts.Arguments.{KnownTaken}
 use Rattle.teco_verifier.specs.facts.Arguments as known
-use Rattle.teco_verifier.specs.facts.Attempt.{◌>>=◌}
-use Rattle.teco_law_facts.specs.Describes.{Run, IsWhole, Holds, IsAt, AreRegisters, IsPushed, ArePushed, IsTaken}
-use Rattle.teco_law_facts.specs.Describes.{IsOptional, fore_of, back_of}
-use Rattle.teco_verifier.specs.facts.Facts.{Facts, Pushed, number_of, text_of}
-use Rattle.teco_verifier.specs.facts.Motions.{count_of}
-use Rattle.teco_verifier.specs.facts.Shifts.{Foreseen, is_place, silent}
-use Rattle.teco_law_facts.specs.SoundElements.{Succeeds, Fits, IsNamedByStorage}
+use Rattle.teco_law_facts.specs.Describes.{AreRegisters, IsPushed}
+use Rattle.teco_verifier.specs.facts.Facts.{text_of}
+use Rattle.teco_verifier.specs.facts.Shifts.{is_place}
+use Rattle.teco_law_facts.specs.SoundElements.{IsNamedByStorage}
 use Rattle.teco_verifier.specs.facts.Storages as row
 use Rattle.teco_verifier.specs.facts.Typings as typings
-use Rattle.teco_verifier.specs.facts.Values.{IsWithin, IsPlaceIf, any_number, interval_of, interval_sum}
-use Rattle.teco_verifier.specs.facts.Values.{kept_in_32_bits, IsValue, value_in}
-use Rattle.teco_verifier.specs.declared.refusal.Refusal.{Refusal}
-use Rattle.teco_verifier.specs.declared.values.Interval.{Interval}
-use Rattle.teco_verifier.specs.declared.values.Value.{Value}
 
 zero_within : IsWithin any_number (pos 0)
 zero_within = record { low = omega (arith, ints); high = omega (arith, ints) }
@@ -134,7 +120,7 @@ module _ (run : Run) (facts : Facts) (unread : ℕ) (kept : Kept) (whole : IsWho
   set_foretold : (r : ℕ) (o : Option Value) (v : Option ℤ) → IsOptional (IsValue (fore_of kept) (back_of kept)) o v
       → Foretells run facts unread kept (known.needed_value o >>= λ n.
       Ok (silent (row.with_number r (interval_of facts.position.distances n) (is_place n facts.position.distances)
-      facts))) (needed_value v >>>= λ n. Ok (no_answer (model.kept_with_number r n kept)))
+      facts))) (needed_value v >>= λ n. Ok (no_answer (model.kept_with_number r n kept)))
   set_foretold r None None i = tt
   set_foretold r (Some s) (Some v) i =
       λ l. done_with run facts unread kept whole h _ _ None
@@ -249,7 +235,7 @@ module _ (run : Run) (facts : Facts) (unread : ℕ) (kept : Kept) (whole : IsWho
       → ((n : ℤ) → IsDone run facts unread kept (silent facts) (no_answer (c n)))
       → IsOptional (IsValue (fore_of kept) (back_of kept)) o v
       → Foretells run facts unread kept (known.needed_value o >>= λ s. Ok (silent facts))
-      (needed_value v >>>= λ n. Ok (no_answer (c n)))
+      (needed_value v >>= λ n. Ok (no_answer (c n)))
   number_foretold None None c d i = tt
   number_foretold (Some s) (Some v) c d i = λ l. d v
   number_foretold o v c d i = absurd (grind arith)

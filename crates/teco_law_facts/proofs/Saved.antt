@@ -1,19 +1,11 @@
 -- Saved numbers: where the buffer is no shorter than it was they are still places of it.
-use Rattle.std.proofs.Common.{◌≡◌, ℕ, zero, suc, ◌+◌, ◌≤◌, arith, refl, sym, subst, ap, ◌∙◌, ℤ, List, [], ◌∷◌, length}
-use Rattle.std.proofs.Common.{get_or, replicate, Bool, true, false, cond, ◌&&◌}
-use Rattle.std.specs.Prelude.{IsTrue}
-use Rattle.std.proofs.lemmas.Int.{ints}
+use Rattle.teco_law_facts.proofs.Prelude.{◌≡◌, ℕ, zero, suc, ◌+◌, ◌≤◌, arith, refl, sym, subst, ap, ◌∙◌, ℤ, List, []}
+use Rattle.teco_law_facts.proofs.Prelude.{◌∷◌, length, get_or, replicate, Bool, true, false, cond, ◌&&◌, IsTrue, ints}
+use Rattle.teco_law_facts.proofs.Prelude.{REGISTERS, Pair, empty_pair, covers_saved, AreSaved, none_saved, joined_saved}
+use Rattle.teco_law_facts.proofs.Prelude.{saved_after, IsPlaceIf}
 use Rattle.std.proofs.lemmas.List.{length-replicate}
-use Rattle.teco_base.specs.declared.TheConstants.{REGISTERS}
-use Rattle.teco_model.specs.Registers.{Pair, empty_pair}
 use Rattle.teco_law_facts.proofs.Each.{each_at, each_length}
 use Rattle.teco_verifier.specs.facts.Bodies.{unsaved_where}
-use Rattle.teco_verifier.specs.facts.Covers.{covers_saved}
-use Rattle.teco_law_facts.specs.Describes.{AreSaved}
-use Rattle.teco_verifier.specs.facts.Facts.{none_saved}
-use Rattle.teco_verifier.specs.facts.Joins.{joined_saved}
-use Rattle.teco_verifier.specs.facts.Shifts.{saved_after}
-use Rattle.teco_verifier.specs.facts.Values.{IsPlaceIf}
 
 -- all is ended, or the buffer is no shorter
 abbrev pub Widens : Bool → ℕ → ℕ → ℕ → ℕ → Type 0

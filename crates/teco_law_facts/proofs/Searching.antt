@@ -1,63 +1,40 @@
 -- S and FS: what is known of both outcomes is true.
-use Rattle.std.proofs.Common.{◌≡◌, ℕ, zero, suc, ◌+◌, ◌≤◌, arith, refl, sym, subst, ap, ◌∙◌, ℤ, pos, negsuc, ◌≤ℤ◌}
-use Rattle.std.proofs.Common.{int_le, int_lt, List, [], ◌∷◌, map, length, Bool, true, false, cond, nat_le, ◌&&◌}
-use Rattle.std.proofs.Common.{Option, Some, None, Result, Ok, Err, IfOk, IfSome, inl, inr, ◌-◌}
-use Rattle.std.specs.Prelude.{unwrap_or, not}
-use Rattle.std.proofs.lemmas.Int.{ints}
-use Rattle.std.proofs.lemmas.List.{length-map}
-use Rattle.std.proofs.lemmas.Bool.Decides.{nat_tests}
-use Rattle.teco_base.specs.declared.TheConstants.{LIMIT, REGISTERS}
-use Rattle.teco_base.specs.declared.code.Code.{Code}
+use Rattle.teco_law_facts.proofs.Prelude.{◌≡◌, ℕ, zero, suc, ◌+◌, ◌≤◌, arith, refl, sym, ap, ◌∙◌, ℤ, pos, negsuc, ◌≤ℤ◌}
+use Rattle.teco_law_facts.proofs.Prelude.{int_le, int_lt, List, [], ◌∷◌, map, length, Bool, true, false, cond, nat_le}
+use Rattle.teco_law_facts.proofs.Prelude.{◌&&◌, Option, Some, None, Result, Ok, Err, IfOk, IfSome, ◌-◌, unwrap_or, ints}
+use Rattle.teco_law_facts.proofs.Prelude.{length-map, nat_tests, LIMIT, REGISTERS, Code, text_after_replacement}
+use Rattle.teco_law_facts.proofs.Prelude.{is_zero, Element, IsMatch, Pattern, minimum, Finding, Found, Missed, Kept}
+use Rattle.teco_law_facts.proofs.Prelude.{after, answer_where, IsInBuffer, MissArrives, SearchArrives, finding, Taken}
+use Rattle.teco_law_facts.proofs.Prelude.{Search, Find, Replace, FindInPages, ReplaceInPages, Span, Polynomial, value}
+use Rattle.teco_law_facts.proofs.Prelude.{KnownTaken, ◌>>=◌, Run, run_behind, IsWhole, Holds, IsAt, Describes, IsTaken}
+use Rattle.teco_law_facts.proofs.Prelude.{IsOptional, ArePending, fore_of, back_of, Position, Facts, at_position, Edges}
+use Rattle.teco_law_facts.proofs.Prelude.{leaving, facts_taken, count_of, Shift, shifted, facts_behind, saved_after}
+use Rattle.teco_law_facts.proofs.Prelude.{fall_after, Succeeds, Leads, Arrives, FitsOn, ArrivesOn, Placed}
+use Rattle.teco_law_facts.proofs.Prelude.{IsValue, IsWithin, Refusal, Interval, Value}
+use Rattle.std.specs.Prelude.{not}
 use Rattle.teco_base.specs.declared.code.Code.TheVariants as code
-use Rattle.teco_base.specs.Text.{text_after_replacement}
 use Rattle.teco_model.specs.Arguments as model
-use Rattle.teco_model.specs.Checked.{◌>>=◌ as ◌>>>=◌}
-use Rattle.teco_model.specs.Condition.{is_zero}
-use Rattle.teco_model.specs.Element.{Element}
-use Rattle.teco_model.specs.laws.Matching.{IsMatch}
-use Rattle.teco_model.specs.Pattern.{Pattern, minimum}
 use Rattle.teco_model.specs.Search as searching
-use Rattle.teco_model.specs.Search.{Finding, Found, Missed}
-use Rattle.teco_model.specs.State.{Kept}
-use Rattle.teco_model.specs.Going.{after}
 use Rattle.teco_model.specs.Searching.{kept_by_miss, at_start}
-use Rattle.teco_law_facts.specs.SoundSearches.{answer_where, IsInBuffer, MissArrives, SearchArrives, SearchesAreSound}
-use Rattle.teco_law_facts.specs.SoundSearches.{finding}
-use Rattle.teco_model.specs.declared.arguments.Taken.{Taken}
-use Rattle.teco_model.specs.declared.kind.Search.{Search}
-use Rattle.teco_model.specs.declared.kind.Search.TheVariants.{Find, Replace, FindInPages, ReplaceInPages}
-use Rattle.teco_model.specs.declared.pattern.Span.{Span}
-use Rattle.teco_poly.specs.Polynomial.{Polynomial, value}
+use Rattle.teco_law_facts.specs.SoundSearches.{SearchesAreSound}
 use Rattle.teco_law_facts.proofs.Insertion.{replaced_at, replaced_within}
-use Rattle.teco_law_facts.proofs.Flowing.{each_dropped, taken_are}
+use Rattle.teco_law_facts.proofs.Flowing.{leaves_described, taken_are}
 use Rattle.teco_law_facts.proofs.Matching.{HasPattern, pattern_with, LiesAhead, match_lies}
 use Rattle.teco_law_facts.proofs.Meeting.{IsJoin, position_joined}
 use Rattle.teco_law_facts.proofs.Motion.{or_single}
 use Rattle.teco_law_facts.proofs.Numbers.{AreDistances, interval_of_in}
 use Rattle.teco_law_facts.proofs.Pending.{settled_are, taken_covers}
 use Rattle.teco_law_facts.proofs.Near.{distances}
+use Rattle.teco_law_facts.proofs.Outcomes.{answered, found_described, missed_described}
 use Rattle.teco_law_facts.proofs.Saved.{Widens, saved_count, length_after}
 use Rattle.teco_law_facts.proofs.Shapes.{Shifts, shifted_at, shifted_holds, value-sum_of, value-number}
-use Rattle.teco_law_facts.proofs.Steps.{Covers}
+use Rattle.teco_law_facts.proofs.Steps.{by_kind, Covers}
 use Rattle.teco_law_facts.proofs.Transfers.{without_answer, pending_again}
 use Rattle.teco_verifier.specs.facts.Arguments as known
-use Rattle.teco_verifier.specs.facts.Arguments.{KnownTaken}
-use Rattle.teco_verifier.specs.facts.Attempt.{◌>>=◌}
-use Rattle.teco_law_facts.specs.Describes.{Run, run_behind, IsWhole, Holds, IsAt, Describes, HasFallen, IsTaken}
-use Rattle.teco_law_facts.specs.Describes.{IsOptional, ArePending, fore_of, back_of}
-use Rattle.teco_verifier.specs.facts.Facts.{Position, Facts}
-use Rattle.teco_verifier.specs.facts.Flows.{Edges, leaving, facts_taken}
-use Rattle.teco_verifier.specs.facts.Motions.{count_of, success}
 use Rattle.teco_verifier.specs.facts.Searches as row
-use Rattle.teco_verifier.specs.facts.Shifts.{Shift, shifted, facts_behind, position_after, saved_after, fall_after}
-use Rattle.teco_law_facts.specs.SoundElements.{Succeeds, Leads, Arrives, FitsOn, ArrivesOn}
+use Rattle.teco_verifier.specs.facts.Shifts.{position_after}
 use Rattle.teco_verifier.specs.facts.Transfer as transfers
-use Rattle.teco_verifier.specs.facts.Transfer.{Placed, transfer}
-use Rattle.teco_verifier.specs.facts.Values.{IsValue, IsWithin, value_in}
-use Rattle.teco_verifier.specs.declared.refusal.Refusal.{Refusal}
 use Rattle.teco_verifier.specs.declared.refusal.Refusal.TheVariants as refusal
-use Rattle.teco_verifier.specs.declared.values.Interval.{Interval}
-use Rattle.teco_verifier.specs.declared.values.Value.{Value}
 
 -- ---- the count is at least 1
 abbrev pub Counts : Option ℤ → Option ℤ → Type 0
@@ -240,7 +217,7 @@ module _ (run : Run) (facts : Facts) (unread : ℕ) (kept : Kept) (whole : IsWho
 
 -- ---- steps
 pub succeeds_then : {X Y : Type 0} (P : X → Type 0) (Q : Y → Type 0) (r : Result X Code) (f : X → Y)
-    → ((x : X) → P x → Q (f x)) → Succeeds P r → Succeeds Q (r >>>= λ x. Ok (f x))
+    → ((x : X) → P x → Q (f x)) → Succeeds P r → Succeeds Q (r >>= λ x. Ok (f x))
 succeeds_then P Q (Ok x) f k h = k x h
 succeeds_then P Q (Err c) f k h = h
 
@@ -250,7 +227,7 @@ minimum_known : {Y Z : Type 0} (L : Y → Type 0) (Q : Y → Z → Type 0) (kept
     → Result Z Code) → minimum (c ∷ text) ≡ o
     → ((least : ℕ) (has : HasPattern kept.registers (not (is_zero kept.mode)) (c ∷ text) least)
     → Leads L Q (f least >>= g) (k has.it))
-    → Leads L Q ((row.known_minimum o >>= f) >>= g) (searching.pattern_of (c ∷ text) kept >>>= k)
+    → Leads L Q ((row.known_minimum o >>= f) >>= g) (searching.pattern_of (c ∷ text) kept >>= k)
 minimum_known L Q kept c text (Err e) f g k m h = tt
 minimum_known L Q kept c text (Ok None) f g k m h = tt
 minimum_known L Q kept c text (Ok (Some least)) f g k m h = let has =
@@ -264,7 +241,7 @@ minimum_leads : {Y Z : Type 0} (L : Y → Type 0) (Q : Y → Z → Type 0) (kept
     → Result Facts Refusal) (g : Facts → Result Y Refusal) (k : Pattern → Result Z Code)
     → ((least : ℕ) (p : Pattern) → IsLong p kept.text least → Leads L Q (f least >>= g) (k p))
     → Leads L Q ((row.minimum_of text >>= f) >>= g)
-    (searching.pattern_of (searching.search_text_of text kept) kept >>>= k)
+    (searching.pattern_of (searching.search_text_of text kept) kept >>= k)
 minimum_leads L Q kept [] f g k h = tt
 minimum_leads L Q kept (c ∷ text) f g k h =
     minimum_known L Q kept c text _ f g k refl (λ least has. h least has.it (has.long kept.text))
@@ -295,13 +272,6 @@ module _ (run : Run) (facts : Facts) (unread : ℕ) (kept : Kept) (arguments : m
   abbrev failed : Position
   failed = row.position_failed s x.element.colons taking
 
-  success_is : (fore back : ℕ) (v : ℤ) → negsuc 0 ≤ℤ v → v ≤ℤ pos 0 → IsValue fore back (value_in success) v
-  success_is fore back v l u = record {
-    is = record { low = omega (arith, ints); high = omega (arith, ints) };
-    fits = omega (arith, ints);
-    saved = tt;
-  }
-
   module _ (least : ℕ) (held : Polynomial)
       (more : value held run.n ≡ value facts.held run.n + value
       (row.shift_found s least (length x.element.second) facts.position.distances).growth run.n) where
@@ -313,13 +283,6 @@ module _ (run : Run) (facts : Facts) (unread : ℕ) (kept : Kept) (arguments : m
 
     found_holds : (new : Kept) → Shifts run.n shift kept new → Holds run found unread new
     found_holds new sh = shifted_holds run taking unread kept whole taking_holds shift new held sh more
-
-    abbrev answered : Position → Facts
-    answered position = record found {
-      arguments = known.levels_after_answer (Some (value_in success)) found.arguments;
-      answer = Some (record { found = found.position; failed = failed });
-      position = position;
-    }
 
     found_arrives : (new : Kept) → Shifts run.n shift kept new
         → Arrives run facts.held unread kept found (after new (model.levels_after_taking arguments))
@@ -334,27 +297,11 @@ module _ (run : Run) (facts : Facts) (unread : ℕ) (kept : Kept) (arguments : m
         }
 
     found_answers : (position : Position) → IsJoin run found.position failed position → (new : Kept)
-        → Shifts run.n shift kept new → Arrives run facts.held unread kept (answered position)
+        → Shifts run.n shift kept new → Arrives run facts.held unread kept (answered found failed position)
         (after new (model.levels_after_answer (Some (negsuc 0)) (model.levels_after_taking arguments)))
-    found_answers position j new sh = let h = found_holds new sh in record {
-      described = record {
-        state = record {
-          position = j.left (fore_of new) (back_of new) unread new.registers.pairs h.position;
-          held = h.held;
-          registers = h.registers;
-          pushed = h.pushed;
-        };
-        pending =
-            record {
-              level = record {
-                first = tt;
-                value = success_is (fore_of new) (back_of new) (negsuc 0) (omega (arith, ints)) (omega (arith, ints));
-                operator = refl;
-              };
-              outer = (settled_at shift.ends (fore_of new) (back_of new) sh.wider).outer;
-            };
-        answers = (negsuc 0, refl, record { either = inl refl; found = λ e. h.position; failed = λ e. absurd (cc) });
-      };
+    found_answers position j new sh = record {
+      described = found_described run unread new found failed position j arguments
+          (settled_at shift.ends (fore_of new) (back_of new) sh.wider) (found_holds new sh);
       grown = omega (arith, more, sh.grown);
     }
 
@@ -371,67 +318,45 @@ module _ (run : Run) (facts : Facts) (unread : ℕ) (kept : Kept) (arguments : m
     missed_registers (suc zero) last = refl
     missed_registers (suc (suc colons)) last = refl
 
+    missed_holds : (last : List ℕ) → Holds run (at_position failed found) unread
+        (kept_by_miss x.element.colons (record kept { search_text = last }))
+    missed_holds last =
+        let text = ap length (missed_text x.element.colons last) in
+        record {
+          position = failed_at run taking unread kept whole taking_holds s inside_buffer x.element.colons last;
+          held = omega (arith, text, more, d.state.held);
+          registers =
+              let r = d.state.registers in
+              rw (missed_registers x.element.colons last) (record { numbers = r.numbers; texts = r.texts });
+          pushed = rw (missed_registers x.element.colons last) d.state.pushed;
+        }
+
     missed_answers : (position : Position) → IsJoin run found.position failed position → (last : List ℕ)
-        → Arrives run facts.held unread kept (answered position)
+        → Arrives run facts.held unread kept (answered found failed position)
         (after (kept_by_miss x.element.colons (record kept { search_text = last }))
         (model.levels_after_answer (Some (pos 0)) (model.levels_after_taking arguments)))
     missed_answers position j last =
-        let h = d.state in
         let new : Kept = kept_by_miss x.element.colons (record kept { search_text = last }) in
-        let i = failed_at run taking unread kept whole taking_holds s inside_buffer x.element.colons last in
         let text : length new.text ≡ length kept.text = ap length (missed_text x.element.colons last) in record {
-          described = record {
-            state = record {
-              position = j.right (fore_of new) (back_of new) unread new.registers.pairs i;
-              held = omega (arith, text, more, h.held);
-              registers =
-                  rw (missed_registers x.element.colons last)
-                  (record { numbers = h.registers.numbers; texts = h.registers.texts });
-              pushed =
-                  rw (missed_registers x.element.colons last) h.pushed;
-            };
-            pending =
-                record {
-                  level = record {
-                    first = tt;
-                    value = success_is (fore_of new) (back_of new) (pos 0) (omega (arith, ints)) (omega (arith, ints));
-                    operator = refl;
-                  };
-                  outer = (settled_at shift.ends (fore_of new) (back_of new)
-                      (λ e. missed_wider run taking unread kept whole taking_holds x.element.colons last)).outer;
-                };
-            answers = (pos 0, refl, record { either = inr refl; found = λ e. absurd (cc); failed = λ e. i });
-          };
+          described = missed_described run unread new found failed position j arguments
+              (settled_at shift.ends (fore_of new) (back_of new)
+              (λ e. missed_wider run taking unread kept whole taking_holds x.element.colons last)) (missed_holds last);
           grown = omega (arith, text, more);
         }
 
     missed_leaves : x.element.colons ≡ 0 → (last typed : List ℕ)
         → Arrives (run_behind 1 run) facts.held unread kept (leaving 1 (row.facts_failed s x.element.colons taking))
         (after (record (at_start (record kept { search_text = last })) { typed = typed }) model.no_arguments)
-    missed_leaves none last typed =
-        let h = d.state in
-        let i : IsAt run failed (length kept.text - 0) 0 unread kept.registers.pairs =
-        subst (λ colons. IsAt run (row.position_failed s colons taking)
-        (length kept.text - 0) 0 unread kept.registers.pairs) (sym none)
-        (failed_at run taking unread kept whole taking_holds s inside_buffer 0 last) in record {
-          described = record {
-            state = record {
-              position = record {
-                begin = i.begin;
-                end = i.end;
-                fallen = each_dropped (HasFallen (length kept.text - 0 + unread)) 1 failed.falls run.turns i.fallen;
-                ahead = i.ahead;
-                saved = i.saved;
-              };
-              held = h.held;
-              registers = record { numbers = h.registers.numbers; texts = h.registers.texts };
-              pushed = h.pushed;
-            };
-            pending = record { level = record { first = tt; value = tt; operator = refl }; outer = tt };
-            answers = tt;
-          };
-          grown = omega arith;
-        }
+    missed_leaves none last typed = record {
+      described = leaves_described run 1 (row.facts_failed s x.element.colons taking) unread
+          (record (at_start (record kept { search_text = last })) { typed = typed }) (record {
+            position = rw none (failed_at run taking unread kept whole taking_holds s inside_buffer 0 last);
+            held = d.state.held;
+            registers = let r = d.state.registers in record { numbers = r.numbers; texts = r.texts };
+            pushed = d.state.pushed;
+          });
+      grown = omega arith;
+    }
 
     -- the edges, by whether the search counts as having a colon
     abbrev ArrivesBy : Bool → Edges → Finding → Type 0
@@ -451,13 +376,13 @@ module _ (run : Run) (facts : Facts) (unread : ℕ) (kept : Kept) (arguments : m
 
     answered_by : (r : Result Position Refusal) → IfOk r (IsJoin run found.position failed) → (o : Option Span)
         → IfSome o (LiesAhead kept.text kept.pointer least) → (last : List ℕ)
-        → Leads (FitsOn run.n) (ArrivesBy true) (transfers.on (r >>= λ position. Ok (answered position)))
+        → Leads (FitsOn run.n) (ArrivesBy true) (transfers.on (r >>= λ position. Ok (answered found failed position)))
         (searching.finding_of s x.element o (record kept { search_text = last }))
     answered_by (Err why) j o l last = tt
     answered_by (Ok position) j None l last = λ fits. missed_answers position j last
     answered_by (Ok position) j (Some span) l last =
         λ fits. span_found span last l fits.buffer
-        (ArrivesBy true (record { on = Some (answered position); away = None })) (found_answers position j)
+        (ArrivesBy true (record { on = Some (answered found failed position); away = None })) (found_answers position j)
 
     outcome_leads : (colon : Bool) → (colon ≡ false → x.element.colons ≡ 0) → (o : Option Span)
         → IfSome o (LiesAhead kept.text kept.pointer least) → (last : List ℕ)
@@ -531,7 +456,7 @@ module _ (run : Run) (facts : Facts) (unread : ℕ) (kept : Kept) (arguments : m
       ((r >>= λ known. row.count_checked s known.first known.value facts.position.distances >>= λ u. Ok taking)
       >>= λ taken. transfers.search_allowed x.inside x.colon >>= λ allowed. row.facts_found s x.element taken
       >>= λ found. transfers.search_outcomes x.colon found (row.facts_failed s x.element.colons taken))
-      (c >>>= λ t. searching.search s x.element t kept)
+      (c >>= λ t. searching.search s x.element t kept)
   at_search (Err why) c h = tt
   at_search (Ok k) (Err c) h = absurd h
   at_search (Ok k) (Ok t) h = by_count _
@@ -545,12 +470,10 @@ module _ (run : Run) (facts : Facts) (unread : ℕ) (kept : Kept) (arguments : m
         by_count (Ok u) (m, e) = allowed_first _ _ _ (searched t m e)
 
 pub searches_are_sound : SearchesAreSound
-unfolding transfer
 searches_are_sound run facts unread kept arguments x s whole d e b c =
     let n = without_answer run facts unread kept arguments d in
-    subst (λ k. Leads (FitsOn run.n) (SearchArrives run facts.held unread kept arguments x)
-    (transfers.edges_of k x (transfers.answer_for k facts) (transfers.without_answer facts))
-    (finding s x.element kept arguments)) (sym e)
+    by_kind x facts _ (λ r. Leads (FitsOn run.n) (SearchArrives run facts.held unread kept arguments x) r
+    (finding s x.element kept arguments)) e
     (at_search run (transfers.without_answer facts) unread kept arguments whole n s b x c _ _
     (taken_covers facts.position.distances (fore_of kept) (back_of kept)
     (distances run facts unread kept whole d.state) facts.arguments.level arguments.level d.pending.level))

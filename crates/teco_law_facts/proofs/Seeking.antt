@@ -1,66 +1,40 @@
 -- N and FN: page after page goes by, and what is known is true where they find, and where no page is left.
-use Rattle.std.proofs.Common.{◌∙◌, ◌≡◌, ℕ, suc, ◌+◌, ◌-◌, ◌≤◌, arith, refl, sym, subst, ℤ, pos, negsuc, ◌≤ℤ◌, List}
-use Rattle.std.proofs.Common.{[], ◌∷◌, length, ◌++◌, length-append, length-take, length-drop, map, Bool, true, false}
-use Rattle.std.proofs.Common.{cond, nat_le, ◌==◌, Option, Some, None, Result, Ok, Err, IfOk, inl, inr, ok_or, not}
-use Rattle.std.specs.Prelude.{unwrap_or, ⊤}
-use Rattle.std.proofs.lemmas.Int.{ints}
-use Rattle.std.proofs.lemmas.List.{length-map}
-use Rattle.std.proofs.lemmas.Bool.Decides.{nat_tests}
-use Rattle.teco_base.specs.declared.TheConstants.{LIMIT, REGISTERS}
-use Rattle.teco_base.specs.declared.bytes.TheConstants.{FF}
-use Rattle.teco_base.specs.declared.code.Code.{Code}
+use Rattle.teco_law_facts.proofs.Prelude.{◌∙◌, ◌≡◌, ℕ, suc, ◌+◌, ◌-◌, ◌≤◌, arith, refl, sym, subst, ℤ, pos, negsuc}
+use Rattle.teco_law_facts.proofs.Prelude.{List, [], ◌∷◌, length, ◌++◌, length-append, length-take, length-drop, map}
+use Rattle.teco_law_facts.proofs.Prelude.{Bool, true, false, cond, nat_le, ◌==◌, Option, Some, None, Result, Ok, Err}
+use Rattle.teco_law_facts.proofs.Prelude.{IfOk, not, unwrap_or, ints, length-map, nat_tests, LIMIT, REGISTERS, FF, Code}
+use Rattle.teco_law_facts.proofs.Prelude.{text_after_replacement, is_zero, Element, Output, behind_form_feed, unread}
+use Rattle.teco_law_facts.proofs.Prelude.{Met, unread_of, Turned, minimum, answer_where, Kept, World, Taken, Search}
+use Rattle.teco_law_facts.proofs.Prelude.{Find, Replace, FindInPages, ReplaceInPages, Sought, Last, Wanted, Span}
+use Rattle.teco_law_facts.proofs.Prelude.{Polynomial, value, number, ok_any, ◌>>=◌, AreSaved, Run}
+use Rattle.teco_law_facts.proofs.Prelude.{run_behind, IsWhole, Holds, IsAt, Describes, IsTaken, ArePending, fore_of}
+use Rattle.teco_law_facts.proofs.Prelude.{back_of, none_saved, at_position, Position, Facts, Edges, leaving}
+use Rattle.teco_law_facts.proofs.Prelude.{facts_taken, steps_of_search, saved_after, Shift, shifted, facts_behind}
+use Rattle.teco_law_facts.proofs.Prelude.{fall_after, Succeeds, Leads, FitsOn, ComesTo, Comes, IsInPages, facts_seeking}
+use Rattle.teco_law_facts.proofs.Prelude.{IsSeeking, MissComes, LooksOn, Seeks, Placed, Refusal, Distances}
 use Rattle.teco_base.specs.declared.code.Code.TheVariants as code
-use Rattle.teco_base.specs.Text.{text_after_replacement}
 use Rattle.teco_model.specs.Arguments as model
-use Rattle.teco_model.specs.Checked.{◌>>=◌ as ◌>>>=◌}
-use Rattle.teco_model.specs.Condition.{is_zero}
-use Rattle.teco_model.specs.Element.{Element}
-use Rattle.teco_model.specs.Files.{Output, with_written}
-use Rattle.teco_model.specs.Pages.{behind_form_feed}
+use Rattle.teco_model.specs.Files.{with_written}
 use Rattle.teco_model.specs.Paging as paging
-use Rattle.teco_model.specs.Paging.{unread, Met, MetHere, unread_of, Turned}
-use Rattle.teco_model.specs.Pattern.{minimum}
+use Rattle.teco_model.specs.Paging.{MetHere}
 use Rattle.teco_model.specs.Search as searching
-use Rattle.teco_law_facts.specs.SoundSearches.{answer_where}
-use Rattle.teco_model.specs.State.{Kept, World}
-use Rattle.teco_model.specs.declared.arguments.Taken.{Taken}
-use Rattle.teco_model.specs.declared.kind.Search.{Search}
-use Rattle.teco_model.specs.declared.kind.Search.TheVariants.{Find, Replace, FindInPages, ReplaceInPages}
-use Rattle.teco_model.specs.declared.pattern.Sought.{Sought}
-use Rattle.teco_model.specs.declared.pattern.Sought.TheVariants.{Last, Wanted}
-use Rattle.teco_model.specs.declared.pattern.Span.{Span}
-use Rattle.teco_poly.specs.Polynomial.{Polynomial, value, number}
 use Rattle.teco_law_facts.proofs.Saved.{none_are, none_again, saved_count, length_after}
-use Rattle.teco_law_facts.proofs.Flowing.{each_dropped, taken_are, taking_is}
+use Rattle.teco_law_facts.proofs.Flowing.{leaves_described, taken_are, taking_is}
+use Rattle.teco_law_facts.proofs.Leading.{succeeds_with, taken_lead}
 use Rattle.teco_law_facts.proofs.Matching.{pattern_with, LiesAhead, LastLies, sought_lies}
 use Rattle.teco_law_facts.proofs.Meeting.{IsJoin, position_joined}
 use Rattle.teco_law_facts.proofs.Near.{distances}
+use Rattle.teco_law_facts.proofs.Outcomes.{answered, found_described, missed_described}
 use Rattle.teco_law_facts.proofs.Paging.{page_short, turned_world, turned_to, again_rest, again_holds}
 use Rattle.teco_law_facts.proofs.Pending.{settled_are}
 use Rattle.teco_law_facts.proofs.Searching.{Counts, counted, succeeds_then}
 use Rattle.teco_law_facts.proofs.Shapes.{Shifts, value-sum_of, value-number, falls_after, more_unread, ahead_most}
-use Rattle.teco_law_facts.proofs.Steps.{Covers, given_then}
+use Rattle.teco_law_facts.proofs.Steps.{by_kind}
 use Rattle.teco_law_facts.proofs.Transfers.{without_answer}
 use Rattle.teco_verifier.specs.facts.Arguments as known
-use Rattle.teco_verifier.specs.facts.Arguments.{KnownTaken}
-use Rattle.teco_verifier.specs.facts.Attempt.{◌>>=◌}
-use Rattle.teco_law_facts.specs.Describes.{AreSaved, Run, run_behind, IsWhole, Holds, IsAt, Describes, HasFallen}
-use Rattle.teco_law_facts.specs.Describes.{IsTaken, ArePending, fore_of, back_of}
-use Rattle.teco_verifier.specs.facts.Facts.{none_saved, Position, Facts}
-use Rattle.teco_verifier.specs.facts.Flows.{Edges, leaving, facts_taken}
-use Rattle.teco_verifier.specs.facts.Motions.{success}
-use Rattle.teco_verifier.specs.facts.Printed.{steps_of_search}
 use Rattle.teco_verifier.specs.facts.Searches as row
-use Rattle.teco_verifier.specs.facts.Shifts.{saved_after, Shift, shifted, facts_behind, fall_after}
-use Rattle.teco_law_facts.specs.SoundElements.{Succeeds, Leads, FitsOn}
-use Rattle.teco_law_facts.specs.SoundPages.{ComesTo, Comes}
-use Rattle.teco_law_facts.specs.SoundSeeking.{IsInPages, facts_seeking, IsSeeking, MissComes, LooksOn, Seeks}
 use Rattle.teco_law_facts.specs.SoundSeeking.{PageSearchesAreSound, SearchStepsAreBounded}
 use Rattle.teco_verifier.specs.facts.Transfer as transfers
-use Rattle.teco_verifier.specs.facts.Transfer.{Placed, transfer}
-use Rattle.teco_verifier.specs.facts.Values.{IsValue, value_in}
-use Rattle.teco_verifier.specs.declared.refusal.Refusal.{Refusal}
-use Rattle.teco_verifier.specs.declared.values.Distances.{Distances}
 
 -- ---- how many are sought
 pages_of_count : (v : ℤ) (m : ℕ) → searching.nonzero v ≡ Ok (pos (suc m)) → paging.page_count v ≡ Ok (suc m)
@@ -156,15 +130,9 @@ module _ (n : ℕ) (kept : Kept) (e : Element) (least : ℕ) (distances : Distan
 -- ---- steps
 met_then : (Q : paging.Looked → Type 0) (P : Kept → Type 0) (now : World) (r : Result Kept Code)
     → ((new : Kept) → P new → Q (Met (record now { kept = new }))) → Succeeds P r
-    → Succeeds Q ((r >>>= λ met. Ok (MetHere met)) >>>= λ here. paging.looked_on here now)
+    → Succeeds Q ((r >>= λ met. Ok (MetHere met)) >>= λ here. paging.looked_on here now)
 met_then Q P now (Ok new) k h = k new h
 met_then Q P now (Err c) k h = h
-
-with_output : (Q : paging.Looked → Type 0) (o : Option Output) (output : Output) (f : Output
-    → Result paging.Looked Code) → o ≡ Some output → ((q : Output) → Succeeds Q (f q))
-    → Succeeds Q (ok_or o code.Nfo >>>= f)
-with_output Q None output f e h = absurd (cc)
-with_output Q (Some q) output f e h = h q
 
 pub written_out : (bytes : List ℕ) (o : Option Output) (output : Output) → o ≡ Some output
     → (q : Output) × (with_written bytes o ≡ Some q)
@@ -236,85 +204,44 @@ module _ (run : Run) (facts : Facts) (world : World) (pending : model.Arguments)
       → unread_of (turned_world now) + 1 ≤ unread_of now
   seeks_less now k c bytes e = search (again_rest, page_shorter, arith)
 
-  success_is : (fore back : ℕ) (v : ℤ) → negsuc 0 ≤ℤ v → v ≤ℤ pos 0 → IsValue fore back (value_in success) v
-  success_is fore back v l u = record {
-    is = record { low = omega (arith, ints); high = omega (arith, ints) };
-    fits = omega (arith, ints);
-    saved = tt;
-  }
-
   module _ (s : Search) (in_pages : IsInPages s) where
     -- ---- where no page is left, the buffer is empty
     abbrev failed : Position
-    failed = row.position_failed s x.element.colons (facts_taken facts)
+    failed = row.position_failed FindInPages 0 (facts_taken facts)
 
-    emptied : World → World
-    emptied now = paging.looked_through now
+    abbrev facts_failed : Facts
+    facts_failed = at_position failed (facts_taken facts)
 
-    failed_at_end : (now : World) → Seeking now → unread now.files ≡ [] → (u : ℕ) → u ≤ unread_of now
-        → IsAt run failed 0 0 u now.kept.registers.pairs
-    failed_at_end now k e u l = by_search s in_pages where
-      at_end : IsAt run (row.position_failed FindInPages 0 (facts_taken facts)) 0 0 u now.kept.registers.pairs
-      at_end = let h = k.comes.described.state in record {
-        begin = omega arith;
-        end = omega arith;
-        fallen = falls_after None facts.position.falls run.turns (fore_of now.kept + unread_of now)
-            (0 + u) tt h.position.fallen;
-        ahead = omega (arith, h.held, l);
-        saved = none_again (fore_of now.kept) (back_of now.kept) 0 0 none_saved now.kept.registers.pairs refl
-            h.position.saved;
-      }
+    failed_is : row.position_failed s x.element.colons (facts_taken facts) ≡ failed
+    failed_is = by s in_pages where
+      by : (s : Search) → IsInPages s → row.position_failed s x.element.colons (facts_taken facts) ≡ failed
+      by FindInPages b = refl
+      by ReplaceInPages b = refl
+      by s b = absurd (grind arith)
 
-      by_search : (s : Search) → IsInPages s
-          → IsAt run (row.position_failed s x.element.colons (facts_taken facts)) 0 0 u now.kept.registers.pairs
-      by_search FindInPages b = record {
-        begin = at_end.begin;
-        end = at_end.end;
-        fallen = at_end.fallen;
-        ahead = at_end.ahead;
-        saved = at_end.saved;
-      }
-      by_search ReplaceInPages b = record {
-        begin = at_end.begin;
-        end = at_end.end;
-        fallen = at_end.fallen;
-        ahead = at_end.ahead;
-        saved = at_end.saved;
-      }
-      by_search s b = absurd (grind arith)
+    failed_at_end : (now : World) → Seeking now → unread now.files ≡ []
+        → IsAt run failed 0 0 (unread_of now) now.kept.registers.pairs
+    failed_at_end now k e = let h = k.comes.described.state in record {
+      begin = omega arith;
+      end = omega arith;
+      fallen = falls_after None facts.position.falls run.turns (fore_of now.kept + unread_of now)
+          (0 + unread_of now) tt h.position.fallen;
+      ahead = omega (arith, h.held);
+      saved = none_again (fore_of now.kept) (back_of now.kept) 0 0 none_saved now.kept.registers.pairs refl
+          h.position.saved;
+    }
 
     falls_alike : (v : Option ℤ) → length (map (fall_after v) facts.position.falls) ≡ length failed.falls
-    falls_alike v = by_search s in_pages where
-      by_search : (s : Search) → IsInPages s
-          → length (map (fall_after v) facts.position.falls) ≡ length
-          (row.position_failed s x.element.colons (facts_taken facts)).falls
-      by_search FindInPages b = omega (
-        arith,
-        length-map facts.position.falls (fall_after v),
-        length-map facts.position.falls (fall_after None),
-      )
-      by_search ReplaceInPages b = omega (
-        arith,
-        length-map facts.position.falls (fall_after v),
-        length-map facts.position.falls (fall_after None),
-      )
-      by_search s b = absurd (grind arith)
+    falls_alike v =
+        omega (arith, length-map facts.position.falls (fall_after v), length-map facts.position.falls (fall_after None))
 
     -- nothing is saved in either outcome
     saved_alike : (ends : Bool) → length (saved_after ends facts.position.saved) ≡ length failed.saved
-    saved_alike ends = by_search s in_pages where
-      all : length facts.position.saved ≡ REGISTERS
-      all = saved_count (fore_of world.kept) (back_of world.kept) facts.position.saved world.kept.registers.pairs
-          d.state.position.saved ∙ whole.count
-
-      by_search : (s : Search) → IsInPages s
-          → length (saved_after ends facts.position.saved) ≡ length
-          (row.position_failed s x.element.colons (facts_taken facts)).saved
-      by_search FindInPages b = length_after ends facts.position.saved all
-          ∙ sym (length_after true facts.position.saved all)
-      by_search ReplaceInPages b = length_after ends facts.position.saved all
-          ∙ sym (length_after true facts.position.saved all)
-      by_search s b = absurd (grind arith)
+    saved_alike ends =
+        let all : length facts.position.saved ≡ REGISTERS =
+        saved_count (fore_of world.kept) (back_of world.kept) facts.position.saved world.kept.registers.pairs
+        d.state.position.saved ∙ whole.count in
+        length_after ends facts.position.saved all ∙ sym (length_after true facts.position.saved all)
 
     ends_found : (least new : ℕ) (distances : Distances) → (row.shift_found s least new distances).ends ≡ true
     ends_found least new distances = by_search s in_pages where
@@ -332,14 +259,6 @@ module _ (run : Run) (facts : Facts) (world : World) (pending : model.Arguments)
       abbrev found : Facts
       found = facts_behind shift held (facts_taken facts)
 
-      abbrev answered : Position → Facts
-      answered position =
-          record found {
-            arguments = known.levels_after_answer (Some (value_in success)) found.arguments;
-            answer = Some (record { found = found.position; failed = failed });
-            position = position;
-          }
-
       ends : shift.ends ≡ true
       ends = ends_found least (length x.element.second) facts.position.distances
 
@@ -348,18 +267,6 @@ module _ (run : Run) (facts : Facts) (world : World) (pending : model.Arguments)
           subst (λ ends. ArePending fore back
           (known.settled facts.position.distances ends (facts_taken facts).arguments)
           (model.levels_after_taking pending)) (sym ends) (anywhere fore back)
-
-      answer_is : (fore back : ℕ) (v : ℤ) → negsuc 0 ≤ℤ v → v ≤ℤ pos 0
-          → ArePending fore back (known.levels_after_answer (Some (value_in success)) found.arguments)
-          (model.levels_after_answer (Some v) (model.levels_after_taking pending))
-      answer_is fore back v l u = record {
-        level = record {
-          first = tt;
-          value = success_is fore back v l u;
-          operator = refl;
-        };
-        outer = (found_are fore back).outer;
-      }
 
       found_holds : (now : World) → Seeking now → (new : Kept) → Shifts run.n shift now.kept new
           → Holds run found (unread_of now) new
@@ -399,70 +306,42 @@ module _ (run : Run) (facts : Facts) (world : World) (pending : model.Arguments)
 
       found_answers : (position : Position) → IsJoin run found.position failed position → (now : World) → Seeking now
           → (new : Kept) → Shifts run.n shift now.kept new
-          → ComesTo run facts.held world (answered position)
+          → ComesTo run facts.held world (answered found failed position)
           (model.levels_after_answer (Some (negsuc 0)) (model.levels_after_taking pending)) (record now { kept = new })
-      found_answers position j now k new sh = let h = found_holds now k new sh in record {
-        described = record {
-          state = record {
-            position = j.left (fore_of new) (back_of new) (unread_of now) new.registers.pairs h.position;
-            held = h.held;
-            registers = record { numbers = h.registers.numbers; texts = h.registers.texts };
-            pushed =
-                h.pushed;
-          };
-          pending = answer_is (fore_of new) (back_of new) (negsuc 0) (omega (arith, ints)) (omega (arith, ints));
-          answers = (negsuc 0, refl, record { either = inl refl; found = λ e. h.position; failed = λ e. absurd (cc) });
-        };
+      found_answers position j now k new sh = record {
+        described = found_described run (unread_of now) new found failed position j pending
+            (found_are (fore_of new) (back_of new)) (found_holds now k new sh);
         grown = omega (arith, more, sh.grown, k.comes.grown);
       }
 
       -- and where it missed
       missed_answers : (position : Position) → IsJoin run found.position failed position → (now : World) → Seeking now
-          → unread now.files ≡ [] → ComesTo run facts.held world (answered position)
+          → unread now.files ≡ [] → ComesTo run facts.held world (answered found failed position)
           (model.levels_after_answer (Some (pos 0)) (model.levels_after_taking pending)) (paging.looked_through now)
-      missed_answers position j now k e =
-          let h = k.comes.described.state in
-          let i = failed_at_end now k e (unread_of now) (omega arith) in record {
-            described = record {
-              state = record {
-                position = j.right 0 0 (unread_of now) now.kept.registers.pairs i;
-                held = omega (arith, more, h.held);
-                registers =
-                    record { numbers = h.registers.numbers; texts = h.registers.texts };
-                pushed = h.pushed;
-              };
-              pending = answer_is 0 0 (pos 0) (omega (arith, ints)) (omega (arith, ints));
-              answers = (pos 0, refl, record { either = inr refl; found = λ e. absurd (cc); failed = λ e. i });
-            };
-            grown = omega (arith, more, k.comes.grown);
-          }
+      missed_answers position j now k e = let h = k.comes.described.state in record {
+        described = missed_described run (unread_of now) (paging.looked_through now).kept found failed position j
+            pending (found_are 0 0) (record {
+              position = failed_at_end now k e;
+              held = omega (arith, more, h.held);
+              registers = record { numbers = h.registers.numbers; texts = h.registers.texts };
+              pushed = h.pushed;
+            });
+        grown = omega (arith, more, k.comes.grown);
+      }
 
       missed_leaves : (now : World) → Seeking now → unread now.files ≡ [] → (typed : List ℕ)
-          → ComesTo (run_behind 1 run) facts.held world
-          (leaving 1 (row.facts_failed s x.element.colons (facts_taken facts))) model.no_arguments
+          → ComesTo (run_behind 1 run) facts.held world (leaving 1 facts_failed) model.no_arguments
           (let last = paging.looked_through now in record last { kept = record last.kept { typed = typed } })
-      missed_leaves now k e typed =
-          let h = k.comes.described.state in
-          let i = failed_at_end now k e (unread_of now) (omega arith) in record {
-            described = record {
-              state = record {
-                position = record {
-                  begin = i.begin;
-                  end = i.end;
-                  fallen = each_dropped (HasFallen (0 + unread_of now)) 1 failed.falls run.turns i.fallen;
-                  ahead =
-                      i.ahead;
-                  saved = i.saved;
-                };
-                held = omega (arith, h.held);
-                registers = record { numbers = h.registers.numbers; texts = h.registers.texts };
-                pushed = h.pushed;
-              };
-              pending = record { level = record { first = tt; value = tt; operator = refl }; outer = tt };
-              answers = tt;
-            };
-            grown = omega (arith, k.comes.grown);
-          }
+      missed_leaves now k e typed = let h = k.comes.described.state in record {
+        described = leaves_described run 1 facts_failed (unread_of now)
+            (record (paging.looked_through now).kept { typed = typed }) (record {
+              position = failed_at_end now k e;
+              held = omega (arith, h.held);
+              registers = record { numbers = h.registers.numbers; texts = h.registers.texts };
+              pushed = h.pushed;
+            });
+        grown = omega (arith, k.comes.grown);
+      }
 
       -- ---- a step, by what is true along the edges
       record Along (edges : Edges) : Type 0 where
@@ -490,13 +369,13 @@ module _ (run : Run) (facts : Facts) (world : World) (pending : model.Arguments)
 
         here_on : (r : Sought) → LastLies now.kept.text least now.kept.pointer r
             → Succeeds (LooksOn run seeking world pending x edges now)
-            (paging.here_of s x.element now.kept r >>>= λ here. paging.looked_on here now)
+            (paging.here_of s x.element now.kept r >>= λ here. paging.looked_on here now)
         here_on (Last span) l = met_then (LooksOn run seeking world pending x edges now)
             (Shifts run.n shift now.kept) now _ (along.met now k)
             (found_in run.n now.kept x.element least facts.position.distances span l s in_pages
             (omega (arith, k.comes.described.state.held, fits, more)))
-        here_on (Wanted n) l = with_output (LooksOn run seeking world pending x edges now) now.files.output k.output.0 _
-            k.output.1 (λ q. page_on n _ refl)
+        here_on (Wanted n) l = succeeds_with (LooksOn run seeking world pending x edges now) now.files.output k.output.0
+            _ _ k.output.1 (λ q. page_on n _ refl)
 
         looks_on : (n : ℕ) → Succeeds (LooksOn run seeking world pending x edges now)
             (paging.look_for s x.element n now)
@@ -521,7 +400,7 @@ module _ (run : Run) (facts : Facts) (world : World) (pending : model.Arguments)
 
       module _ (output : Output) (out : world.files.output ≡ Some output) (t : Taken) (c : Counts t.first t.value) where
         answers_seek : x.colon ≡ true → (r : Result Position Refusal) → IfOk r (IsJoin run found.position failed)
-            → IfOk (transfers.on (r >>= λ position. Ok (answered position))) (SeeksWith output t)
+            → IfOk (transfers.on (r >>= λ position. Ok (answered found failed position))) (SeeksWith output t)
         answers_seek b (Err why) j = tt
         answers_seek b (Ok position) j =
             λ l. seeks l.buffer _ (record {
@@ -530,14 +409,12 @@ module _ (run : Run) (facts : Facts) (world : World) (pending : model.Arguments)
             }) output out t c
 
         leaves_seek : x.colon ≡ false →
-            IfOk (transfers.search_outcomes false found (row.facts_failed s x.element.colons (facts_taken facts)))
-            (SeeksWith output t)
+            IfOk (transfers.search_outcomes false found facts_failed) (SeeksWith output t)
         leaves_seek b = λ l. seeks l.buffer _ (record { met = rw b found_comes; missed = rw b missed_leaves }) output
             out t c
 
         outcomes_seek : (colon : Bool) → x.colon ≡ colon
-            → IfOk (transfers.search_outcomes colon found (row.facts_failed s x.element.colons (facts_taken facts)))
-            (SeeksWith output t)
+            → IfOk (transfers.search_outcomes colon found facts_failed) (SeeksWith output t)
         outcomes_seek true b = answers_seek b _ (position_joined run found.position failed (falls_alike shift.fall)
             (saved_alike shift.ends))
         outcomes_seek false b = leaves_seek b
@@ -547,67 +424,43 @@ module _ (run : Run) (facts : Facts) (world : World) (pending : model.Arguments)
       abbrev Seek : Edges → Type 0
       Seek edges = FitsOn run.n edges → Seeks run seeking world pending x s edges t
 
-      held_seek : Counts t.first t.value → (least : ℕ) → IsMinimum x.element.text least
-          → IfOk (shifted (row.shift_found s least (length x.element.second) facts.position.distances)
-          (facts_taken facts) >>= λ found. transfers.search_outcomes x.colon found
+      abbrev SeekThen : Result Facts Refusal → Type 0
+      SeekThen r = IfOk (r >>= λ found. transfers.search_outcomes x.colon found
           (row.facts_failed s x.element.colons (facts_taken facts))) Seek
-      held_seek c least minimal = by_sum _ (value-sum_of run.n facts.held _) where
-        by_sum : (r : Result Polynomial Refusal)
-            → IfOk r (λ held. value held run.n ≡ value facts.held run.n + value
-            (row.shift_found s least (length x.element.second) facts.position.distances).growth run.n)
-            → IfOk ((r >>= λ held.
-            Ok (facts_behind (row.shift_found s least (length x.element.second) facts.position.distances) held
-            (facts_taken facts))) >>= λ found. transfers.search_outcomes x.colon found
-            (row.facts_failed s x.element.colons (facts_taken facts))) Seek
-        by_sum (Err why) e = tt
-        by_sum (Ok held) e = outcomes_seek least minimal held e output out t c x.colon refl
+
+      held_seek : Counts t.first t.value → (least : ℕ) → IsMinimum x.element.text least
+          → (r : Result Polynomial Refusal) → let shift =
+          row.shift_found s least (length x.element.second) facts.position.distances in
+          IfOk r (λ held. value held run.n ≡ value facts.held run.n + value shift.growth run.n)
+          → SeekThen (r >>= λ held. Ok (facts_behind shift held (facts_taken facts)))
+      held_seek c least m (Err why) e = tt
+      held_seek c least m (Ok held) e = rw failed_is (outcomes_seek least m held e output out t c x.colon refl)
 
       found_seek : Counts t.first t.value → (r : Result ℕ Refusal) → IfOk r (IsMinimum x.element.text)
-          → IfOk ((r >>= λ least. shifted (row.shift_found s least (length x.element.second) facts.position.distances)
-          (facts_taken facts)) >>= λ found. transfers.search_outcomes x.colon found
-          (row.facts_failed s x.element.colons (facts_taken facts))) Seek
+          → SeekThen (r >>= λ least. shifted
+          (row.shift_found s least (length x.element.second) facts.position.distances) (facts_taken facts))
       found_seek c (Err why) m = tt
-      found_seek c (Ok least) m = held_seek c least m
+      found_seek c (Ok least) m = held_seek c least m _ (value-sum_of run.n facts.held _)
 
       counted_seek : (r : Result (Unit {0}) Refusal) → IfOk r (λ u. Counts t.first t.value)
           → IfOk ((r >>= λ u. Ok (facts_taken facts)) >>= λ taken. transfers.search_allowed x.inside x.colon
           >>= λ allowed. row.facts_found s x.element taken >>= λ found. transfers.search_outcomes x.colon found
           (row.facts_failed s x.element.colons taken)) Seek
       counted_seek (Err why) c = tt
-      counted_seek (Ok u) c = given_then (λ (u : Unit {0}). ⊤) Seek (transfers.search_allowed x.inside x.colon) _
-          (always_ok _) (λ u b. found_seek c _ (minimum_is x.element.text)) where
-            always_ok : (r : Result (Unit {0}) Refusal) → IfOk r (λ u. ⊤)
-            always_ok (Ok u) = tt
-            always_ok (Err why) = tt
-
-    taken_seek : (output : Output) → world.files.output ≡ Some output
-        → (r : Result KnownTaken Refusal) (c : Result Taken Code)
-        → Covers (IsTaken (fore_of world.kept) (back_of world.kept)) r c
-        → Leads (FitsOn run.n) (Seeks run seeking world pending x s)
-        ((r >>= λ k. row.count_checked s k.first k.value facts.position.distances >>= λ u. Ok (facts_taken facts))
-        >>= λ taken. transfers.search_allowed x.inside x.colon >>= λ allowed. row.facts_found s x.element taken
-        >>= λ found. transfers.search_outcomes x.colon found (row.facts_failed s x.element.colons taken)) c
-    taken_seek output out (Err why) c h = tt
-    taken_seek output out (Ok k) (Err c) h = absurd h
-    taken_seek output out (Ok k) (Ok t) h =
-        as_leads _ (counted_seek output out t _
-        (counted run facts (unread_of world) world.kept whole d.state s k.first k.value t.first t.value h.first
-        h.value)) where
-          as_leads : (r : Result Edges Refusal)
-              → IfOk r (λ edges. FitsOn run.n edges → Seeks run seeking world pending x s edges t)
-              → Leads (FitsOn run.n) (Seeks run seeking world pending x s) r (Ok t)
-          as_leads (Ok edges) h = h
-          as_leads (Err why) h = tt
+      counted_seek (Ok u) c = ok_any Seek (transfers.search_allowed x.inside x.colon) _
+          (λ u. found_seek c _ (minimum_is x.element.text))
 
 pub page_searches_are_sound : PageSearchesAreSound
-unfolding transfer
 page_searches_are_sound run facts world pending x s output whole d e b out =
+    let plain = transfers.without_answer facts in
     let n = without_answer run facts (unread_of world) world.kept pending d in
-    subst (λ k. Leads (FitsOn run.n) (Seeks run (facts_seeking facts) world pending x s)
-    (transfers.edges_of k x (transfers.answer_for k facts) (transfers.without_answer facts))
-    (model.arguments_of pending.level)) (sym e)
-    (taken_seek run (transfers.without_answer facts) world pending whole n x s b output out _ _
-    (taking_is run (transfers.without_answer facts) (unread_of world) world.kept pending whole n))
+    by_kind x facts _ (λ r. Leads (FitsOn run.n) (Seeks run (facts_seeking facts) world pending x s) r
+    (model.arguments_of pending.level)) e
+    (taken_lead (FitsOn run.n) (Seeks run (facts_seeking facts) world pending x s)
+    (IsTaken (fore_of world.kept) (back_of world.kept)) _ _ _ _
+    (taking_is run plain (unread_of world) world.kept pending whole n) (λ k t i.
+    counted_seek run plain world pending whole n x s b output out t _
+    (counted run plain (unread_of world) world.kept whole n.state s k.first k.value t.first t.value i.first i.value)))
 
 -- ---- steps
 one_more : (run : Run) (facts : Facts) (u : ℕ) (kept : Kept) → Holds run facts u kept

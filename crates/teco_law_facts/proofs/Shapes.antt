@@ -1,27 +1,16 @@
 -- The shapes of what commands do, and that the facts that they leave are true.
-use Rattle.std.proofs.Common.{◌≡◌, ℕ, ◌+◌, ◌≤◌, arith, refl, pos, ◌+ℤ◌, ◌≤ℤ◌, [], ◌∷◌, length, Option, Some, None}
-use Rattle.std.proofs.Common.{Result, Ok, Err, IfSome, IfOk, ok_or, ℤ, negsuc, List, map}
-use Rattle.std.proofs.lemmas.Int.{ints}
-use Rattle.teco_base.specs.declared.TheConstants.{LIMIT}
-use Rattle.teco_base.specs.declared.code.Code.{Code}
-use Rattle.teco_model.specs.Arguments.{Arguments}
-use Rattle.teco_model.specs.Effect.{Effect}
-use Rattle.teco_model.specs.State.{Kept}
-use Rattle.teco_poly.proofs.Lawful.{value_of_sum, values_of_constants}
-use Rattle.teco_poly.specs.Polynomial.{Polynomial, value, number, add}
+use Rattle.teco_law_facts.proofs.Prelude.{◌≡◌, ℕ, ◌+◌, ◌≤◌, arith, refl, pos, ◌+ℤ◌, ◌≤ℤ◌, [], ◌∷◌, length, Option, Some}
+use Rattle.teco_law_facts.proofs.Prelude.{None, Result, Ok, Err, IfSome, IfOk, ok_or, ℤ, negsuc, List, map, ints, LIMIT}
+use Rattle.teco_law_facts.proofs.Prelude.{Code, Arguments, Effect, Kept, value_of_sum, values_of_constants, Polynomial}
+use Rattle.teco_law_facts.proofs.Prelude.{value, number, add, ◌>>=◌, Run, IsWhole, Holds, IsAt, IsOptional, HasFallen}
+use Rattle.teco_law_facts.proofs.Prelude.{ArePending, fore_of, back_of, AreEach, Facts, sum_of, Shift, Foreseen}
+use Rattle.teco_law_facts.proofs.Prelude.{shifted, facts_behind, fall_after, Succeeds, Leads, Fits, IsValue, Refusal}
+use Rattle.teco_law_facts.proofs.Prelude.{Value}
 use Rattle.teco_law_facts.proofs.Near.{distances}
 use Rattle.teco_law_facts.proofs.Pending.{settled_are}
 use Rattle.teco_law_facts.proofs.Saved.{Widens, saved_after_are}
-use Rattle.teco_verifier.specs.facts.Attempt.{◌>>=◌}
-use Rattle.teco_law_facts.specs.Describes.{Run, IsWhole, Holds, IsAt, IsOptional, HasFallen, ArePending, fore_of}
-use Rattle.teco_law_facts.specs.Describes.{back_of, AreEach}
-use Rattle.teco_verifier.specs.facts.Facts.{Facts, sum_of}
-use Rattle.teco_verifier.specs.facts.Shifts.{Shift, Foreseen, shifted, facts_behind, ahead_after, fall_after}
-use Rattle.teco_law_facts.specs.SoundElements.{Succeeds, Leads, Fits}
-use Rattle.teco_verifier.specs.facts.Values.{IsValue}
-use Rattle.teco_verifier.specs.declared.refusal.Refusal.{Refusal}
+use Rattle.teco_verifier.specs.facts.Shifts.{ahead_after}
 use Rattle.teco_verifier.specs.declared.refusal.Refusal.TheVariants as refusal
-use Rattle.teco_verifier.specs.declared.values.Value.{Value}
 
 -- ---- polynomials
 pub value-number : (k n : ℕ) → value (number k) n ≡ k

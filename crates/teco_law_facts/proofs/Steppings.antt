@@ -1,26 +1,17 @@
 -- How many steps P and PW take.
-use Rattle.std.proofs.Common.{ℕ, arith, ℤ, pos, ◌≤ℤ◌, Option, Some, None, Result, Ok, Err, IfOk, w32, FitsSigned}
-use Rattle.std.specs.Prelude.{unwrap_or}
-use Rattle.std.proofs.lemmas.Int.{ints}
+use Rattle.teco_law_facts.proofs.Prelude.{ℕ, arith, ℤ, pos, ◌≤ℤ◌, Option, Some, None, Result, Ok, Err, IfOk, w32}
+use Rattle.teco_law_facts.proofs.Prelude.{FitsSigned, unwrap_or, ints, Kept, Taken, Page, Polynomial, value, KnownTaken}
+use Rattle.teco_law_facts.proofs.Prelude.{Run, IsWhole, Describes, IsTaken, IsOptional, fore_of, back_of, Facts}
+use Rattle.teco_law_facts.proofs.Prelude.{steps_of_page, Tells, PagesAtMost, IsTurnOrWrite, IsValue, IsPlaceIf, Refusal}
+use Rattle.teco_law_facts.proofs.Prelude.{Value}
 use Rattle.teco_model.specs.Arguments as model
-use Rattle.teco_model.specs.State.{Kept}
-use Rattle.teco_model.specs.declared.arguments.Taken.{Taken}
-use Rattle.teco_model.specs.declared.kind.Page.{Page}
 use Rattle.teco_model.specs.declared.kind.Page.TheVariants as page
-use Rattle.teco_poly.specs.Polynomial.{Polynomial, value}
 use Rattle.teco_law_facts.proofs.Flowing.{tells_then, taking_is, bound_is}
 use Rattle.teco_law_facts.proofs.Motion.{or_single}
 use Rattle.teco_law_facts.proofs.Shapes.{value-number}
-use Rattle.teco_verifier.specs.facts.Arguments.{KnownTaken}
-use Rattle.teco_law_facts.specs.Describes.{Run, IsWhole, Describes, IsTaken, IsOptional, fore_of, back_of}
-use Rattle.teco_verifier.specs.facts.Facts.{Facts}
 use Rattle.teco_verifier.specs.facts.Motions.{or_one}
-use Rattle.teco_verifier.specs.facts.Printed.{steps_of_pages, steps_of_page}
-use Rattle.teco_law_facts.specs.SoundFlow.{Tells}
-use Rattle.teco_law_facts.specs.SoundPages.{PagesAtMost, IsTurnOrWrite, PageStepsAreBounded}
-use Rattle.teco_verifier.specs.facts.Values.{IsValue, IsPlaceIf}
-use Rattle.teco_verifier.specs.declared.refusal.Refusal.{Refusal}
-use Rattle.teco_verifier.specs.declared.values.Value.{Value}
+use Rattle.teco_verifier.specs.facts.Printed.{steps_of_pages}
+use Rattle.teco_law_facts.specs.SoundPages.{PageStepsAreBounded}
 
 one_fits : (fore back : ℕ) (o : Option Value) (v : Option ℤ) → IsOptional (IsValue fore back) o v
     → FitsSigned w32 (unwrap_or v (pos 1))

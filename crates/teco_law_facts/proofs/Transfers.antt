@@ -1,33 +1,28 @@
 -- The laws of elements that go on behind themselves.
-use Rattle.std.proofs.Common.{◌≡◌, ℕ, zero, suc, ◌+◌, ◌≤◌, arith, w32, refl, sym, subst, ℤ, pos, neg_ℤ, List, [], ◌∷◌}
-use Rattle.std.proofs.Common.{length, drop, Option, Some, None, Result, Ok, Err, Bool, true, false, cond, IfOk, ok_or}
-use Rattle.std.proofs.lemmas.Int.{ints, SFits-int_wrap}
-use Rattle.teco_base.specs.declared.code.Code.{Code}
+use Rattle.teco_law_facts.proofs.Prelude.{◌≡◌, ℕ, zero, suc, ◌+◌, ◌≤◌, arith, w32, refl, ℤ, pos, neg_ℤ, List, [], ◌∷◌}
+use Rattle.teco_law_facts.proofs.Prelude.{length, drop, Option, Some, None, Result, Ok, Err, Bool, true, false, cond}
+use Rattle.teco_law_facts.proofs.Prelude.{IfOk, ok_or, ints, SFits-int_wrap, Code, number_at, Effect, Pair, Kept, After}
+use Rattle.teco_law_facts.proofs.Prelude.{after, Level, Operator, Taken, Query, Polynomial, value, KnownLevel}
+use Rattle.teco_law_facts.proofs.Prelude.{KnownArguments, KnownTaken, ◌>>=◌, Run, IsWhole, Holds, Describes, ArePushed}
+use Rattle.teco_law_facts.proofs.Prelude.{IsLevel, IsTaken, IsOptional, ArePending, fore_of, back_of, Facts, Pushed}
+use Rattle.teco_law_facts.proofs.Prelude.{with_arguments, Foreseen, facts_answered, facts_behind, Leads, Fits, Arrives}
+use Rattle.teco_law_facts.proofs.Prelude.{FitsOn, ArrivesOn, Placed, single, value_in, size, IsValue}
+use Rattle.teco_law_facts.proofs.Prelude.{any_number, Refusal, Value}
 use Rattle.teco_base.specs.declared.code.Code.TheVariants as code
 use Rattle.teco_model.specs.Arguments as model
-use Rattle.teco_model.specs.Checked.{◌>>=◌ as ◌>>>=◌}
-use Rattle.teco_model.specs.Conversion.{number_at}
-use Rattle.teco_model.specs.Effect.{Effect}
-use Rattle.teco_model.specs.Registers.{Pair, registers_without_top}
-use Rattle.teco_model.specs.State.{Kept}
+use Rattle.teco_model.specs.Registers.{registers_without_top}
 use Rattle.teco_model.specs.Step as step
-use Rattle.teco_model.specs.Going.{After, after}
-use Rattle.teco_model.specs.declared.arguments.Level.{Level}
-use Rattle.teco_model.specs.declared.arguments.Operator.{Operator}
-use Rattle.teco_model.specs.declared.arguments.Taken.{Taken}
 use Rattle.teco_model.specs.declared.kind.Argument.{Argument}
 use Rattle.teco_model.specs.declared.kind.Argument.TheVariants.{DropAll, Digits, Operate, Open, Close, Comma}
 use Rattle.teco_model.specs.declared.kind.Command.{Command}
 use Rattle.teco_model.specs.declared.kind.Command.TheVariants as command
-use Rattle.teco_model.specs.declared.kind.Query.{Query}
 use Rattle.teco_model.specs.declared.kind.Query.TheVariants as query
 use Rattle.teco_model.specs.declared.kind.Stack.{Stack}
 use Rattle.teco_model.specs.declared.kind.Stack.TheVariants as stack
 use Rattle.teco_model.specs.declared.kind.Value.{Value as Given}
 use Rattle.teco_model.specs.declared.kind.Value.TheVariants.{Begin, Size, Pointer, Whole, LastLength, LastText}
-use Rattle.teco_poly.specs.Polynomial.{Polynomial, value}
 use Rattle.teco_law_facts.proofs.Asking.{interval_value, query_foretold, number_is, length_is, mode_is, past}
-use Rattle.teco_law_facts.proofs.Asking.{number_fits}
+use Rattle.teco_model.proofs.Bytes.{number_fits}
 use Rattle.teco_law_facts.proofs.Deletion.{deletion_foretold}
 use Rattle.teco_law_facts.proofs.Insertion.{insertion_foretold}
 use Rattle.teco_law_facts.proofs.Motion.{motion_foretold, size_in, pointer_in}
@@ -38,26 +33,16 @@ use Rattle.teco_law_facts.proofs.Pending.{single_in, empty_is}
 use Rattle.teco_law_facts.proofs.Registers.{storage_foretold, typing_foretold, pushed_holds, popped_holds}
 use Rattle.teco_law_facts.proofs.Near.{distances}
 use Rattle.teco_law_facts.proofs.Shapes.{IsDone, Foretells, shifted_holds, value-sum_of}
-use Rattle.teco_law_facts.proofs.Steps.{Covers}
+use Rattle.teco_law_facts.proofs.Steps.{by_kind, Covers}
 use Rattle.teco_law_facts.proofs.Leading.{covers_leads, leads_on}
 use Rattle.teco_verifier.specs.facts.Arguments as known
-use Rattle.teco_verifier.specs.facts.Arguments.{KnownLevel, KnownArguments, KnownTaken}
-use Rattle.teco_verifier.specs.facts.Attempt.{◌>>=◌}
-use Rattle.teco_law_facts.specs.Describes.{Run, IsWhole, Holds, Describes, ArePushed, IsLevel, IsTaken, IsOptional}
-use Rattle.teco_law_facts.specs.Describes.{ArePending, fore_of, back_of}
-use Rattle.teco_verifier.specs.facts.Facts.{Facts, Pushed, with_arguments}
 use Rattle.teco_verifier.specs.facts.Queries as row
-use Rattle.teco_verifier.specs.facts.Shifts.{Foreseen, facts_answered, facts_behind}
-use Rattle.teco_law_facts.specs.SoundElements.{Leads, Fits, Arrives, FitsOn, ArrivesOn, IsNamedByCommand}
+use Rattle.teco_law_facts.specs.SoundElements.{IsNamedByCommand}
 use Rattle.teco_law_facts.specs.SoundElements.{ArgumentsAreSound, ValuesAreSound, CommandsAreSound, QueriesAreSound}
 use Rattle.teco_law_facts.specs.SoundElements.{StacksAreSound}
 use Rattle.teco_verifier.specs.facts.Storages as storages
 use Rattle.teco_verifier.specs.facts.Transfer as transfers
-use Rattle.teco_verifier.specs.facts.Transfer.{Placed, transfer}
-use Rattle.teco_verifier.specs.facts.Values.{single, value_in, size, IsValue, any_number}
-use Rattle.teco_verifier.specs.declared.refusal.Refusal.{Refusal}
 use Rattle.teco_verifier.specs.declared.refusal.Refusal.TheVariants as refusal
-use Rattle.teco_verifier.specs.declared.values.Value.{Value}
 
 -- the edge that goes on
 on_leads : (run : Run) (facts : Facts) (unread : ℕ) (kept : Kept) (r : Result Facts Refusal) (c : Result After Code)
@@ -104,7 +89,7 @@ module _ (run : Run) (facts : Facts) (unread : ℕ) (kept : Kept) (arguments : m
   keeps : (x : Result KnownArguments Refusal) (y : Result model.Arguments Code)
       → Covers (ArePending (fore_of kept) (back_of kept)) x y
       → Leads (Fits run.n) (Arrives run facts.held unread kept) (transfers.facts_after_levels x facts)
-      (y >>>= λ levels. Ok (after kept levels))
+      (y >>= λ levels. Ok (after kept levels))
   keeps x y c = covers_leads (ArePending (fore_of kept) (back_of kept)) (Fits run.n)
       (Arrives run facts.held unread kept) x y _ _ c
       (λ p q i l. record {
@@ -216,7 +201,7 @@ module _ (run : Run) (facts : Facts) (unread : ℕ) (kept : Kept) (arguments : m
       → ((known : KnownTaken) (taken : Taken) → IsTaken (fore_of kept) (back_of kept) known taken
       → Foretells run taking unread kept (act known taking) (does taken))
       → Leads (Fits run.n) (Arrives run facts.held unread kept) (transfers.after_taking act facts)
-      (model.arguments_of arguments.level >>>= λ taken. does taken >>>= λ effect.
+      (model.arguments_of arguments.level >>= λ taken. does taken >>= λ effect.
       Ok (after effect.kept (model.levels_after_answer effect.answer (model.levels_after_taking arguments))))
   takes_and_acts act does f =
       covers_leads (IsTaken (fore_of kept) (back_of kept)) (Fits run.n) (Arrives run facts.held unread kept) _ _ _ _
@@ -245,7 +230,7 @@ module _ (run : Run) (facts : Facts) (unread : ℕ) (kept : Kept) (arguments : m
       → Leads (Fits run.n) (Arrives run facts.held unread kept)
       (known.with_level facts.arguments (known.level_with facts.position.distances s facts.arguments.level)
       >>= λ pending. Ok (with_arguments pending facts))
-      (model.with_level arguments (model.level_with v arguments.level) >>>= λ levels. Ok (after kept levels))
+      (model.with_level arguments (model.level_with v arguments.level) >>= λ levels. Ok (after kept levels))
   replied s v i = keeps _ _ (levels_keep _ _ (gives s v i))
 
   standing_beside : (operator : Option Operator) (o : Option Value) (v : Option ℤ)
@@ -342,8 +327,8 @@ module _ (run : Run) (facts : Facts) (unread : ℕ) (kept : Kept) (arguments : m
       → Leads (Fits run.n) (Arrives run facts.held unread kept)
       (cond b (Ok (record (storages.with_text r s.text (storages.with_number r s.number false facts))
       { pushes = pushes })) (Err refusal.Pop))
-      ((ok_or (registers_without_top r top kept.registers) code.Pes >>>= λ registers.
-      Ok (record kept { registers = registers })) >>>= λ changed. Ok (after changed arguments))
+      ((ok_or (registers_without_top r top kept.registers) code.Pes >>= λ registers.
+      Ok (record kept { registers = registers })) >>= λ changed. Ok (after changed arguments))
   popped_if none false r s pushes top i = tt
   popped_if none true r s pushes [] i = absurd i
   popped_if none true r s pushes (pair ∷ rest) i =
@@ -381,33 +366,27 @@ module _ (run : Run) (facts : Facts) (unread : ℕ) (kept : Kept) (arguments : m
 
 -- ---- the laws
 pub arguments_are_sound : ArgumentsAreSound
-unfolding transfer
 arguments_are_sound run facts unread kept arguments x a whole d e =
     let n = without_answer run facts unread kept arguments d in
-    subst (λ k. Leads (FitsOn run.n) (ArrivesOn run facts.held unread kept)
-    (transfers.edges_of k x (transfers.answer_for k facts) (transfers.without_answer facts))
-    (step.after_argument a x.element kept arguments)) (sym e)
+    by_kind x facts _ (λ r. Leads (FitsOn run.n) (ArrivesOn run facts.held unread kept) r
+    (step.after_argument a x.element kept arguments)) e
     (on_leads run facts unread kept _ _ (keeps run (transfers.without_answer facts) unread kept arguments whole n _ _
     (argued run (transfers.without_answer facts) unread kept arguments whole n a x.element.text)))
 
 pub values_are_sound : ValuesAreSound
-unfolding transfer
 values_are_sound run facts unread kept arguments x v whole d e =
     let n = without_answer run facts unread kept arguments d in
-    subst (λ k. Leads (FitsOn run.n) (ArrivesOn run facts.held unread kept)
-    (transfers.edges_of k x (transfers.answer_for k facts) (transfers.without_answer facts))
-    (step.after_value v kept arguments)) (sym e)
+    by_kind x facts _ (λ r. Leads (FitsOn run.n) (ArrivesOn run facts.held unread kept) r
+    (step.after_value v kept arguments)) e
     (on_leads run facts unread kept _ _ (keeps run (transfers.without_answer facts) unread kept arguments whole n _ _
     (levels_keep run (transfers.without_answer facts) unread kept arguments whole n _ _
     (valued run (transfers.without_answer facts) unread kept arguments whole n v))))
 
 pub commands_are_sound : CommandsAreSound
-unfolding transfer
 commands_are_sound run facts unread kept arguments x c whole d e named =
     let n = without_answer run facts unread kept arguments d in
-    subst (λ k. Leads (FitsOn run.n) (ArrivesOn run facts.held unread kept)
-    (transfers.edges_of k x (transfers.answer_for k facts) (transfers.without_answer facts))
-    (step.after_command c x.element kept arguments)) (sym e)
+    by_kind x facts _ (λ r. Leads (FitsOn run.n) (ArrivesOn run facts.held unread kept) r
+    (step.after_command c x.element kept arguments)) e
     (on_leads run facts unread kept _ _
     (takes_and_acts run (transfers.without_answer facts) unread kept arguments whole n (transfers.execution c x)
     (λ taken. step.execution c x.element taken kept)
@@ -415,22 +394,18 @@ commands_are_sound run facts unread kept arguments x c whole d e named =
     named i)))
 
 pub queries_are_sound : QueriesAreSound
-unfolding transfer
 queries_are_sound run facts unread kept arguments x q whole d e named =
     let n = without_answer run facts unread kept arguments d in
-    subst (λ k. Leads (FitsOn run.n) (ArrivesOn run facts.held unread kept)
-    (transfers.edges_of k x (transfers.answer_for k facts) (transfers.without_answer facts))
-    (step.after_query q x.element kept arguments)) (sym e)
+    by_kind x facts _ (λ r. Leads (FitsOn run.n) (ArrivesOn run facts.held unread kept) r
+    (step.after_query q x.element kept arguments)) e
     (on_leads run facts unread kept _ _
     (asked_for run (transfers.without_answer facts) unread kept arguments whole n q x.element.colons _ _
     (taken_if run (transfers.without_answer facts) unread kept arguments whole n (step.takes q x.element.colons))))
 
 pub stacks_are_sound : StacksAreSound
-unfolding transfer
 stacks_are_sound run facts unread kept arguments x s whole d e named =
     let n = without_answer run facts unread kept arguments d in
-    subst (λ k. Leads (FitsOn run.n) (ArrivesOn run facts.held unread kept)
-    (transfers.edges_of k x (transfers.answer_for k facts) (transfers.without_answer facts))
-    (step.after_stack s kept arguments)) (sym e)
+    by_kind x facts _ (λ r. Leads (FitsOn run.n) (ArrivesOn run facts.held unread kept) r
+    (step.after_stack s kept arguments)) e
     (on_leads run facts unread kept _ _
     (stacked run (transfers.without_answer facts) unread kept arguments whole n refl s x.library))

@@ -1,23 +1,17 @@
 -- The way that a number takes is reached, and what is known on it holds.
-use Rattle.std.proofs.Common.{List, ◌≡◌, ℕ, zero, suc, ◌+◌, ◌≤◌, arith, refl, subst, ℤ, pos, negsuc, neg_ℤ, ◌+ℤ◌}
-use Rattle.std.proofs.Common.{◌-ℤ◌, ◌≤ℤ◌, ◌*ℤ◌, int_le, Bool, true, false, ◌&&◌, not, cond, Option, Some, None}
-use Rattle.std.proofs.Common.{option_map, MatchOption, inl, inr}
-use Rattle.std.proofs.lemmas.Int.{ints}
-use Rattle.teco_model.specs.State.{Kept}
-use Rattle.teco_model.specs.Registers.{Pair}
+use Rattle.teco_law_facts.proofs.Prelude.{List, ◌≡◌, ℕ, zero, suc, ◌+◌, ◌≤◌, arith, refl, subst, ℤ, pos, negsuc, neg_ℤ}
+use Rattle.teco_law_facts.proofs.Prelude.{◌+ℤ◌, ◌-ℤ◌, ◌≤ℤ◌, ◌*ℤ◌, int_le, Bool, true, false, ◌&&◌, not, cond, Option}
+use Rattle.teco_law_facts.proofs.Prelude.{Some, None, option_map, MatchOption, inl, inr, ints, Kept, Pair, positive}
+use Rattle.teco_law_facts.proofs.Prelude.{Run, IsWhole, Holds, IsAt, fore_of, back_of, Position, Answer, Facts}
+use Rattle.teco_law_facts.proofs.Prelude.{at_position, IsTold, IsIn, IsWithin, interval_of, Numbers, Positive}
+use Rattle.teco_law_facts.proofs.Prelude.{NotPositive, Takes, position_by, Distances, Interval, Value}
 use Rattle.teco_law_facts.proofs.Numbers.{AreDistances, interval_of_in}
 use Rattle.teco_law_facts.proofs.Near.{distances}
-use Rattle.teco_verifier.specs.facts.Deletions.{positive}
-use Rattle.teco_law_facts.specs.Describes.{Run, IsWhole, Holds, IsAt, IsAnswer, fore_of, back_of}
-use Rattle.teco_verifier.specs.facts.Facts.{Position, Answer, Facts, at_position}
-use Rattle.teco_law_facts.specs.Laws.{IsTold, WaysAreSound}
-use Rattle.teco_verifier.specs.facts.Values.{IsIn, IsWithin, interval_of}
-use Rattle.teco_verifier.specs.facts.Ways.{Numbers, Zero, NotZero, Negative, NotNegative, Positive, NotPositive, All}
-use Rattle.teco_verifier.specs.facts.Ways.{Takes, may_take, opposite, least_taking, with_back, with_fore, raised_by}
-use Rattle.teco_verifier.specs.facts.Ways.{position_on, position_of, position_by}
-use Rattle.teco_verifier.specs.declared.values.Distances.{Distances}
-use Rattle.teco_verifier.specs.declared.values.Interval.{Interval}
-use Rattle.teco_verifier.specs.declared.values.Value.{Value}
+use Rattle.teco_law_facts.specs.Describes.{IsAnswer}
+use Rattle.teco_law_facts.specs.Laws.{WaysAreSound}
+use Rattle.teco_verifier.specs.facts.Ways.{Zero, NotZero, Negative, NotNegative, All}
+use Rattle.teco_verifier.specs.facts.Ways.{may_take, opposite, least_taking, with_back, with_fore, raised_by}
+use Rattle.teco_verifier.specs.facts.Ways.{position_on, position_of}
 
 -- there is one, and it is at most x
 abbrev pub IsUpTo : Option ℕ → ℕ → Type 0

@@ -8,4 +8,5 @@ pub mod SoundSearches
 pub mod SoundPages
 pub mod SoundSeeking
 pub mod Wholeness
+pub mod Repeats
 pub mod SoundSteps

@@ -32,6 +32,7 @@ use Rattle.teco_verifier.specs.facts.Facts.{Facts, Iteration}
 use Rattle.teco_verifier.specs.facts.Flows.{Edges}
 use Rattle.teco_model.specs.Macros.{Needs}
 use Rattle.teco_verifier.specs.facts.Printed.{needs, steps}
+use Rattle.teco_law_facts.specs.Repeats.{Advances, IsAt}
 use Rattle.teco_law_facts.specs.SoundElements.{FitsOn, IsNamedByCommand, IsNamedByQuery, IsNamedByStack}
 use Rattle.teco_law_facts.specs.SoundFlow.{number_needed}
 use Rattle.teco_model.specs.Paging.{unread_of}
@@ -210,10 +211,8 @@ KindEnds k run facts x edges old new = GoesBehind run facts.held edges x.element
 
 -- A step ends the element, or leaves fewer than so many steps to come.
 abbrev pub Proceeds : Kind → Run → Facts → Placed → Edges → State → ℕ → Outcome → Type 0
-Proceeds k run facts x edges old most (Next new) =
-    ((1 ≤ most) × KindEnds k run facts x edges old new)
-    ⊎ ((rest : ℕ) × (rest + 1 ≤ most) × IsUnderway k run facts x edges old rest new)
-Proceeds k run facts x edges old most outcome = ⊥
+Proceeds k run facts x edges old =
+    Advances (IsUnderway k run facts x edges old) (KindEnds k run facts x edges old)
 
 -- the first step of an element, and each that follows
 abbrev pub StepsAreSound : Type 0
@@ -238,7 +237,7 @@ pub record Completes
   pub new : State
   pub few : before + 1 ≤ most
   pub reaches : Reaches before s last
-  pub stands : (last ≡ s) ⊎ ((rest : ℕ) × IsUnderway x.element.kind run facts x edges s rest last)
+  pub stands : IsAt (IsUnderway x.element.kind run facts x edges s) s last
   pub final : step last ≡ Next new
   pub ends : KindEnds x.element.kind run facts x edges s new
 

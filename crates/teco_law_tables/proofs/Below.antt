@@ -1,13 +1,10 @@
 -- Where a run ends, the push-down list of its entry lies below.
-use Rattle.std.proofs.Common.{◌≡◌, ℕ, zero, suc, ◌+◌, ◌<◌, ◌^◌, [], Option, Some, None, Result, Ok, Err, refl, sym}
-use Rattle.std.proofs.Common.{ap, ◌∙◌, subst, arith}
-use Rattle.teco_base.specs.declared.TheConstants.{REGISTERS}
-use Rattle.teco_base.specs.declared.code.Code.{Code}
-use Rattle.teco_law_expansion.specs.Alike.{AreOutcomesAlike}
-use Rattle.teco_law_expansion.specs.Ends.{IterationsEnd}
-use Rattle.teco_law_expansion.specs.Given.{BeginsPending, call_given, start_pending}
-use Rattle.teco_law_expansion.specs.Linked.{NodesAreSound}
-use Rattle.teco_law_facts.specs.SoundSteps.{AreOpen}
+use Rattle.teco_law_tables.proofs.Prelude.{◌≡◌, ℕ, zero, suc, ◌+◌, ◌<◌, ◌^◌, [], Option, Some, None, Result, Ok, Err}
+use Rattle.teco_law_tables.proofs.Prelude.{refl, sym, ap, ◌∙◌, subst, arith, REGISTERS, Code, AreOutcomesAlike}
+use Rattle.teco_law_tables.proofs.Prelude.{IterationsEnd, BeginsPending, call_given, start_pending, NodesAreSound}
+use Rattle.teco_law_tables.proofs.Prelude.{AreOpen, start_given, LiesBelow, IsLong, Element, element_at, ArgumentRange}
+use Rattle.teco_law_tables.proofs.Prelude.{IsAsked, Ends, Reaches, run, Frames, Outcome, End, State, World, start}
+use Rattle.teco_law_tables.proofs.Prelude.{outcome_at, reply_of, step, needs_in}
 use Rattle.teco_law_tables.proofs.Described as described
 use Rattle.teco_law_tables.proofs.Described.{at_first, reaches_later, reaches_none, ready_call}
 use Rattle.teco_law_tables.proofs.Ending as ending
@@ -18,15 +15,7 @@ use Rattle.teco_law_tables.proofs.Stacking.{lies_below}
 use Rattle.teco_law_tables.proofs.Sure.{settle_goes}
 use Rattle.teco_law_tables.proofs.Underway.{ElementsGo, element_here}
 use Rattle.teco_law_tables.proofs.Verifying as verifying
-use Rattle.teco_law_tables.specs.Ending.{start_given}
-use Rattle.teco_law_tables.specs.Framing.{LiesBelow, RunsLeaveBelow}
-use Rattle.teco_law_tables.specs.Moving.{IsLong}
-use Rattle.teco_model.specs.Element.{Element, element_at}
-use Rattle.teco_model.specs.Macros.{ArgumentRange, IsAsked}
-use Rattle.teco_model.specs.Run.{Ends, Reaches, run}
-use Rattle.teco_model.specs.State.{Frames, Outcome, End, State, World, start}
-use Rattle.teco_model.specs.Step.{outcome_at, reply_of, step}
-use Rattle.teco_verifier.specs.table.Printed.{needs_in}
+use Rattle.teco_law_tables.specs.Framing.{RunsLeaveBelow}
 
 -- ---- nothing is read where a run ends
 no_more : (s : State) (r : Result (Option Element) Code) (w : World) → outcome_at s r ≡ End w → r ≡ Ok None

@@ -1,34 +1,20 @@
 -- How many turns of an iteration a run begins.
-use Rattle.std.proofs.Common.{◌≡◌, ◌⊎◌, inl, inr, ℕ, zero, suc, ◌+◌, ◌≤◌, ◌<◌, ◌==◌, refl, sym, ap, ◌∙◌, subst, arith}
-use Rattle.std.proofs.Common.{eqb-true, List, [], ◌∷◌, length, nat_lt, Bool, true, false, ◌&&◌, if◌then◌else◌, Option}
-use Rattle.std.proofs.Common.{Some, None, Result, Ok, Err}
-use Rattle.std.proofs.lemmas.Bool.{cases_order}
-use Rattle.teco_law_tables.specs.Following.{OpenTurn, loops_in, open_loops, loops_of, shown}
-use Rattle.teco_law_turns.specs.Moves.{OpenLoop, State as Shown, Move, Forward, Into, Back, Enters as EntersLoop}
-use Rattle.teco_law_turns.specs.Moves.{still_open}
+use Rattle.teco_law_tables.proofs.Prelude.{◌≡◌, ◌⊎◌, inl, inr, ℕ, zero, suc, ◌+◌, ◌≤◌, ◌<◌, ◌==◌, refl, sym, ap, ◌∙◌}
+use Rattle.teco_law_tables.proofs.Prelude.{subst, arith, eqb-true, List, [], ◌∷◌, length, nat_lt, Bool, true, false}
+use Rattle.teco_law_tables.proofs.Prelude.{◌&&◌, if◌then◌else◌, Option, Some, None, Result, Ok, Err, cases_order}
+use Rattle.teco_law_tables.proofs.Prelude.{OpenTurn, loops_in, open_loops, loops_of, shown, OpenLoop, Shown, Move}
+use Rattle.teco_law_tables.proofs.Prelude.{Forward, Into, Back, still_open, reaches_more, Kind, Element, element_at}
+use Rattle.teco_law_tables.proofs.Prelude.{Reaches, Frames, State, Next, End, step, end_of, IsBegin, AreClosed}
+use Rattle.teco_law_tables.proofs.Prelude.{IterationsEnd, NodesAreSound, Node, over, Position, position_of, is_long}
+use Rattle.teco_law_tables.proofs.Prelude.{Polynomial, and_both, Refusal, start_given, IsLong, MovesOn, ComesOn, Over}
+use Rattle.teco_law_tables.proofs.Prelude.{On, turns_at, value_of, turning}
+use Rattle.teco_law_turns.specs.Moves.{Enters as EntersLoop}
 use Rattle.teco_law_turns.specs.Turns.{Repeats, TurnsAreBounded, turns_begun as turns_by}
 use Rattle.teco_model.specs.declared.kind.Flow.TheVariants as flow
-use Rattle.teco_model.specs.declared.kind.Kind.{Kind}
 use Rattle.teco_model.specs.declared.kind.Kind.TheVariants as kind
-use Rattle.teco_model.specs.Element.{Element, element_at}
-use Rattle.teco_model.specs.Run.{Reaches}
-use Rattle.teco_model.specs.State.{Frames, State, Next, End}
-use Rattle.teco_model.specs.Step.{step}
-use Rattle.teco_verifier.specs.expansion.Ends.{end_of}
-use Rattle.teco_law_expansion.specs.Ends.{IsBegin, AreClosed, IterationsEnd}
-use Rattle.teco_law_expansion.specs.Linked.{NodesAreSound}
-use Rattle.teco_verifier.specs.expansion.Node.{Node, over}
-use Rattle.teco_verifier.specs.expansion.Position.{Position, open_starts, position_of}
-use Rattle.teco_law_expansion.specs.Steps.{is_long}
-use Rattle.teco_poly.specs.Polynomial.{Polynomial}
-use Rattle.teco_law_facts.proofs.Covering.{and_both}
-use Rattle.teco_verifier.specs.declared.refusal.Refusal.{Refusal}
+use Rattle.teco_verifier.specs.expansion.Position.{open_starts}
 use Rattle.teco_law_tables.specs.Bounded.{depth_of, is_turn_end, reads_turn_end, stands_at_turn_end, goes_back}
 use Rattle.teco_law_tables.specs.Bounded.{turns_begun, BeginTurns, Enters, TakesFewTurns, IterationsAreBounded}
-use Rattle.teco_law_tables.specs.Ending.{start_given}
-use Rattle.teco_law_tables.specs.Moving.{IsLong, MovesOn, ComesOn, Over, On}
-use Rattle.teco_verifier.specs.table.Printed.{turns_at}
-use Rattle.teco_law_tables.specs.Turning.{value_of, turning}
 use Rattle.teco_law_tables.proofs.Described as described
 use Rattle.teco_law_tables.proofs.Ending as ending
 use Rattle.teco_law_tables.proofs.Ending.{Course, course}
@@ -224,7 +210,7 @@ module _ (laws : ending.Laws) (sound : NodesAreSound) (bounded : TurnsAreBounded
         (λ i low. on i (omega (arith, low))))
       where
         there_next : Reaches (suc j) s run.0
-        there_next = described.reaches_more j s u run.0 came run.2
+        there_next = reaches_more j s u run.0 came run.2
 
         last : j ≡ g.passes.before → Counted depth (there number turns s at) count
         last e =
@@ -288,7 +274,7 @@ module _ (laws : ending.Laws) (sound : NodesAreSound) (bounded : TurnsAreBounded
         by (inr (inl less)) =
             let before = same_depth number turns begun at g j s l came in
             let after = same_depth number turns begun at g (suc j) t (omega (arith, less))
-            (described.reaches_more j begun s t came enters.goes) in
+            (reaches_more j begun s t came enters.goes) in
             absurd (omega (arith, before, after, enters.opens))
         by (inr (inr more)) = absurd (omega (arith, l, more))
 

@@ -1,32 +1,20 @@
 -- A closed table is closed as a table of numbers.
-use Rattle.std.proofs.Common.{◌≡◌, ℕ, zero, suc, ◌+◌, ◌-◌, ◌*◌, ◌≤◌, ◌<◌, ◌==◌, refl, sym, ap, ◌∙◌, arith, inr}
-use Rattle.std.proofs.Common.{eqb-true, ℤ, pos, List, [], ◌∷◌, Bool, true, false, if◌then◌else◌, Option, Some, None}
-use Rattle.std.proofs.Common.{Ok}
-use Rattle.std.specs.Prelude.{IsTrue}
-use Rattle.std.specs.List.{AllByRecursion}
-use Rattle.std.specs.Option.{option_map_or}
+use Rattle.teco_law_tables.proofs.Prelude.{◌≡◌, ℕ, zero, suc, ◌+◌, ◌-◌, ◌*◌, ◌≤◌, ◌<◌, ◌==◌, refl, sym, ap, ◌∙◌, arith}
+use Rattle.teco_law_tables.proofs.Prelude.{inr, eqb-true, ℤ, pos, List, [], ◌∷◌, Bool, true, false, if◌then◌else◌}
+use Rattle.teco_law_tables.proofs.Prelude.{Option, Some, None, Ok, IsTrue, AllByRecursion, option_map_or, Begin, onward}
+use Rattle.teco_law_tables.proofs.Prelude.{Descend, IsBegin, AreClosed, IterationsEnd, end_of, IterationsAreOpen}
+use Rattle.teco_law_tables.proofs.Prelude.{Library, AreLinked, Node, numbered, values_compare, values_of_constants}
+use Rattle.teco_law_tables.proofs.Prelude.{Polynomial, value, and_both, Changes, Choice, body_start, begins, covers}
+use Rattle.teco_law_tables.proofs.Prelude.{Facts, say_same, is_counted, begins_by_kind, begins_iteration, check_nodes}
+use Rattle.teco_law_tables.proofs.Prelude.{TablesAreClosed, turns_at, Table, facts_at, value_of, iterations_at}
+use Rattle.teco_law_tables.proofs.Prelude.{begins_of, held_at, turning, changes_in}
 use Rattle.teco_law_turns.specs.Table.{IsClosedLoop}
-use Rattle.teco_law_turns.specs.Nests.{Begin, onward, NodesNest}
-use Rattle.teco_law_expansion.specs.Ends.{Descend, IsBegin, AreClosed, IterationsEnd}
-use Rattle.teco_verifier.specs.expansion.Ends.{end_of}
-use Rattle.teco_law_expansion.specs.Iterations.{IterationsAreOpen}
-use Rattle.teco_model.specs.Macros.{Library}
-use Rattle.teco_law_expansion.specs.Linked.{AreLinked}
-use Rattle.teco_verifier.specs.expansion.Node.{Node, numbered}
-use Rattle.teco_poly.proofs.Lawful.{values_compare, values_of_constants}
-use Rattle.teco_poly.specs.Polynomial.{Polynomial, value, is_at_most}
+use Rattle.teco_law_turns.specs.Nests.{NodesNest}
+use Rattle.teco_poly.specs.Polynomial.{is_at_most}
 use Rattle.teco_law_facts.proofs.Bodies.{room_is_sound}
-use Rattle.teco_law_facts.proofs.Covering.{and_both}
-use Rattle.teco_verifier.specs.facts.Bodies.{Changes, Choice, body_start, begins, has_room, stands}
-use Rattle.teco_verifier.specs.facts.Covers.{covers}
-use Rattle.teco_verifier.specs.facts.Facts.{Facts}
-use Rattle.teco_verifier.specs.table.Closed.{say_same, is_counted, begins_by_kind, begins_iteration, check_nodes}
-use Rattle.teco_law_tables.specs.Laws.{TablesAreClosed}
-use Rattle.teco_verifier.specs.table.Printed.{turns_where, turns_at}
-use Rattle.teco_verifier.specs.table.Table.{Table, facts_at}
-use Rattle.teco_law_tables.specs.Turning.{value_of, iterations_at, begins_of, begins_at, held_in, held_if, held_at}
-use Rattle.teco_law_tables.specs.Turning.{turning}
-use Rattle.teco_verifier.specs.table.Written.{changes_in}
+use Rattle.teco_verifier.specs.facts.Bodies.{has_room, stands}
+use Rattle.teco_verifier.specs.table.Printed.{turns_where}
+use Rattle.teco_law_tables.specs.Turning.{begins_at, held_in, held_if}
 use Rattle.teco_law_tables.proofs.Entering.{held_stays}
 use Rattle.teco_law_tables.proofs.Lookup.{number_within, same_number, ends_there, innermost_by}
 use Rattle.teco_law_tables.proofs.Reading.{Body, body_is}

@@ -1,43 +1,29 @@
 -- What an element comes to by the laws of facts is what is known on the way that its last step goes.
-use Rattle.std.proofs.Common.{◌≡◌, inl, inr, ℕ, ℤ, zero, suc, ◌+◌, ◌≤◌, refl, sym, ap, ◌∙◌, subst, arith, List, ◌∷◌}
-use Rattle.std.proofs.Common.{drop, length, Bool, true, false, is_some, Option, Some, None, MatchOption, Result, Ok}
-use Rattle.std.proofs.Common.{Err, ok_or}
-use Rattle.teco_base.specs.declared.code.Code.{Code}
+use Rattle.teco_law_tables.proofs.Prelude.{◌≡◌, inl, inr, ℕ, ℤ, zero, suc, ◌+◌, ◌≤◌, refl, sym, ap, ◌∙◌, subst, arith}
+use Rattle.teco_law_tables.proofs.Prelude.{List, ◌∷◌, drop, length, Bool, true, false, is_some, Option, Some, None}
+use Rattle.teco_law_tables.proofs.Prelude.{MatchOption, Result, Ok, Err, ok_or, Code, Taken, Loop, Flow, Kind}
+use Rattle.teco_law_tables.proofs.Prelude.{Arguments, ◌>>=◌, Element, Turn, Search, skip_of, Whole, readings, World}
+use Rattle.teco_law_tables.proofs.Prelude.{Frame, Frames, State, Node, Went, ElementWas, StepWas, Polynomial, value}
+use Rattle.teco_law_tables.proofs.Prelude.{Describes, Run, run_behind, Facts, Edges, unread_of, KindEnds, left_by}
+use Rattle.teco_law_tables.proofs.Prelude.{placed, edges_at, along_kind, along, held_of, run_by_flow, run_by_kind}
+use Rattle.teco_law_tables.proofs.Prelude.{run_along, IsLast, Alone, Again, Comes}
 use Rattle.teco_base.specs.declared.code.Code.TheVariants as code
-use Rattle.teco_model.specs.declared.arguments.Taken.{Taken}
-use Rattle.teco_model.specs.declared.flow.Loop.{Loop}
-use Rattle.teco_model.specs.declared.kind.Flow.{Flow}
 use Rattle.teco_model.specs.declared.kind.Flow.TheVariants as flow
-use Rattle.teco_model.specs.declared.kind.Kind.{Kind}
 use Rattle.teco_model.specs.declared.kind.Kind.TheVariants as kind
-use Rattle.teco_model.specs.Arguments.{Arguments, arguments_of, no_arguments}
-use Rattle.teco_model.specs.Checked.{◌>>=◌}
+use Rattle.teco_model.specs.Arguments.{arguments_of, no_arguments}
 use Rattle.teco_model.specs.Effect.{needed_value}
-use Rattle.teco_model.specs.Element.{Element}
-use Rattle.teco_model.specs.Flow.{Turn, turn_to, leaves}
+use Rattle.teco_model.specs.Flow.{turn_to, leaves}
 use Rattle.teco_model.specs.Condition.{holds}
-use Rattle.teco_model.specs.declared.kind.Search.{Search}
 use Rattle.teco_model.specs.declared.skip.Skip.{Skip}
-use Rattle.teco_model.specs.Skip.{route_of, skip_on, skip_of}
-use Rattle.teco_model.specs.Ahead.{Whole, readings}
-use Rattle.teco_model.specs.State.{World, Frame, Frames, State}
-use Rattle.teco_verifier.specs.expansion.Node.{Node}
-use Rattle.teco_law_expansion.specs.Turns.{Went, Counts, CountsDown, Took}
+use Rattle.teco_model.specs.Skip.{route_of, skip_on}
+use Rattle.teco_law_expansion.specs.Turns.{Counts, CountsDown, Took}
 use Rattle.teco_law_expansion.specs.Was as was
-use Rattle.teco_law_expansion.specs.Was.{ElementWas, StepWas}
-use Rattle.teco_poly.specs.Polynomial.{Polynomial, value}
-use Rattle.teco_law_facts.specs.Describes.{Describes, Run, run_behind}
-use Rattle.teco_verifier.specs.facts.Facts.{Facts}
-use Rattle.teco_verifier.specs.facts.Flows.{Edges}
 use Rattle.teco_law_facts.specs.SoundFlow.{number_needed}
-use Rattle.teco_model.specs.Paging.{unread_of}
 use Rattle.teco_law_facts.specs.SoundPages.{ComesTo}
 use Rattle.teco_law_facts.specs.SoundSteps as sound
-use Rattle.teco_law_facts.specs.SoundSteps.{KindEnds, FlowGoes, Reached, ReachedIf, is_last}
-use Rattle.teco_verifier.specs.table.Behind.{left_by, placed, edges_at, along_flow, along_kind, along}
-use Rattle.teco_law_tables.specs.Following.{held_of}
+use Rattle.teco_law_facts.specs.SoundSteps.{FlowGoes, Reached, ReachedIf, is_last}
+use Rattle.teco_verifier.specs.table.Behind.{along_flow}
 use Rattle.teco_law_tables.proofs.Entered.{not_again}
-use Rattle.teco_law_tables.specs.Moving.{run_by_flow, run_by_kind, run_along, IsLast, Alone, Again, Comes}
 
 -- ---- flow
 enters_counted : (value : Option ℤ) (turns : Option ℕ) → Counts value turns → sound.enters value ≡ true

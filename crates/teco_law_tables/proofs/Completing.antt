@@ -1,54 +1,37 @@
 -- An element that begins where a run is described passes, by the laws of facts.
-use Rattle.std.proofs.Common.{◌≡◌, ◌⊎◌, inl, inr, ℕ, suc, ◌+◌, ◌≤◌, ◌<◌, refl, sym, ap, ◌∙◌, subst, arith, Bool, true}
-use Rattle.std.proofs.Common.{false, Option, Some, None, Result, Ok, Err, is_some}
+use Rattle.teco_law_tables.proofs.Prelude.{◌≡◌, inl, inr, ℕ, suc, refl, sym, ap, ◌∙◌, subst, arith, Bool, true, false}
+use Rattle.teco_law_tables.proofs.Prelude.{Option, Some, None, Result, Ok, Err, is_some, option_map_or, stands, Kind}
+use Rattle.teco_law_tables.proofs.Prelude.{Page, Search, Element, element_at, Files, Reaches, Frames, State, Next, step}
+use Rattle.teco_law_tables.proofs.Prelude.{Library, IsLoaded, Needs, names_macro, position_of, position_of_frames}
+use Rattle.teco_law_tables.proofs.Prelude.{GoesTo, MovesFrom, Stayed, is_long, IsLeftAt, read_at, Polynomial, value}
+use Rattle.teco_law_tables.proofs.Prelude.{reaches_more, Refusal, KnownTaken, arguments_of, Run, IsWhole, Facts, Edges}
+use Rattle.teco_law_tables.proofs.Prelude.{steps, FitsOn, AreOpen, BeginsAt, KindEnds, Placed, answer_for}
+use Rattle.teco_law_tables.proofs.Prelude.{without_answer, edges_of, transfer, placed, edges_behind, edges_at, run_at}
+use Rattle.teco_law_tables.proofs.Prelude.{IsLong, IsLast, Alone, Again, steps_of, needs_in, is_of_files}
+use Rattle.teco_law_tables.proofs.Prelude.{NoFileCommands, AreAsOpen, FilesStayOpen, value_of}
 use Rattle.std.specs.Prelude.{IsErr}
-use Rattle.std.specs.Option.{option_map_or}
-use Rattle.teco_verifier.specs.expansion.Node.{stands}
 use Rattle.teco_model.specs.declared.kind.Command.TheVariants as command
 use Rattle.teco_model.specs.declared.kind.Storage.{Storage}
 use Rattle.teco_model.specs.declared.kind.Storage.TheVariants as storage
 use Rattle.teco_model.specs.declared.kind.Stack.TheVariants as stack
-use Rattle.teco_model.specs.declared.kind.Kind.{Kind}
 use Rattle.teco_model.specs.declared.kind.Kind.TheVariants as kind
-use Rattle.teco_model.specs.declared.kind.Page.{Page}
 use Rattle.teco_model.specs.declared.kind.Page.TheVariants as page
-use Rattle.teco_model.specs.declared.kind.Search.{Search}
 use Rattle.teco_model.specs.declared.kind.Search.TheVariants as search
-use Rattle.teco_model.specs.Element.{Element, element_at}
-use Rattle.teco_model.specs.Files.{Files}
-use Rattle.teco_model.specs.Run.{Reaches, run, go_on}
-use Rattle.teco_model.specs.State.{Frames, State, Outcome, Next}
-use Rattle.teco_model.specs.Step.{step}
-use Rattle.teco_model.specs.Macros.{Library, is_macro, IsLoaded, Needs}
+use Rattle.teco_model.specs.Macros.{is_macro}
 use Rattle.teco_law_expansion.specs.Loaded.{StaysLoaded}
-use Rattle.teco_verifier.specs.expansion.Names.{named_by, names_macro, written_by, writes_macro}
-use Rattle.teco_verifier.specs.expansion.Position.{position_of, position_of_frames}
-use Rattle.teco_law_expansion.specs.Run.{GoesTo, MovesFrom, Went, Stayed, StepsGoAlongNodes}
-use Rattle.teco_law_expansion.specs.Steps.{is_long, IsLeftAt}
-use Rattle.teco_verifier.specs.expansion.Ways.{read_at}
-use Rattle.teco_poly.specs.Polynomial.{Polynomial, value}
+use Rattle.teco_verifier.specs.expansion.Names.{named_by, written_by, writes_macro}
+use Rattle.teco_law_expansion.specs.Run.{Went, StepsGoAlongNodes}
 use Rattle.teco_law_facts.proofs.Library.{library_stays}
-use Rattle.teco_verifier.specs.declared.refusal.Refusal.{Refusal}
+use Rattle.teco_law_facts.proofs.Repeats.{Completed, IsKept, completed}
+use Rattle.teco_law_facts.specs.Repeats.{IsAt}
 use Rattle.teco_verifier.specs.declared.refusal.Refusal.TheVariants as refusal
-use Rattle.teco_verifier.specs.facts.Arguments.{KnownTaken, arguments_of}
 use Rattle.teco_verifier.specs.facts.Attempt.{◌>>=◌}
-use Rattle.teco_law_facts.specs.Describes.{Run, IsWhole}
-use Rattle.teco_verifier.specs.facts.Facts.{Answer, Facts}
-use Rattle.teco_verifier.specs.facts.Flows.{Edges}
+use Rattle.teco_verifier.specs.facts.Facts.{Answer}
 use Rattle.teco_law_facts.specs.Laws.{WritesText}
-use Rattle.teco_verifier.specs.facts.Printed.{steps}
-use Rattle.teco_law_facts.specs.SoundElements.{FitsOn}
 use Rattle.teco_law_facts.specs.SoundPages.{IsTurnOrWrite}
 use Rattle.teco_law_facts.specs.SoundSeeking.{IsInPages}
-use Rattle.teco_law_facts.specs.SoundSteps.{AreOpen, BeginsAt, KindUnderway, IsUnderway, KindEnds, Proceeds}
+use Rattle.teco_law_facts.specs.SoundSteps.{KindUnderway, IsUnderway}
 use Rattle.teco_law_facts.specs.SoundSteps.{StepsAreSound, LaterStepsAreSound}
-use Rattle.teco_verifier.specs.facts.Transfer.{Placed, answer_for, without_answer, edges_of, transfer}
-use Rattle.teco_verifier.specs.table.Behind.{placed, edges_behind, edges_at}
-use Rattle.teco_law_tables.specs.Following.{run_at}
-use Rattle.teco_law_tables.specs.Moving.{IsLong, IsLast, Alone, Again}
-use Rattle.teco_verifier.specs.table.Printed.{steps_of, needs_in}
-use Rattle.teco_law_tables.specs.Staying.{is_of_files, ReadsNoFileCommand, NoFileCommands, AreAsOpen, FilesStayOpen}
-use Rattle.teco_law_tables.specs.Turning.{value_of}
 use Rattle.teco_law_tables.proofs.Ground.{Ground, Arrival}
 use Rattle.teco_law_tables.proofs.Coming.{HasLoop, element_comes}
 use Rattle.teco_law_tables.proofs.Underway.{IsAmid, AreAmid, none_amid, more_amid, Goes}
@@ -171,128 +154,123 @@ module _ (laws : Facts_laws) (ground : Ground) (arrival : Arrival ground) where
     knows : transfer x here.facts ≡ Ok edges
     knows = ap (λ read. edges_behind nodes here.node read here.facts) (sym reads) ∙ leads
 
-    abbrev At : State → ℕ → Type 0
-    At u rest = (u ≡ s) ⊎ IsUnderway e.kind run_here here.facts x edges s rest u
+    abbrev Under : ℕ → State → Type 0
+    Under rest u = IsUnderway e.kind run_here here.facts x edges s rest u
 
-    frames_same : (u : State) (rest : ℕ) → At u rest → u.frames ≡ s.frames
-    frames_same u rest (inl same) = ap (λ (s : State). s.frames) same
-    frames_same u rest (inr under) = under.frames
+    abbrev Ends : State → Type 0
+    Ends new = KindEnds e.kind run_here here.facts x edges s new
 
-    last_of : (u : State) (rest : ℕ) → At u rest → IsLast here.node.element s u
-    last_of u rest (inl same) = Alone same
-    last_of u rest (inr under) = Again under.frames
-        (subst IsLong (sym reads) (under_long e.kind run_here here.facts x edges s u rest under.work))
+    under_is_long : (u : State) (rest : ℕ) → Under rest u → is_long e.kind ≡ true
+    under_is_long u rest under = under_long e.kind run_here here.facts x edges s u rest under.work
 
-    amid_of : (u : State) (rest : ℕ) → IsUnderway e.kind run_here here.facts x edges s rest u
-        → IsAmid here.node.element s u
+    frames_same : (u : State) → IsAt Under s u → u.frames ≡ s.frames
+    frames_same u (inl same) = ap (λ (s : State). s.frames) same
+    frames_same u (inr (rest, under)) = under.frames
+
+    last_of : (u : State) → IsAt Under s u → IsLast here.node.element s u
+    last_of u (inl same) = Alone same
+    last_of u (inr (rest, under)) = Again under.frames (subst IsLong (sym reads) (under_is_long u rest under))
+
+    amid_of : (u : State) (rest : ℕ) → Under rest u → IsAmid here.node.element s u
     amid_of u rest under =
         let left = under_left e.kind run_here here.facts x edges s u rest under.work in
         record {
           n = left.0;
           left = left.1;
           frames = under.frames;
-          long = subst IsLong (sym reads) (under_long e.kind run_here here.facts x edges s u rest under.work);
+          long = subst IsLong (sym reads) (under_is_long u rest under);
         }
 
-    left_at : (u : State) (rest : ℕ) → At u rest → IsLeftAt here.node.element u.left
-    left_at u rest (inl same) = subst (λ left. IsLeftAt here.node.element left)
+    left_at : (u : State) → IsAt Under s u → IsLeftAt here.node.element u.left
+    left_at u (inl same) = subst (λ left. IsLeftAt here.node.element left)
         (sym (ap (λ (s : State). s.left) same ∙ here.begins)) tt
-    left_at u rest (inr under) = subst (λ read. IsLeftAt read u.left) (sym reads)
-        (left_long e u.left (under_long e.kind run_here here.facts x edges s u rest under.work))
-
-    position_is : (u : State) (rest : ℕ) → At u rest → here.node.stand.position ≡ position_of u
-    position_is u rest at = here.position ∙ ap position_of_frames (sym (frames_same u rest at))
-
-    loaded_next : (u new : State) (rest : ℕ) → At u rest → IsLoaded library u.world.kept → step u ≡ Next new
-        → IsLoaded library new.world.kept
-    loaded_next u new rest at loaded goes =
-        let linked = are.each number here.node here.at in
-        laws.loaded library u new (Some e) loaded
-        (writes_nothing library x here.facts edges (linked.names ∙ ap (names_macro library) reads) knows)
-        (ap read_at (sym (position_is u rest at)) ∙ (linked.reads ∙ ap Ok reads)) goes
+    left_at u (inr (rest, under)) = subst (λ read. IsLeftAt read u.left) (sym reads)
+        (left_long e u.left (under_is_long u rest under))
 
     abbrev HasOpen : State → Type 0
     HasOpen u = AreOpen (needs_in nodes table) u.world.files
 
-    read_there : (u : State) (rest : ℕ) → At u rest
-        → element_at u.frames.running.text u.frames.running.place ≡ Ok (Some e)
-    read_there u rest at = ap (λ (frames : Frames). element_at frames.running.text frames.running.place)
-        (frames_same u rest at) ∙ begins.read
+    -- what each step keeps
+    record Keeps (j : ℕ) (u : State) : Type 0 where
+      none : NoFileCommands s j
+      amid : AreAmid here.node.element s j
+      loaded : IsLoaded library u.world.kept
+      files : HasOpen u
 
-    none_there : (u : State) (rest : ℕ) → At u rest → ReadsNoFileCommand u
-    none_there u rest at = reads_none u (Some e) (read_there u rest at) (no_file x here.facts edges knows)
+    module _ (u new : State) (at : IsAt Under s u) (goes : step u ≡ Next new) where
+      position_is : here.node.stand.position ≡ position_of u
+      position_is = here.position ∙ ap position_of_frames (sym (frames_same u at))
 
-    open_next : (u new : State) (rest : ℕ) → At u rest → HasOpen u → step u ≡ Next new → HasOpen new
-    open_next u new rest at files goes =
-        open_as_before (needs_in nodes table) u.world.files new.world.files
-        (laws.files u new (Some e) (no_file x here.facts edges knows) (read_there u rest at) goes) files
+      loaded_next : IsLoaded library u.world.kept → IsLoaded library new.world.kept
+      loaded_next loaded =
+          let linked = are.each number here.node here.at in
+          laws.loaded library u new (Some e) loaded
+          (writes_nothing library x here.facts edges (linked.names ∙ ap (names_macro library) reads) knows)
+          (ap read_at (sym position_is) ∙ (linked.reads ∙ ap Ok reads)) goes
+
+      read_there : element_at u.frames.running.text u.frames.running.place ≡ Ok (Some e)
+      read_there = ap (λ (frames : Frames). element_at frames.running.text frames.running.place) (frames_same u at)
+          ∙ begins.read
+
+      none_next : (j : ℕ) → Reaches j s u → NoFileCommands s j → NoFileCommands s (suc j)
+      none_next j came none =
+          none_more j s u none came (reads_none u (Some e) read_there (no_file x here.facts edges knows))
+
+      open_next : HasOpen u → HasOpen new
+      open_next files = open_as_before (needs_in nodes table) u.world.files new.world.files
+          (laws.files u new (Some e) (no_file x here.facts edges knows) read_there goes) files
+
+    keeps : IsKept Under Keeps s
+    keeps j rest u new at came k goes there under = record {
+      none = none_next u new at goes j came k.none;
+      amid = more_amid here.node.element s new j k.amid there (amid_of new rest under);
+      loaded = loaded_next u new at goes k.loaded;
+      files = open_next u new at goes k.files;
+    }
 
     -- the step that ends it
-    module _ (j : ℕ) (u new : State) (rest : ℕ) (at : At u rest) (came : Reaches j s u) (none : NoFileCommands s j)
-        (loaded : IsLoaded library u.world.kept) (files : HasOpen u) (goes : step u ≡ Next new)
-        (few : suc j ≤ value most n) (amid : AreAmid here.node.element s j)
-        (ends : KindEnds e.kind run_here here.facts x edges s new) where
-      done : new.left ≡ None
-      done = ends_done e.kind run_here here.facts x edges s new here.begins ends
+    module _ (c : Completed Under Ends Keeps (value most n) s) where
+      done : c.new.left ≡ None
+      done = ends_done e.kind run_here here.facts x edges s c.new here.begins c.ends
 
-      moved : MovesFrom (stands nodes entry) number here.node u new → GoesTo (stands nodes entry) number here.node u new
+      moved : MovesFrom (stands nodes entry) number here.node c.last c.new
+          → GoesTo (stands nodes entry) number here.node c.last c.new
       moved (Went g) = g
       moved (Stayed st) = let z : None ≡ Some st.n = sym done ∙ st.left in absurd (cc)
 
-      went : GoesTo (stands nodes entry) number here.node u new
-      went = moved (laws.along library entry nodes number here.node u new are here.at (position_is u rest at)
-          (left_at u rest at) loaded goes)
-
-      reached_next : Reaches (suc j) s new
-      unfolding run
-      reached_next = ap go_on came ∙ goes
+      went : GoesTo (stands nodes entry) number here.node c.last c.new
+      went = moved (laws.along library entry nodes number here.node c.last c.new are here.at
+          (position_is c.last c.new c.stands c.final) (left_at c.last c.stands) c.kept.loaded c.final)
 
       ending : Goes library entry nodes table n below number turns s here
       ending = record {
-        amid = amid;
+        amid = c.kept.amid;
         passes = record {
-          before = j;
-          last = u;
-          next = new;
-          reaches = came;
-          steps = goes;
+          before = c.before;
+          last = c.last;
+          next = c.new;
+          reaches = c.reaches;
+          steps = c.final;
           few = let e2 : value_of n (steps_of here.node.element here.facts) ≡ value most n =
-              ap (value_of n) (ap (λ read. steps_of read here.facts) reads ∙ takes) in omega (arith, e2, few);
-          none = none_more j s u none came (none_there u rest at);
-          again = last_of u rest at;
+              ap (value_of n) (ap (λ read. steps_of read here.facts) reads ∙ takes) in omega (arith, e2, c.few);
+          none = none_next c.last c.new c.stands c.final c.before c.reaches c.kept.none;
+          again = last_of c.last c.stands;
           goes = went;
-          comes = element_comes nodes here.node here.facts edges run_here s u new leads e reads
-              (last_of u rest at) inside went.way went.was ends;
-          loaded = loaded_next u new rest at loaded goes;
-          whole = wholes (suc j) new reached_next;
-          files = open_next u new rest at files goes;
+          comes = element_comes nodes here.node here.facts edges run_here s c.last c.new leads e reads
+              (last_of c.last c.stands) inside went.way went.was c.ends;
+          loaded = loaded_next c.last c.new c.stands c.final c.kept.loaded;
+          whole = wholes (suc c.before) c.new (reaches_more c.before s c.last c.new c.reaches c.final);
+          files = open_next c.last c.new c.stands c.final c.kept.files;
         };
       }
 
-    reached : (j : ℕ) (u new : State) → Reaches j s u → step u ≡ Next new → Reaches (suc j) s new
-    unfolding run
-    reached j u new came goes = ap go_on came ∙ goes
-
-    proceeding : (fuel j : ℕ) (u : State) (rest : ℕ) → At u rest → Reaches j s u → NoFileCommands s j
-        → IsLoaded library u.world.kept → HasOpen u → j + rest ≤ value most n → rest < fuel
-        → AreAmid here.node.element s j → (o : Outcome) → step u ≡ o
-        → Proceeds e.kind run_here here.facts x edges s rest o
-        → Goes library entry nodes table n below number turns s here
-    proceeding (suc fuel) j u rest at came none loaded files few l amid (Next new) goes (inl p) =
-        ending j u new rest at came none loaded files goes (omega (arith, p.0, few)) amid p.1
-    proceeding (suc fuel) j u rest at came none loaded files few l amid (Next new) goes (inr p) =
-        proceeding fuel (suc j) new p.0 (inr p.2) (reached j u new came goes)
-        (none_more j s u none came (none_there u rest at)) (loaded_next u new rest at loaded goes)
-        (open_next u new rest at files goes) (omega (arith, p.1, few)) (omega (arith, p.1, l))
-        (more_amid here.node.element s new j amid (reached j u new came goes) (amid_of new p.0 p.2)) (step new) refl
-        (laws.later run_here here.facts x edges most s new p.0 begins knows fits takes p.2)
-    proceeding fuel j u rest at came none loaded files few l amid o goes p = absurd (grind arith)
-
-    reached_here : Reaches 0 s s
-    unfolding run
-    reached_here = refl
-
     pub passing : HasOpen s → Goes library entry nodes table n below number turns s here
-    passing files = proceeding (suc (value most n)) 0 s (value most n) (inl refl) reached_here
-        (none_yet s) here.loaded files (omega arith) (omega arith) (none_amid here.node.element s) (step s) refl
-        (laws.first run_here here.facts x edges most s begins knows fits takes)
+    passing files = ending (completed Under Ends Keeps (value most n) s (record {
+      first = laws.first run_here here.facts x edges most s begins knows fits takes;
+      later = λ rest u i. laws.later run_here here.facts x edges most s u rest begins knows fits takes i;
+    }) keeps (record {
+      none = none_yet s;
+      amid = none_amid here.node.element s;
+      loaded = here.loaded;
+      files = files;
+    }))

@@ -1,20 +1,16 @@
 -- The sum that is printed is the sum over the nodes.
-use Rattle.std.proofs.Common.{◌≡◌, ℕ, suc, ◌+◌, ◌*◌, refl, sym, ap, ◌∙◌, subst, arith, List, [], ◌∷◌, length, Option}
-use Rattle.std.proofs.Common.{Some, None, Result, Ok, Err, slice_get}
-use Rattle.std.specs.Option.{option_map_or}
+use Rattle.teco_law_tables.proofs.Prelude.{◌≡◌, ℕ, suc, ◌+◌, ◌*◌, refl, sym, ap, ◌∙◌, subst, arith, List, [], ◌∷◌}
+use Rattle.teco_law_tables.proofs.Prelude.{length, Option, Some, None, Result, Ok, Err, slice_get, option_map_or, Node}
+use Rattle.teco_law_tables.proofs.Prelude.{numbered, values_of_constants, Polynomial, value, number, Refusal, Facts}
+use Rattle.teco_law_tables.proofs.Prelude.{sum_of, at_node, turns_at, steps_of, weight, counted_with, count_from}
+use Rattle.teco_law_tables.proofs.Prelude.{steps_before, commands, Table, facts_at, value_of, own_of, iterations_of}
+use Rattle.teco_law_tables.proofs.Prelude.{turning, bound, some_of}
 use Rattle.teco_law_turns.specs.Table.{sum_below, product_by, weight_of}
-use Rattle.teco_verifier.specs.expansion.Node.{Node, numbered}
-use Rattle.teco_poly.proofs.Lawful.{values_of_constants, value_of_sum, value_of_product}
-use Rattle.teco_poly.specs.Polynomial.{Polynomial, value, number, add, mul}
-use Rattle.teco_verifier.specs.declared.refusal.Refusal.{Refusal}
+use Rattle.teco_poly.proofs.Lawful.{value_of_sum, value_of_product}
+use Rattle.teco_poly.specs.Polynomial.{add, mul}
 use Rattle.teco_verifier.specs.declared.refusal.Refusal.TheVariants as refusal
-use Rattle.teco_verifier.specs.facts.Facts.{Facts, sum_of}
 use Rattle.teco_law_tables.specs.Laws.{CommandsAreSteps}
-use Rattle.teco_verifier.specs.table.Printed.{at_node, turns_at, turns_round, product_of, steps_of, weight}
-use Rattle.teco_verifier.specs.table.Printed.{counted_with, count_from, steps_before, commands}
-use Rattle.teco_verifier.specs.table.Table.{Table, facts_at}
-use Rattle.teco_law_tables.specs.Turning.{value_of, own_of, iterations_of, turning}
-use Rattle.teco_model.proofs.Chains.{bound, some_of}
+use Rattle.teco_verifier.specs.table.Printed.{turns_round, product_of}
 
 numbers_have : (k n : ℕ) → value (number k) n ≡ k
 numbers_have k n = (values_of_constants n k).0

@@ -1,32 +1,17 @@
 -- Where an element begins on a run of a macro, it is described; or the run is over.
-use Rattle.std.proofs.Common.{◌≡◌, ◌⊎◌, inl, inr, ℕ, zero, suc, ◌+◌, ◌-◌, ◌≤◌, ◌<◌, sym, ap, ◌∙◌, subst, arith, List}
-use Rattle.std.proofs.Common.{[], Option, Some, None}
-use Rattle.std.proofs.lemmas.Bool.{cases_order}
-use Rattle.teco_law_tables.specs.Following.{OpenTurn, run_at}
-use Rattle.teco_law_tables.specs.Framing.{LiesBelow}
-use Rattle.teco_model.specs.Run.{Reaches, run, go_on}
-use Rattle.teco_model.specs.State.{World, State, Next, End}
-use Rattle.teco_model.specs.Step.{step}
-use Rattle.teco_law_expansion.specs.Ends.{IterationsEnd}
-use Rattle.teco_model.specs.Macros.{Library, ArgumentRange, IsAsked}
-use Rattle.teco_law_expansion.specs.Linked.{AreLinked}
-use Rattle.teco_verifier.specs.expansion.Node.{Node, over}
-use Rattle.teco_verifier.specs.expansion.Position.{position_of}
-use Rattle.teco_poly.specs.Polynomial.{Polynomial}
-use Rattle.teco_law_facts.specs.SoundSteps.{AreOpen}
+use Rattle.teco_law_tables.proofs.Prelude.{◌≡◌, ◌⊎◌, inl, inr, ℕ, zero, suc, ◌+◌, ◌-◌, ◌≤◌, ◌<◌, sym, ap, ◌∙◌, subst}
+use Rattle.teco_law_tables.proofs.Prelude.{arith, List, [], Option, Some, None, cases_order, OpenTurn, run_at}
+use Rattle.teco_law_tables.proofs.Prelude.{LiesBelow, Reaches, run, go_on, World, State, Next, End, step, IterationsEnd}
+use Rattle.teco_law_tables.proofs.Prelude.{Library, ArgumentRange, IsAsked, AreLinked, Node, over, position_of}
+use Rattle.teco_law_tables.proofs.Prelude.{Polynomial, reaches_more, AreOpen, ElementsPass, start_given, MovesOn}
+use Rattle.teco_law_tables.proofs.Prelude.{ComesOn, Over, On, Table, needs_in, IsPrinted, IsReady, left_by}
 use Rattle.teco_law_tables.specs.Bounded.{IsKnown, AtNode, BehindCall, RunsAreDescribed}
-use Rattle.teco_law_tables.specs.Ending.{ElementsPass, start_given}
-use Rattle.teco_law_tables.specs.Moving.{MovesOn, ComesOn, Over, On}
-use Rattle.teco_verifier.specs.table.Table.{Table}
-use Rattle.teco_verifier.specs.table.Printed.{needs_in, IsPrinted}
-use Rattle.teco_law_tables.specs.Verified.{IsReady}
 use Rattle.teco_law_tables.proofs.Ending as ending
 use Rattle.teco_law_tables.proofs.Ending.{Course, Call, course}
 use Rattle.teco_law_tables.proofs.Verifying as verifying
 use Rattle.teco_law_tables.proofs.Underway.{Goes, ElementsGo, elements_pass}
 use Rattle.teco_law_tables.proofs.Stacking.{below_along, lies_below}
 use Rattle.teco_law_tables.proofs.Walking.{run_on}
-use Rattle.teco_verifier.specs.table.Behind.{left_by}
 
 -- ---- no state comes behind the end
 ended : (s : State) (world : World) (k : ℕ) → step s ≡ End world → run (suc k) s ≡ End world
@@ -40,10 +25,6 @@ not_ended s u world k e came = let z : End world ≡ Next u = sym (ended s world
 pub reaches_none : (s u : State) → Reaches 0 s u → s ≡ u
 unfolding run
 reaches_none s u came = cc
-
-pub reaches_more : (k : ℕ) (s u v : State) → Reaches k s u → step u ≡ Next v → Reaches (suc k) s v
-unfolding run
-reaches_more k s u v came goes = ap go_on came ∙ goes
 
 pub reaches_later : (k m : ℕ) (s u v : State) → Reaches k s u → Reaches (k + m) s v → Reaches m u v
 reaches_later k m s u v came later = sym (run_on k s u came m) ∙ later

@@ -1,29 +1,16 @@
 -- The edge that goes on behind an element fits, where what is known at the nodes does.
-use Rattle.std.proofs.Common.{◌≡◌, ℕ, zero, suc, refl, sym, ap, ◌∙◌, subst, arith, List, length, nat_lt, false}
-use Rattle.std.proofs.Common.{Option, Some, None, MatchOption, Result, Ok, slice_get}
-use Rattle.std.specs.Prelude.{⊤}
-use Rattle.std.proofs.lemmas.Bool.{ltb-false}
+use Rattle.teco_law_tables.proofs.Prelude.{◌≡◌, ℕ, zero, suc, refl, sym, ap, ◌∙◌, subst, arith, List, length, nat_lt}
+use Rattle.teco_law_tables.proofs.Prelude.{false, Option, Some, None, MatchOption, Result, Ok, slice_get, ⊤, ltb-false}
+use Rattle.teco_law_tables.proofs.Prelude.{Kind, Element, Library, AreLinked, Node, stands, numbered, base_of, ways_at}
+use Rattle.teco_law_tables.proofs.Prelude.{Refusal, arguments_of, Facts, Edges, Fits, FitsOn, edges_at, along}
+use Rattle.teco_law_tables.proofs.Prelude.{along_kind, turns_by_kind, begins_turn, check_nodes, Table, facts_at, bound}
 use Rattle.teco_model.specs.declared.kind.Flow.TheVariants as flow
-use Rattle.teco_model.specs.declared.kind.Kind.{Kind}
 use Rattle.teco_model.specs.declared.kind.Kind.TheVariants as kind
-use Rattle.teco_model.specs.Element.{Element}
-use Rattle.teco_model.specs.Macros.{Library}
-use Rattle.teco_law_expansion.specs.Linked.{AreLinked}
-use Rattle.teco_verifier.specs.expansion.Node.{Node, stands, numbered, base_of}
-use Rattle.teco_verifier.specs.expansion.Ways.{ways_at}
-use Rattle.teco_verifier.specs.declared.refusal.Refusal.{Refusal}
-use Rattle.teco_verifier.specs.facts.Arguments.{arguments_of}
-use Rattle.teco_verifier.specs.facts.Facts.{Facts}
-use Rattle.teco_verifier.specs.facts.Flows.{Edges, without_value}
-use Rattle.teco_law_facts.specs.SoundElements.{Fits, FitsOn}
-use Rattle.teco_verifier.specs.table.Behind.{edges_at, along, along_kind, turns_by_kind, begins_turn}
-use Rattle.teco_verifier.specs.table.Closed.{check_nodes}
-use Rattle.teco_verifier.specs.table.Table.{Table, facts_at}
+use Rattle.teco_verifier.specs.facts.Flows.{without_value}
 use Rattle.teco_law_tables.proofs.Entering.{kind_edges, enters}
 use Rattle.teco_law_tables.proofs.Fitting.{fits_covered}
 use Rattle.teco_law_tables.proofs.Going.{way_covered, way_within}
 use Rattle.teco_law_tables.proofs.Leading.{on_way, way_there}
-use Rattle.teco_model.proofs.Chains.{bound}
 use Rattle.teco_law_tables.proofs.Lookup.{node_of}
 
 on_of : (r : Result Edges Refusal) (edges other : Edges) → r ≡ Ok edges → r ≡ Ok other → edges.on ≡ other.on

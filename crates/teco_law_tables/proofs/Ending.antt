@@ -1,44 +1,27 @@
 -- A run with a closed table ends in time.
-use Rattle.std.proofs.Common.{◌≡◌, ◌⊎◌, inl, inr, ℕ, zero, suc, ◌+◌, ◌≤◌, ◌<◌, refl, sym, ap, ◌∙◌, subst, arith, List}
-use Rattle.std.proofs.Common.{[], true, Option, Some, None, Ok, is_some}
-use Rattle.std.specs.Prelude.{IsTrue}
-use Rattle.std.specs.List.{AllByRecursion}
-use Rattle.teco_law_turns.specs.Moves.{State as Shown, Move, Forward, FallFollows, IsStart, RunsAreBounded}
-use Rattle.teco_law_turns.specs.Table.{IsClosed, commands as steps_in}
+use Rattle.teco_law_tables.proofs.Prelude.{◌≡◌, ◌⊎◌, inl, inr, ℕ, zero, suc, ◌+◌, ◌≤◌, ◌<◌, refl, sym, ap, ◌∙◌, subst}
+use Rattle.teco_law_tables.proofs.Prelude.{arith, List, [], true, Option, Some, None, Ok, is_some, IsTrue}
+use Rattle.teco_law_tables.proofs.Prelude.{AllByRecursion, Shown, Move, Forward, FallFollows, steps_in, Reaches, run}
+use Rattle.teco_law_tables.proofs.Prelude.{go_on, World, State, End, step, Library, IsLoaded, ArgumentRange, IsAsked}
+use Rattle.teco_law_tables.proofs.Prelude.{AreLinked, Stand, Node, beginning, over, numbered, position_of, value}
+use Rattle.teco_law_tables.proofs.Prelude.{and_both, covers_are_sound, arguments_given, IsWhole, Facts, unread_of}
+use Rattle.teco_law_tables.proofs.Prelude.{AreOpen, say_same, is_entry, check, Passes, ElementsPass, EndsWithin}
+use Rattle.teco_law_tables.proofs.Prelude.{start_given, RunsEndInTime, OpenTurn, run_at, AreOpened, IsDescribed}
+use Rattle.teco_law_tables.proofs.Prelude.{held_of, loops_of, shown, TablesAreClosed, MovesOn, ComesOn, Over, On}
+use Rattle.teco_law_tables.proofs.Prelude.{StepsMove, steps_of, needs_in, NoFileCommands, Table, facts_at, value_of}
+use Rattle.teco_law_tables.proofs.Prelude.{own_of, held_at, turning, values_of_constants, blank_len}
+use Rattle.teco_law_turns.specs.Moves.{IsStart, RunsAreBounded}
+use Rattle.teco_law_turns.specs.Table.{IsClosed}
 use Rattle.teco_law_turns.specs.Turns.{RunsAreCovered}
-use Rattle.teco_model.specs.Run.{Reaches, run, go_on}
-use Rattle.teco_model.specs.State.{World, State, End}
-use Rattle.teco_model.specs.Step.{step}
-use Rattle.teco_model.specs.Macros.{Library, IsLoaded, ArgumentRange, IsAsked}
-use Rattle.teco_law_expansion.specs.Linked.{AreLinked}
-use Rattle.teco_verifier.specs.expansion.Node.{Stand, Node, beginning, over, numbered}
-use Rattle.teco_verifier.specs.expansion.Position.{position_of}
 use Rattle.teco_law_expansion.specs.Run.{RunsEnd}
-use Rattle.teco_poly.specs.Polynomial.{value}
 use Rattle.teco_law_facts.proofs.Bodies.{entry_is_sound}
-use Rattle.teco_law_facts.proofs.Covering.{and_both, covers_are_sound}
-use Rattle.teco_verifier.specs.facts.Argument.{arguments_given, facts_given}
-use Rattle.teco_law_facts.specs.Describes.{IsWhole}
-use Rattle.teco_verifier.specs.facts.Facts.{Facts}
+use Rattle.teco_verifier.specs.facts.Argument.{facts_given}
 use Rattle.teco_law_facts.specs.Laws.{IsEntry}
-use Rattle.teco_model.specs.Paging.{unread_of}
-use Rattle.teco_law_facts.specs.SoundSteps.{AreOpen}
-use Rattle.teco_verifier.specs.table.Closed.{say_same, is_entry, check}
-use Rattle.teco_law_tables.specs.Ending.{Passes, ElementsPass, EndsWithin, start_given, RunsEndInTime}
-use Rattle.teco_law_tables.specs.Following.{OpenTurn, run_at, AreOpened, IsDescribed, held_of, loops_of, shown}
-use Rattle.teco_law_tables.specs.Laws.{TablesAreClosed}
-use Rattle.teco_law_tables.specs.Moving.{MovesOn, ComesOn, Over, On, StepsMove}
-use Rattle.teco_verifier.specs.table.Printed.{steps_of, needs_in}
-use Rattle.teco_law_tables.specs.Staying.{NoFileCommands}
-use Rattle.teco_verifier.specs.table.Table.{Table, facts_at}
-use Rattle.teco_law_tables.specs.Turning.{value_of, own_of, held_at, turning}
 use Rattle.teco_law_tables.proofs.Ground.{Ground}
 use Rattle.teco_law_tables.proofs.Closing.{held_known, held_same}
 use Rattle.teco_law_tables.proofs.Going.{Target, AtNode, AtEnd, target_is}
 use Rattle.teco_law_tables.proofs.Lookup.{number_within, same_node}
 use Rattle.teco_law_tables.proofs.Standing.{iterations_are}
-use Rattle.teco_poly.proofs.Lawful.{values_of_constants}
-use Rattle.teco_model.specs.Element.{blank_len}
 use Rattle.teco_law_tables.proofs.Reading.{entry_checked, nodes_checked}
 use Rattle.teco_law_tables.proofs.Walking.{Came, came_on, came_takes, came_leads, reaches_on, none_yet, none_on}
 

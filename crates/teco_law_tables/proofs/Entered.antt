@@ -1,62 +1,39 @@
 -- A step of < into its body begins its first turn.
-use Rattle.std.proofs.Common.{◌≡◌, ◌⊎◌, inl, inr, ℕ, zero, suc, ◌≤◌, ◌<◌, refl, sym, ap, ◌∙◌, subst, arith, List, []}
-use Rattle.std.proofs.Common.{◌∷◌, ◌++◌, map, Bool, true, false, pos, ℤ, Option, Some, None, Result, Ok, is_some, ◌+◌}
-use Rattle.std.specs.Prelude.{IsTrue, ⊤}
-use Rattle.std.specs.List.{AllByRecursion}
-use Rattle.std.proofs.lemmas.Int.{ints}
-use Rattle.teco_base.specs.declared.code.Code.{Code}
+use Rattle.teco_law_tables.proofs.Prelude.{◌≡◌, ◌⊎◌, inl, inr, ℕ, zero, suc, ◌≤◌, ◌<◌, refl, sym, ap, ◌∙◌, subst, arith}
+use Rattle.teco_law_tables.proofs.Prelude.{List, [], ◌∷◌, ◌++◌, map, Bool, true, false, pos, ℤ, Option, Some, None}
+use Rattle.teco_law_tables.proofs.Prelude.{Result, Ok, is_some, ◌+◌, IsTrue, ⊤, AllByRecursion, ints, Code, Into, Taken}
+use Rattle.teco_law_tables.proofs.Prelude.{Flow, Kind, Element, Turn, World, State, end_of, AreClosed, LeadsBy}
+use Rattle.teco_law_tables.proofs.Prelude.{LeadsByKind, place_at, Node, numbered, stand_at, position_of, is_long}
+use Rattle.teco_law_tables.proofs.Prelude.{StepWas, ElementWas, Turns, Polynomial, value, and_both, covers_are_sound}
+use Rattle.teco_law_tables.proofs.Prelude.{KnownTaken, arguments_of, Changes, Choice, body_start, begins, choice_stands}
+use Rattle.teco_law_tables.proofs.Prelude.{covers, each_covers, is_same_iteration, Describes, HasFallen, fore_of}
+use Rattle.teco_law_tables.proofs.Prelude.{Iteration, Facts, entered, unread_of, Refusal, Value, left_by, turns_by_flow}
+use Rattle.teco_law_tables.proofs.Prelude.{turns_by_kind, begins_turn, say_same, is_counted, body_stands, is_entered}
+use Rattle.teco_law_tables.proofs.Prelude.{enters_by, enters_at, closed_behind, OpenTurn, begun_of, run_at, loops_in}
+use Rattle.teco_law_tables.proofs.Prelude.{open_loops, AreMore, IsOpened, AreOpened, held_of, loops_of, shown}
+use Rattle.teco_law_tables.proofs.Prelude.{run_by_kind, run_along, IsLong, IsLast, Alone, Again, MovesOn, Table}
+use Rattle.teco_law_tables.proofs.Prelude.{facts_at, choice_at, turns_at, value_of, is_reached, turning, changes_in}
+use Rattle.teco_law_tables.proofs.Prelude.{length-map}
 use Rattle.teco_law_turns.specs.Moves as moves
-use Rattle.teco_law_turns.specs.Moves.{Into}
-use Rattle.teco_model.specs.declared.arguments.Taken.{Taken}
-use Rattle.teco_model.specs.declared.kind.Flow.{Flow}
 use Rattle.teco_model.specs.declared.kind.Flow.TheVariants as flow
-use Rattle.teco_model.specs.declared.kind.Kind.{Kind}
 use Rattle.teco_model.specs.declared.kind.Kind.TheVariants as kind
 use Rattle.teco_model.specs.Arguments as model
-use Rattle.teco_model.specs.Element.{Element}
-use Rattle.teco_model.specs.Flow.{Turn, later_turns}
-use Rattle.teco_model.specs.State.{World, State}
-use Rattle.teco_verifier.specs.expansion.Ends.{end_of}
-use Rattle.teco_law_expansion.specs.Ends.{AreClosed}
-use Rattle.teco_law_expansion.specs.Leading.{LeadsBy, LeadsByKind, IsInside, place_at}
-use Rattle.teco_verifier.specs.expansion.Node.{Node, numbered, stand_at}
-use Rattle.teco_verifier.specs.expansion.Position.{position_of}
-use Rattle.teco_law_expansion.specs.Steps.{is_long}
+use Rattle.teco_model.specs.Flow.{later_turns}
+use Rattle.teco_law_expansion.specs.Leading.{IsInside}
 use Rattle.teco_law_expansion.specs.Turns as went
-use Rattle.teco_law_expansion.specs.Was.{StepWas, ElementWas, Turns}
-use Rattle.teco_poly.specs.Polynomial.{Polynomial, value}
 use Rattle.teco_law_facts.proofs.Bodies.{body_starts_are_sound}
-use Rattle.teco_law_facts.proofs.Covering.{and_both, covers_are_sound}
 use Rattle.teco_law_facts.proofs.Flowing.{taking_is, turns_are_sound}
 use Rattle.teco_law_facts.proofs.Steps.{Covers}
-use Rattle.teco_verifier.specs.facts.Arguments.{KnownTaken, arguments_of}
-use Rattle.teco_verifier.specs.facts.Bodies.{Changes, Choice, body_start, begins, stands as choice_stands}
-use Rattle.teco_verifier.specs.facts.Covers.{covers, each_covers, is_same_truth, is_same_iteration}
-use Rattle.teco_law_facts.specs.Describes.{IsOptional, IsTaken, Describes, HasFallen, fore_of, back_of}
-use Rattle.teco_verifier.specs.facts.Facts.{Iteration, Facts}
+use Rattle.teco_verifier.specs.facts.Covers.{is_same_truth}
+use Rattle.teco_law_facts.specs.Describes.{IsOptional, IsTaken, back_of}
 use Rattle.teco_verifier.specs.facts.Flows.{turns as turns_of}
-use Rattle.teco_law_facts.specs.Laws.{entered}
 use Rattle.teco_law_facts.specs.SoundElements.{Leads}
 use Rattle.teco_law_facts.specs.SoundFlow.{AreTurns}
-use Rattle.teco_model.specs.Paging.{unread_of}
 use Rattle.teco_verifier.specs.facts.Values.{IsValue}
-use Rattle.teco_verifier.specs.declared.refusal.Refusal.{Refusal}
-use Rattle.teco_verifier.specs.declared.values.Value.{Value}
-use Rattle.teco_verifier.specs.table.Behind.{left_by, turns_by_flow, turns_by_kind, begins_turn}
-use Rattle.teco_verifier.specs.table.Closed.{say_same, is_counted, body_stands, is_entered, enters_by, enters_at}
-use Rattle.teco_verifier.specs.table.Closed.{closed_behind}
-use Rattle.teco_law_tables.specs.Following.{OpenTurn, begun_of, run_at, loops_in, open_loops, AreMore, IsOpened}
-use Rattle.teco_law_tables.specs.Following.{AreOpened, held_of, loops_of, shown}
-use Rattle.teco_law_tables.specs.Moving.{run_by_kind, run_along, IsLong, IsLast, Alone, Again, MovesOn}
-use Rattle.teco_verifier.specs.table.Table.{Table, facts_at, choice_at}
-use Rattle.teco_verifier.specs.table.Printed.{turns_at}
-use Rattle.teco_law_tables.specs.Turning.{value_of, is_reached, turning}
-use Rattle.teco_verifier.specs.table.Written.{changes_in}
 use Rattle.teco_law_tables.proofs.Ground.{Ground, Passage}
 use Rattle.teco_law_tables.proofs.Closing.{turns_known}
 use Rattle.teco_law_tables.proofs.Entering.{Entering, enters}
 use Rattle.teco_law_tables.proofs.Going.{Laws, behind_checked, stands_there, leads_there}
-use Rattle.std.proofs.lemmas.List.{length-map}
 use Rattle.teco_law_facts.proofs.Each.{each_length}
 
 -- ---- which ways begin a turn

@@ -1,20 +1,14 @@
 -- What enters the body of an iteration.
-use Rattle.std.proofs.Common.{◌≡◌, List, sym, ap, ◌∙◌, Bool, true, false, is_some, if◌then◌else◌, Option, Some, None}
-use Rattle.std.proofs.Common.{Ok}
+use Rattle.teco_law_tables.proofs.Prelude.{◌≡◌, List, sym, ap, ◌∙◌, Bool, true, false, is_some, if◌then◌else◌, Option}
+use Rattle.teco_law_tables.proofs.Prelude.{Some, None, Ok, Kind, Element, Node, Value, KnownTaken, arguments_of, Facts}
+use Rattle.teco_law_tables.proofs.Prelude.{Edges, entered, answer_for, without_answer, edges_of, transfer, placed}
+use Rattle.teco_law_tables.proofs.Prelude.{edges_behind, edges_at, bound}
 use Rattle.teco_model.specs.declared.kind.Flow.TheVariants as flow
-use Rattle.teco_model.specs.declared.kind.Kind.{Kind}
 use Rattle.teco_model.specs.declared.kind.Kind.TheVariants as kind
-use Rattle.teco_model.specs.Element.{Element}
-use Rattle.teco_verifier.specs.expansion.Node.{Node}
-use Rattle.teco_verifier.specs.declared.values.Value.{Value}
-use Rattle.teco_verifier.specs.facts.Arguments.{KnownTaken, arguments_of, levels_after_taking}
-use Rattle.teco_verifier.specs.facts.Facts.{Facts, without_arguments}
-use Rattle.teco_verifier.specs.facts.Flows.{Edges, entering, iteration, iterate, turns_of}
+use Rattle.teco_verifier.specs.facts.Arguments.{levels_after_taking}
+use Rattle.teco_verifier.specs.facts.Facts.{without_arguments}
+use Rattle.teco_verifier.specs.facts.Flows.{entering, iteration, iterate, turns_of}
 use Rattle.teco_verifier.specs.facts.Joins.{none_pending}
-use Rattle.teco_law_facts.specs.Laws.{entered}
-use Rattle.teco_verifier.specs.facts.Transfer.{answer_for, without_answer, edges_of, transfer}
-use Rattle.teco_verifier.specs.table.Behind.{placed, edges_behind, edges_at}
-use Rattle.teco_model.proofs.Chains.{bound}
 
 -- the element of a node by its kind
 pub kind_edges : (nodes : List Node) (node : Node) (e : Element) (k : Kind) (facts : Facts) (edges : Edges)

@@ -1,24 +1,15 @@
 -- What is known at a node that is reached fits, where the printed size does, and so do the edges behind it.
-use Rattle.std.proofs.Common.{◌≡◌, ℕ, zero, suc, ◌+◌, ◌≤◌, refl, sym, ap, ◌∙◌, subst, arith, List, [], ◌∷◌, Option}
-use Rattle.std.proofs.Common.{Some, None, Result, Ok, Err, slice_get}
-use Rattle.std.specs.Prelude.{IsTrue}
-use Rattle.std.specs.List.{AllByRecursion}
-use Rattle.teco_base.specs.declared.TheConstants.{LIMIT}
-use Rattle.teco_verifier.specs.expansion.Node.{Node, numbered}
-use Rattle.teco_poly.proofs.Lawful.{value_of_join, values_compare}
-use Rattle.teco_poly.specs.Polynomial.{Polynomial, value, join}
-use Rattle.teco_law_facts.proofs.Covering.{and_both}
-use Rattle.teco_model.specs.Macros.{ArgumentRange}
-use Rattle.teco_verifier.specs.declared.refusal.Refusal.{Refusal}
+use Rattle.teco_law_tables.proofs.Prelude.{◌≡◌, ℕ, zero, suc, ◌+◌, ◌≤◌, refl, sym, ap, ◌∙◌, subst, arith, List, [], ◌∷◌}
+use Rattle.teco_law_tables.proofs.Prelude.{Option, Some, None, Result, Ok, Err, slice_get, IsTrue, AllByRecursion}
+use Rattle.teco_law_tables.proofs.Prelude.{LIMIT, Node, numbered, values_compare, Polynomial, value, and_both}
+use Rattle.teco_law_tables.proofs.Prelude.{ArgumentRange, Refusal, each_covers, covers, Facts, join_of, Fits, at_node}
+use Rattle.teco_law_tables.proofs.Prelude.{steps_of, weight, counted_with, count_from, commands, joined_with}
+use Rattle.teco_law_tables.proofs.Prelude.{sized_with, size_from, size, Table, facts_at, bound, some_of}
+use Rattle.teco_poly.proofs.Lawful.{value_of_join}
+use Rattle.teco_poly.specs.Polynomial.{join}
 use Rattle.teco_verifier.specs.declared.refusal.Refusal.TheVariants as refusal
-use Rattle.teco_verifier.specs.facts.Covers.{each_covers, covers_length, covers}
-use Rattle.teco_verifier.specs.facts.Facts.{Facts, join_of}
-use Rattle.teco_law_facts.specs.SoundElements.{Fits}
-use Rattle.teco_verifier.specs.table.Printed.{at_node, steps_of, weight, counted_with, count_from, commands}
-use Rattle.teco_verifier.specs.table.Printed.{joined_with, sized_with, size_from, size}
-use Rattle.teco_verifier.specs.table.Table.{Table, facts_at}
+use Rattle.teco_verifier.specs.facts.Covers.{covers_length}
 use Rattle.teco_law_tables.proofs.Closing.{held_covered}
-use Rattle.teco_model.proofs.Chains.{bound, some_of}
 
 -- ---- the steps of each node that is reached are printed
 module _ (table : Table) where

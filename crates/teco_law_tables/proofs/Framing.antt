@@ -1,12 +1,12 @@
 -- A run keeps what no element of its macro names, since each element that it reads is one of a node.
-use Rattle.std.proofs.Common.{◌≡◌, ◌≢◌, ℕ, zero, suc, ◌+◌, ◌<◌, List, [], false, Option, Some, None, Ok, refl, sym}
-use Rattle.std.proofs.Common.{ap, ◌∙◌, subst, arith, ◌^◌}
-use Rattle.teco_base.specs.declared.TheConstants.{REGISTERS}
+use Rattle.teco_law_tables.proofs.Prelude.{◌≡◌, ℕ, zero, suc, ◌+◌, ◌<◌, List, [], false, Option, Some, None, Ok, refl}
+use Rattle.teco_law_tables.proofs.Prelude.{sym, ap, ◌∙◌, subst, arith, ◌^◌, REGISTERS, IterationsEnd, BeginsPending}
+use Rattle.teco_law_tables.proofs.Prelude.{call_given, start_pending, AreOpen, start_given, Element, ArgumentRange}
+use Rattle.teco_law_tables.proofs.Prelude.{IsAsked, Reaches, go_on, run, Kept, Outcome, Next, State, World, start, step}
+use Rattle.teco_law_tables.proofs.Prelude.{Node, numbered, position_of, position_of_frames, read_at, needs_in}
+use Rattle.std.proofs.Common.{◌≢◌}
 use Rattle.teco_law_expansion.proofs.Runs.{over_reads}
-use Rattle.teco_law_expansion.specs.Ends.{IterationsEnd}
-use Rattle.teco_law_expansion.specs.Given.{BeginsPending, call_given, start_pending}
 use Rattle.teco_law_expansion.specs.Loaded.{KeepsBy, StepsKeep}
-use Rattle.teco_law_facts.specs.SoundSteps.{AreOpen}
 use Rattle.teco_law_tables.proofs.Described as described
 use Rattle.teco_law_tables.proofs.Described.{at_first, reaches_later, reaches_none, ready_call}
 use Rattle.teco_law_tables.proofs.Ending as ending
@@ -14,17 +14,7 @@ use Rattle.teco_law_tables.proofs.Ending.{Call, Course, course}
 use Rattle.teco_law_tables.proofs.Pending.{CallLaws, other_next}
 use Rattle.teco_law_tables.proofs.Underway.{ElementsGo}
 use Rattle.teco_law_tables.proofs.Verifying as verifying
-use Rattle.teco_law_tables.specs.Ending.{start_given}
 use Rattle.teco_law_tables.specs.Framing.{IsFramed, NoneNames, NoneSetsMode, RunsAreFramed, named_in, sets_mode_in}
-use Rattle.teco_model.specs.Element.{Element}
-use Rattle.teco_model.specs.Macros.{ArgumentRange, IsAsked}
-use Rattle.teco_model.specs.Run.{Reaches, go_on, run}
-use Rattle.teco_model.specs.State.{Kept, Outcome, Next, State, World, start}
-use Rattle.teco_model.specs.Step.{step}
-use Rattle.teco_verifier.specs.expansion.Node.{Node, numbered}
-use Rattle.teco_verifier.specs.expansion.Position.{position_of, position_of_frames}
-use Rattle.teco_verifier.specs.expansion.Ways.{read_at}
-use Rattle.teco_verifier.specs.table.Printed.{needs_in}
 
 -- what is read is of a node, or nothing is
 data ReadsIn (nodes : List Node) (s : State) : Type 0 where

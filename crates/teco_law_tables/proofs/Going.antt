@@ -1,43 +1,25 @@
 -- A step along a way that begins no turn goes on.
-use Rattle.std.proofs.Common.{◌≡◌, ℕ, zero, suc, ◌+◌, ◌-◌, ◌≤◌, ◌<◌, refl, sym, ap, ◌∙◌, subst, arith, List, [], ◌∷◌}
-use Rattle.std.proofs.Common.{◌++◌, map, take, drop, length, get_or, nat_lt, ◌==◌, Bool, true, false, ◌||◌}
-use Rattle.std.proofs.Common.{if◌then◌else◌, pos, Option, Some, None, Ok, is_some, slice_get}
-use Rattle.std.specs.Prelude.{IsTrue}
-use Rattle.std.specs.List.{AllByRecursion}
-use Rattle.std.specs.Option.{option_map_or}
-use Rattle.std.proofs.lemmas.Bool.{ltb-true}
-use Rattle.teco_law_turns.specs.Moves.{Forward, Goes, FallFollows, still_open}
-use Rattle.teco_model.specs.declared.kind.Flow.{Flow}
+use Rattle.teco_law_tables.proofs.Prelude.{◌≡◌, ℕ, zero, suc, ◌+◌, ◌-◌, ◌≤◌, ◌<◌, refl, sym, ap, ◌∙◌, subst, arith}
+use Rattle.teco_law_tables.proofs.Prelude.{List, [], ◌∷◌, ◌++◌, map, take, drop, length, nat_lt, ◌==◌, Bool, true}
+use Rattle.teco_law_tables.proofs.Prelude.{false, ◌||◌, if◌then◌else◌, pos, Option, Some, None, Ok, is_some, slice_get}
+use Rattle.teco_law_tables.proofs.Prelude.{IsTrue, AllByRecursion, option_map_or, ltb-true, Forward, FallFollows}
+use Rattle.teco_law_tables.proofs.Prelude.{still_open, Flow, Kind, Element, Pair, World, Frames, State, end_of}
+use Rattle.teco_law_tables.proofs.Prelude.{AreClosed, LeftHaveEnded, IterationsAreOpen, LeadsBy, place_at, WaysLead}
+use Rattle.teco_law_tables.proofs.Prelude.{Stand, Node, over, stand_of_node, stands, numbered, stand_at, Position}
+use Rattle.teco_law_tables.proofs.Prelude.{position_of, values_compare, value, and_both, covers_are_sound, covers, Run}
+use Rattle.teco_law_tables.proofs.Prelude.{run_behind, Describes, Facts, Edges, unread_of, left_by, edges_at, along}
+use Rattle.teco_law_tables.proofs.Prelude.{turns_by_flow, turns_by_kind, begins_turn, arrives, is_known_in}
+use Rattle.teco_law_tables.proofs.Prelude.{closed_behind, closed_where, check_nodes, OpenTurn, run_at, loops_in}
+use Rattle.teco_law_tables.proofs.Prelude.{open_loops, AreOpened, held_of, loops_of, shown, left_by_flow, left_by_kind}
+use Rattle.teco_law_tables.proofs.Prelude.{left_along, run_by_flow, run_by_kind, run_along, IsLast, Alone, Again}
+use Rattle.teco_law_tables.proofs.Prelude.{MovesOn, Table, facts_at, is_reached, held_at, turning}
+use Rattle.std.proofs.Common.{get_or}
+use Rattle.teco_law_turns.specs.Moves.{Goes}
 use Rattle.teco_model.specs.declared.kind.Flow.TheVariants as flow
-use Rattle.teco_model.specs.declared.kind.Kind.{Kind}
 use Rattle.teco_model.specs.declared.kind.Kind.TheVariants as kind
-use Rattle.teco_model.specs.Element.{Element}
-use Rattle.teco_model.specs.Registers.{Pair}
-use Rattle.teco_model.specs.State.{World, Frames, State}
-use Rattle.teco_verifier.specs.expansion.Ends.{end_of}
-use Rattle.teco_law_expansion.specs.Ends.{AreClosed, LeftHaveEnded}
-use Rattle.teco_law_expansion.specs.Iterations.{AreOpen, IterationsAreOpen}
-use Rattle.teco_law_expansion.specs.Leading.{LeadsBy, place_at, WaysLead}
-use Rattle.teco_verifier.specs.expansion.Node.{Stand, Node, over, stand_of_node, stands, numbered, stand_at}
-use Rattle.teco_verifier.specs.expansion.Position.{Position, position_of}
-use Rattle.teco_poly.proofs.Lawful.{values_compare}
-use Rattle.teco_poly.specs.Polynomial.{value}
-use Rattle.teco_law_facts.proofs.Covering.{and_both, covers_are_sound}
-use Rattle.teco_verifier.specs.facts.Covers.{covers}
-use Rattle.teco_law_facts.specs.Describes.{Run, run_behind, Describes}
-use Rattle.teco_verifier.specs.facts.Facts.{Facts}
-use Rattle.teco_verifier.specs.facts.Flows.{Edges}
-use Rattle.teco_model.specs.Paging.{unread_of}
-use Rattle.teco_verifier.specs.table.Behind.{open_of, open_at, left_by, edges_at, along, turns_by_flow, turns_by_kind}
-use Rattle.teco_verifier.specs.table.Behind.{begins_turn}
-use Rattle.teco_verifier.specs.table.Closed.{is_return, is_covered, arrives, arrive, is_known_in, closed_behind}
-use Rattle.teco_verifier.specs.table.Closed.{closed_where, check_nodes}
-use Rattle.teco_law_tables.specs.Following.{OpenTurn, run_at, loops_in, open_loops, AreOpened, held_of, loops_of}
-use Rattle.teco_law_tables.specs.Following.{shown}
-use Rattle.teco_law_tables.specs.Moving.{left_by_flow, left_by_kind, left_along, run_by_flow, run_by_kind, run_along}
-use Rattle.teco_law_tables.specs.Moving.{IsLast, Alone, Again, MovesOn}
-use Rattle.teco_verifier.specs.table.Table.{Table, facts_at}
-use Rattle.teco_law_tables.specs.Turning.{is_reached, held_at, turning}
+use Rattle.teco_law_expansion.specs.Iterations.{AreOpen}
+use Rattle.teco_verifier.specs.table.Behind.{open_of, open_at}
+use Rattle.teco_verifier.specs.table.Closed.{is_return, is_covered, arrive}
 use Rattle.teco_law_tables.proofs.Ground.{Ground, Passage}
 use Rattle.teco_law_tables.proofs.Closing.{held_covered, held_known}
 use Rattle.teco_law_tables.proofs.Leaving.{step_loops}

@@ -1,16 +1,7 @@
 -- What the proofs about a closed table stand on, and an element that goes along a way.
-use Rattle.std.proofs.Common.{◌≡◌, ℕ, List, Ok}
-use Rattle.teco_model.specs.Macros.{Library, IsLoaded}
-use Rattle.teco_model.specs.Registers.{Pair}
-use Rattle.teco_model.specs.State.{State}
-use Rattle.teco_verifier.specs.expansion.Node.{Node, stands}
-use Rattle.teco_verifier.specs.table.Closed.{check_nodes}
-use Rattle.teco_verifier.specs.table.Table.{Table}
-use Rattle.teco_law_expansion.specs.Linked.{AreLinked}
-use Rattle.teco_law_expansion.specs.Run.{GoesTo}
-use Rattle.teco_law_facts.specs.Describes.{IsWhole}
-use Rattle.teco_law_tables.specs.Following.{OpenTurn, run_at, IsDescribed}
-use Rattle.teco_law_tables.specs.Moving.{IsLast, Comes}
+use Rattle.teco_law_tables.proofs.Prelude.{◌≡◌, ℕ, List, Ok, Library, IsLoaded, Pair, State, Node, stands, check_nodes}
+use Rattle.teco_law_tables.proofs.Prelude.{Table, AreLinked, GoesTo, IsWhole, OpenTurn, run_at, IsDescribed, IsLast}
+use Rattle.teco_law_tables.proofs.Prelude.{Comes}
 
 -- a closed table over the nodes of a macro, a size of N, and the push-down list of the entry
 pub record Ground : Type 0 where

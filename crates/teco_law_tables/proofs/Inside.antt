@@ -1,44 +1,25 @@
 -- What is known of where an element stands: in which iteration, and where it jumps.
-use Rattle.std.proofs.Common.{◌≡◌, ℕ, ◌≤◌, ◌<◌, refl, sym, ap, ◌∙◌, subst, arith, List, [], ◌∷◌, ◌++◌, map, Bool}
-use Rattle.std.proofs.Common.{true, false, Option, Some, None, Ok}
-use Rattle.std.specs.Prelude.{IsTrue}
-use Rattle.std.specs.List.{AllByRecursion}
-use Rattle.std.specs.Option.{option_map_or}
-use Rattle.teco_law_tables.specs.Following.{OpenTurn, loops_in, AreMore, IsOpened, AreOpened}
-use Rattle.teco_model.specs.declared.flow.Loop.{Loop}
-use Rattle.teco_model.specs.declared.kind.Flow.{Flow}
+use Rattle.teco_law_tables.proofs.Prelude.{◌≡◌, ℕ, ◌≤◌, ◌<◌, refl, sym, ap, ◌∙◌, subst, arith, List, [], ◌∷◌, ◌++◌, map}
+use Rattle.teco_law_tables.proofs.Prelude.{Bool, true, false, Option, Some, None, Ok, IsTrue, AllByRecursion}
+use Rattle.teco_law_tables.proofs.Prelude.{option_map_or, OpenTurn, loops_in, AreMore, IsOpened, AreOpened, Loop, Flow}
+use Rattle.teco_law_tables.proofs.Prelude.{Kind, Search, Whole, Element, skip_of, Frame, Descend, IsBegin, AreClosed}
+use Rattle.teco_law_tables.proofs.Prelude.{end_of, Position, start_of, search_ways, element_ways, ways_at, and_both}
+use Rattle.teco_law_tables.proofs.Prelude.{body_start, each_covers, is_same_iteration, covers, Iteration, Facts, Edges}
+use Rattle.teco_law_tables.proofs.Prelude.{without_answer, placed, edges_at, is_counted, is_known_in, Table, changes_in}
+use Rattle.teco_law_tables.proofs.Prelude.{bound}
 use Rattle.teco_model.specs.declared.kind.Flow.TheVariants as flow
 use Rattle.teco_model.specs.declared.kind.Goal.TheVariants as goal
-use Rattle.teco_model.specs.declared.kind.Kind.{Kind}
 use Rattle.teco_model.specs.declared.kind.Kind.TheVariants as kind
-use Rattle.teco_model.specs.declared.kind.Search.{Search}
-use Rattle.teco_model.specs.Ahead.{Whole}
-use Rattle.teco_model.specs.Element.{Element}
-use Rattle.teco_model.specs.Skip.{skip_of}
-use Rattle.teco_model.specs.State.{Frame}
-use Rattle.teco_law_expansion.specs.Ends.{Descend, IsBegin, AreClosed}
-use Rattle.teco_verifier.specs.expansion.Ends.{end_of}
-use Rattle.teco_verifier.specs.expansion.Position.{Position, start_of}
-use Rattle.teco_verifier.specs.expansion.Ways.{search_ways, element_ways, ways_at}
-use Rattle.teco_law_facts.proofs.Covering.{and_both}
-use Rattle.teco_verifier.specs.facts.Bodies.{body_start}
-use Rattle.teco_verifier.specs.facts.Covers.{each_covers, is_same_iteration, covers}
-use Rattle.teco_verifier.specs.facts.Facts.{Iteration, Facts}
-use Rattle.teco_verifier.specs.facts.Flows.{Edges}
 use Rattle.teco_verifier.specs.facts.Searches.{facts_at_search}
 use Rattle.teco_law_facts.specs.SoundSteps.{IsInside, LeadsAhead, FlowStands, KindStands}
-use Rattle.teco_verifier.specs.facts.Transfer.{search_allowed, without_answer}
-use Rattle.teco_verifier.specs.table.Behind.{is_inside, placed, edges_at}
-use Rattle.teco_verifier.specs.table.Closed.{is_counted, is_known_in}
-use Rattle.teco_verifier.specs.table.Table.{Table}
-use Rattle.teco_verifier.specs.table.Written.{changes_in}
+use Rattle.teco_verifier.specs.facts.Transfer.{search_allowed}
+use Rattle.teco_verifier.specs.table.Behind.{is_inside}
 use Rattle.teco_law_tables.proofs.Ground.{Ground, Arrival}
 use Rattle.teco_law_tables.proofs.Coming.{HasLoop}
 use Rattle.teco_law_tables.proofs.Entered.{counted_by}
 use Rattle.teco_law_tables.proofs.Entering.{kind_edges, Entering, enters}
 use Rattle.teco_law_tables.proofs.Going.{known_in}
 use Rattle.teco_law_tables.proofs.Leading.{JumpPlace, HasStart, FlowHas, flow_has, search_has}
-use Rattle.teco_model.proofs.Chains.{bound}
 use Rattle.teco_law_tables.proofs.Reading.{Body, body_is}
 
 has_loop : (frame : Frame) (loops : List Loop) → frame.loops ≡ loops → HasStart (map start_of loops) → HasLoop frame

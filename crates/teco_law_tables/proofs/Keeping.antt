@@ -1,17 +1,12 @@
 -- A run none of whose elements is a command of files leaves open what was open.
-use Rattle.std.proofs.Common.{◌≡◌, ℕ, zero, suc, ◌≤◌, ◌<◌, List, [], ◌∷◌, Option, Some, None, Result, Ok, Err, refl}
-use Rattle.std.proofs.Common.{sym, ◌∙◌, subst, arith}
-use Rattle.teco_base.specs.declared.code.Code.{Code}
-use Rattle.teco_model.specs.declared.flow.Loop.{Loop}
-use Rattle.teco_model.specs.declared.stop.Stop.{Stop}
+use Rattle.teco_law_tables.proofs.Prelude.{◌≡◌, ℕ, zero, suc, ◌≤◌, ◌<◌, List, [], ◌∷◌, Option, Some, None, Result, Ok}
+use Rattle.teco_law_tables.proofs.Prelude.{Err, refl, sym, ◌∙◌, subst, arith, Code, Loop, Stop, Element, element_at}
+use Rattle.teco_law_tables.proofs.Prelude.{run, go_on, Ends, Reaches, World, Frame, State, Outcome, Next, End, Exit}
+use Rattle.teco_law_tables.proofs.Prelude.{Fail, end_of_text, end_outcome, outcome_at, reply_of, step, ComesTo}
+use Rattle.teco_law_tables.proofs.Prelude.{AreAsOpen, NoFileCommands}
 use Rattle.teco_model.specs.declared.stop.Stop.TheVariants as stop
-use Rattle.teco_model.specs.Element.{Element, element_at}
-use Rattle.teco_model.specs.Run.{run, go_on, Ends, Reaches}
-use Rattle.teco_model.specs.State.{World, Frame, State, Outcome, Next, End, Exit, Fail, Absent}
-use Rattle.teco_model.specs.Step.{end_of_text, end_outcome, outcome_at, reply_of, step}
+use Rattle.teco_model.specs.State.{Absent}
 use Rattle.teco_law_tables.specs.Keeping.{LeavesOpen, RunsLeaveOpen}
-use Rattle.teco_law_tables.specs.Sure.{ComesTo}
-use Rattle.teco_law_tables.specs.Staying.{AreAsOpen, NoFileCommands}
 use Rattle.teco_law_tables.proofs.Staying.{files_stay_open, same}
 use Rattle.teco_law_tables.proofs.Sure.{runs_end_once, settle_goes}
 use Rattle.teco_law_tables.proofs.Walking.{same_next}

@@ -1,26 +1,17 @@
 -- What the ways of a node say of where its element leads.
-use Rattle.std.proofs.Common.{◌≡◌, ℕ, zero, suc, refl, subst, List, [], ◌∷◌, Bool, true, false, Option, Some, None}
-use Rattle.std.proofs.Common.{Result, Ok, slice_get, ok_or, arith}
-use Rattle.std.specs.Prelude.{⊤}
-use Rattle.teco_model.specs.declared.kind.Flow.{Flow}
+use Rattle.teco_law_tables.proofs.Prelude.{◌≡◌, ℕ, zero, suc, refl, subst, List, [], ◌∷◌, Bool, true, false, Option}
+use Rattle.teco_law_tables.proofs.Prelude.{Some, None, Result, Ok, slice_get, ok_or, arith, ⊤, Flow, Kind, Whole}
+use Rattle.teco_law_tables.proofs.Prelude.{Element, has_colon, skip_of, frame_of, Library, macro, bound, some_of, Stand}
+use Rattle.teco_law_tables.proofs.Prelude.{Position, past, end_ways, flow_ways, search_ways, element_ways, ways_at}
 use Rattle.teco_model.specs.declared.kind.Flow.TheVariants as flow
 use Rattle.teco_model.specs.declared.kind.Goal.{Goal}
 use Rattle.teco_model.specs.declared.kind.Goal.TheVariants as goal
-use Rattle.teco_model.specs.declared.kind.Kind.{Kind}
 use Rattle.teco_model.specs.declared.kind.Kind.TheVariants as kind
-use Rattle.teco_model.specs.Ahead.{Whole}
-use Rattle.teco_model.specs.Element.{Element}
-use Rattle.teco_model.specs.Searching.{has_colon}
-use Rattle.teco_model.specs.Skip.{skip_of}
-use Rattle.teco_model.specs.State.{frame_of}
-use Rattle.teco_model.specs.Macros.{Library, macro}
-use Rattle.teco_model.proofs.Chains.{bound, some_of}
 use Rattle.teco_law_expansion.specs.Linked.{Lead}
-use Rattle.teco_verifier.specs.expansion.Node.{Stand}
-use Rattle.teco_verifier.specs.expansion.Position.{Position, moved_to}
+use Rattle.teco_verifier.specs.expansion.Position.{moved_to}
 use Rattle.teco_verifier.specs.expansion.Refusal.{Reason, Unpaired}
-use Rattle.teco_verifier.specs.expansion.Ways.{past, jumped, jump_way, way_or_jump, end_ways, leave_ways, ahead_ways}
-use Rattle.teco_verifier.specs.expansion.Ways.{flow_ways, search_ways, call_ways, element_ways, ways_at}
+use Rattle.teco_verifier.specs.expansion.Ways.{jumped, jump_way, way_or_jump, leave_ways, ahead_ways}
+use Rattle.teco_verifier.specs.expansion.Ways.{call_ways}
 
 -- ---- where a jump leads
 abbrev pub JumpPlace : Element → Position → Type 0

@@ -1,4 +1,5 @@
 -- Lemmas of the laws.
+mod Prelude
 mod Lookup
 mod Counting
 mod Standing

@@ -1,13 +1,12 @@
 -- Nodes by their numbers.
-use Rattle.std.proofs.Common.{◌≡◌, ℕ, zero, suc, ◌+◌, ◌≤◌, ◌<◌, refl, sym, ap, ◌∙◌, arith, rules, eqb-true, List, []}
-use Rattle.std.proofs.Common.{◌∷◌, ◌++◌, map, drop, length, ◌==◌, Bool, true, false, if◌then◌else◌, Option, Some}
-use Rattle.std.proofs.Common.{None, slice_get}
+use Rattle.teco_law_tables.proofs.Prelude.{◌≡◌, ℕ, zero, suc, ◌+◌, ◌≤◌, ◌<◌, refl, sym, ap, ◌∙◌, arith, rules, eqb-true}
+use Rattle.teco_law_tables.proofs.Prelude.{List, [], ◌∷◌, ◌++◌, map, drop, length, ◌==◌, Bool, true, false}
+use Rattle.teco_law_tables.proofs.Prelude.{if◌then◌else◌, Option, Some, None, slice_get, Kind, Element, is_innermost}
+use Rattle.teco_law_tables.proofs.Prelude.{ends_by_kind, ends_by, ends, end_of, Stand, Node, over, stand_of_node}
+use Rattle.teco_law_tables.proofs.Prelude.{stands, numbered}
 use Rattle.teco_model.specs.declared.kind.Flow.TheVariants as flow
-use Rattle.teco_model.specs.declared.kind.Kind.{Kind}
 use Rattle.teco_model.specs.declared.kind.Kind.TheVariants as kind
-use Rattle.teco_model.specs.Element.{Element}
-use Rattle.teco_verifier.specs.expansion.Ends.{is_innermost, ends_by_kind, ends_by, ends, first_end, end_of}
-use Rattle.teco_verifier.specs.expansion.Node.{Stand, Node, over, stand_of_node, stands, numbered}
+use Rattle.teco_verifier.specs.expansion.Ends.{first_end}
 
 -- ---- places in lists
 pub got : {X : Type 0} (xs : List X) (k : ℕ) → k < length xs → (x : X) × (slice_get xs k ≡ Some x)

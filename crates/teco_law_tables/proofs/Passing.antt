@@ -1,26 +1,17 @@
 -- The numbers of the open iterations behind a way that begins no turn.
-use Rattle.std.proofs.Common.{◌≡◌, ℕ, zero, suc, ◌+◌, ◌-◌, ◌≤◌, ◌<◌, ◌==◌, refl, sym, ap, ◌∙◌, arith, pos, ℤ, List}
-use Rattle.std.proofs.Common.{[], ◌∷◌, map, take, drop, length, nat_lt, Bool, true, false, if◌then◌else◌, Option}
-use Rattle.std.proofs.Common.{Some, None, eqb-true, length-append, length-drop}
-use Rattle.std.specs.List.{AllByRecursion}
-use Rattle.std.proofs.lemmas.Bool.{ltb-true, ltb-false}
-use Rattle.teco_law_turns.specs.Moves.{OpenLoop, still_open, FallFollows}
-use Rattle.teco_model.specs.declared.flow.Loop.{Loop}
-use Rattle.teco_model.specs.declared.kind.Flow.{Flow}
+use Rattle.teco_law_tables.proofs.Prelude.{◌≡◌, ℕ, zero, suc, ◌+◌, ◌-◌, ◌≤◌, ◌<◌, ◌==◌, refl, sym, ap, ◌∙◌, arith, pos}
+use Rattle.teco_law_tables.proofs.Prelude.{ℤ, List, [], ◌∷◌, map, take, drop, length, nat_lt, Bool, true, false}
+use Rattle.teco_law_tables.proofs.Prelude.{if◌then◌else◌, Option, Some, None, eqb-true, length-append, length-drop}
+use Rattle.teco_law_tables.proofs.Prelude.{AllByRecursion, ltb-true, ltb-false, OpenLoop, still_open, FallFollows, Loop}
+use Rattle.teco_law_tables.proofs.Prelude.{Flow, Kind, Element, Frame, State, Descend, AreOpenIn, LeadsByKind, LeadsBy}
+use Rattle.teco_law_tables.proofs.Prelude.{Node, Spot, start_of, turns_by_flow, turns_by_kind, begins_turn, OpenTurn}
+use Rattle.teco_law_tables.proofs.Prelude.{begun_of, loops_in, open_loops, AreOpened, loops_of, left_by_flow}
+use Rattle.teco_law_tables.proofs.Prelude.{left_by_kind, left_along, Table}
 use Rattle.teco_model.specs.declared.kind.Flow.TheVariants as flow
-use Rattle.teco_model.specs.declared.kind.Kind.{Kind}
 use Rattle.teco_model.specs.declared.kind.Kind.TheVariants as kind
-use Rattle.teco_model.specs.Element.{Element}
-use Rattle.teco_model.specs.State.{Frame, State}
-use Rattle.teco_law_expansion.specs.Ends.{Descend}
-use Rattle.teco_law_expansion.specs.Iterations.{AreOpenIn, AreOpen}
-use Rattle.teco_law_expansion.specs.Leading.{Place, LeadsByFlow, LeadsByKind, LeadsBy}
-use Rattle.teco_verifier.specs.expansion.Node.{Node}
-use Rattle.teco_verifier.specs.expansion.Position.{Spot, start_of, spot_of, starts_in}
-use Rattle.teco_verifier.specs.table.Behind.{turns_by_flow, turns_by_kind, begins_turn}
-use Rattle.teco_law_tables.specs.Following.{OpenTurn, begun_of, loops_in, open_loops, AreOpened, loops_of}
-use Rattle.teco_law_tables.specs.Moving.{left_by_flow, left_by_kind, left_along}
-use Rattle.teco_verifier.specs.table.Table.{Table}
+use Rattle.teco_law_expansion.specs.Iterations.{AreOpen}
+use Rattle.teco_law_expansion.specs.Leading.{Place, LeadsByFlow}
+use Rattle.teco_verifier.specs.expansion.Position.{spot_of, starts_in}
 
 -- ---- a way that begins no turn leads ahead, and leaves some iterations
 abbrev pub Ahead : ℕ → Place → Place → Type 0

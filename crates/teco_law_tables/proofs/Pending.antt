@@ -1,16 +1,12 @@
 -- A run that begins with an argument's digits ends as one where it is pending already.
-use Rattle.std.proofs.Common.{◌≡◌, ℕ, ◌+◌, ◌<◌, ◌^◌, refl, sym, ap, ◌∙◌, subst, arith, false, Option, Some, None}
+use Rattle.teco_law_tables.proofs.Prelude.{◌≡◌, ℕ, ◌+◌, ◌<◌, ◌^◌, refl, sym, ap, ◌∙◌, subst, arith, false, Option, Some}
+use Rattle.teco_law_tables.proofs.Prelude.{None, option_map_or, REGISTERS, Element, Reaches, Ends, run, World, State}
+use Rattle.teco_law_tables.proofs.Prelude.{Outcome, Next, End, start, AreOutcomesAlike, call_given, start_pending}
+use Rattle.teco_law_tables.proofs.Prelude.{BeginsPending, EndsWithin, is_of_files, changes_files, NoFileCommands}
 use Rattle.std.proofs.Common.{option_map}
-use Rattle.std.specs.Option.{option_map_or}
-use Rattle.teco_base.specs.declared.TheConstants.{REGISTERS}
-use Rattle.teco_model.specs.Element.{Element}
-use Rattle.teco_model.specs.Run.{Reaches, Ends, run}
-use Rattle.teco_model.specs.State.{World, State, Outcome, Next, End, start}
-use Rattle.teco_law_expansion.specs.Alike.{AreAlike, AreOutcomesAlike, StepsAreAlike, RunsAreAlike, ReadingsAreAlike}
+use Rattle.teco_law_expansion.specs.Alike.{AreAlike, StepsAreAlike, RunsAreAlike, ReadingsAreAlike}
 use Rattle.teco_law_expansion.specs.Alike.{kind_of}
-use Rattle.teco_law_expansion.specs.Given.{call_given, start_pending, BeginsPending, NumbersArePending}
-use Rattle.teco_law_tables.specs.Ending.{EndsWithin}
-use Rattle.teco_law_tables.specs.Staying.{is_of_files, changes_files, NoFileCommands}
+use Rattle.teco_law_expansion.specs.Given.{NumbersArePending}
 use Rattle.teco_law_tables.proofs.Walking.{reaches_on, reads_none, none_yet, none_more, none_on}
 
 pub record CallLaws : Type 0 where

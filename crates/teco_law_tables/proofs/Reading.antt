@@ -1,26 +1,16 @@
 -- What a check that passed says at a node.
-use Rattle.std.proofs.Common.{◌≡◌, ℕ, zero, suc, ◌+◌, refl, sym, ap, ◌∙◌, subst, arith, List, [], ◌∷◌, Bool, true}
-use Rattle.std.proofs.Common.{false, is_none, not, ◌||◌, if◌then◌else◌, Option, Some, None, Result, Ok, Err}
-use Rattle.std.proofs.Common.{slice_get}
-use Rattle.std.specs.Prelude.{IsTrue}
-use Rattle.teco_verifier.specs.facts.Facts.{Facts}
+use Rattle.teco_law_tables.proofs.Prelude.{◌≡◌, ℕ, zero, suc, ◌+◌, refl, sym, ap, ◌∙◌, subst, arith, List, [], ◌∷◌}
+use Rattle.teco_law_tables.proofs.Prelude.{Bool, true, false, ◌||◌, if◌then◌else◌, Option, Some, None, Result, Ok, Err}
+use Rattle.teco_law_tables.proofs.Prelude.{slice_get, IsTrue, Facts, Element, end_of, Node, numbered, Polynomial}
+use Rattle.teco_law_tables.proofs.Prelude.{and_both, Refusal, Choice, body_start, Edges, edges_at, say_same, is_entry}
+use Rattle.teco_law_tables.proofs.Prelude.{is_counted, body_stands, is_entered, enters_by, enters_at, closed_behind}
+use Rattle.teco_law_tables.proofs.Prelude.{begins_by_kind, begins_iteration, closed_where, closed_at, check_from}
+use Rattle.teco_law_tables.proofs.Prelude.{check_nodes, check, Table, facts_at, choice_at, changes_in, ArgumentRange}
+use Rattle.std.proofs.Common.{is_none, not}
 use Rattle.teco_model.specs.declared.kind.Flow.TheVariants as flow
 use Rattle.teco_model.specs.declared.kind.Kind.TheVariants as kind
-use Rattle.teco_model.specs.Element.{Element}
-use Rattle.teco_verifier.specs.expansion.Ends.{end_of}
-use Rattle.teco_verifier.specs.expansion.Node.{Node, numbered}
-use Rattle.teco_poly.specs.Polynomial.{Polynomial}
-use Rattle.teco_law_facts.proofs.Covering.{and_both}
-use Rattle.teco_verifier.specs.declared.refusal.Refusal.{Refusal}
-use Rattle.teco_verifier.specs.facts.Bodies.{Choice, body_start, stands}
-use Rattle.teco_verifier.specs.facts.Flows.{Edges, turns}
-use Rattle.teco_verifier.specs.table.Behind.{edges_at}
-use Rattle.teco_verifier.specs.table.Closed.{say_same, is_entry, is_counted, body_stands, is_entered, enters_by}
-use Rattle.teco_verifier.specs.table.Closed.{enters_at, closed_behind, begins_by_kind, begins_iteration, closed_where}
-use Rattle.teco_verifier.specs.table.Closed.{closed_at, check_from, check_nodes, check}
-use Rattle.teco_verifier.specs.table.Table.{Table, facts_at, choice_at}
-use Rattle.teco_verifier.specs.table.Written.{changes_in}
-use Rattle.teco_model.specs.Macros.{ArgumentRange}
+use Rattle.teco_verifier.specs.facts.Bodies.{stands}
+use Rattle.teco_verifier.specs.facts.Flows.{turns}
 
 module _ (nodes : List Node) (table : Table) where
   checked_node : (k j : ℕ) (rest : List Node) (node : Node) → check_from nodes table k rest ≡ Ok tt

@@ -1,38 +1,24 @@
 -- A step of > back to the start of its body begins a further turn.
-use Rattle.std.proofs.Common.{◌≡◌, ℕ, zero, suc, ◌+◌, ◌-◌, ◌≤◌, ◌<◌, refl, sym, ap, ◌∙◌, subst, arith, List, [], ◌∷◌}
-use Rattle.std.proofs.Common.{◌++◌, map, drop, Bool, false, Option, Some, None, is_some, length, true}
-use Rattle.std.specs.Prelude.{IsTrue}
+use Rattle.teco_law_tables.proofs.Prelude.{◌≡◌, ℕ, zero, suc, ◌+◌, ◌-◌, ◌≤◌, ◌<◌, refl, sym, ap, ◌∙◌, subst, arith}
+use Rattle.teco_law_tables.proofs.Prelude.{List, [], ◌∷◌, ◌++◌, map, drop, Bool, false, Option, Some, None, is_some}
+use Rattle.teco_law_tables.proofs.Prelude.{length, true, IsTrue, Back, Loop, Element, Turn, World, State, Descend}
+use Rattle.teco_law_tables.proofs.Prelude.{IsBegin, AreClosed, end_of, LeadsBy, LeadsByKind, place_at, Node, numbered}
+use Rattle.teco_law_tables.proofs.Prelude.{stand_at, position_of, StepWas, ElementWas, Turns, Polynomial, value}
+use Rattle.teco_law_tables.proofs.Prelude.{and_both, covers_are_sound, Changes, Choice, body_start, choice_stands}
+use Rattle.teco_law_tables.proofs.Prelude.{run_behind, Describes, HasFallen, fore_of, Facts, entered, unread_of}
+use Rattle.teco_law_tables.proofs.Prelude.{is_counted, OpenTurn, begun_of, run_at, loops_in, open_loops, AreMore}
+use Rattle.teco_law_tables.proofs.Prelude.{IsOpened, AreOpened, IsDescribed, held_of, loops_of, shown, MovesOn, Table}
+use Rattle.teco_law_tables.proofs.Prelude.{facts_at, choice_at, is_reached, held_at, turning, changes_in, length-map}
 use Rattle.teco_law_turns.specs.Moves as moves
-use Rattle.teco_law_turns.specs.Moves.{Back}
-use Rattle.teco_model.specs.declared.flow.Loop.{Loop}
 use Rattle.teco_model.specs.declared.kind.Flow.TheVariants as flow
 use Rattle.teco_model.specs.declared.kind.Kind.TheVariants as kind
 use Rattle.teco_model.specs.Arguments as model
-use Rattle.teco_model.specs.Element.{Element}
-use Rattle.teco_model.specs.Flow.{Turn}
-use Rattle.teco_model.specs.State.{World, State}
-use Rattle.teco_law_expansion.specs.Ends.{Descend, IsBegin, AreClosed}
-use Rattle.teco_verifier.specs.expansion.Ends.{end_of}
-use Rattle.teco_law_expansion.specs.Leading.{LeadsBy, LeadsByKind, IsBack, place_at}
-use Rattle.teco_verifier.specs.expansion.Node.{Node, numbered, stand_at}
-use Rattle.teco_verifier.specs.expansion.Position.{position_of}
+use Rattle.teco_law_expansion.specs.Leading.{IsBack}
 use Rattle.teco_law_expansion.specs.Turns as went
-use Rattle.teco_law_expansion.specs.Was.{StepWas, ElementWas, Turns}
-use Rattle.teco_poly.specs.Polynomial.{Polynomial, value}
 use Rattle.teco_law_facts.proofs.Bodies.{returns_are_sound, turns_fall}
-use Rattle.teco_law_facts.proofs.Covering.{and_both, covers_are_sound}
-use Rattle.teco_verifier.specs.facts.Bodies.{Changes, Choice, body_start, returns, stands as choice_stands}
-use Rattle.teco_law_facts.specs.Describes.{run_behind, run_in_turn, Describes, AreEach, HasFallen, fore_of}
-use Rattle.teco_verifier.specs.facts.Facts.{Facts}
-use Rattle.teco_law_facts.specs.Laws.{entered, IsCarried, BeginsAgain}
-use Rattle.teco_model.specs.Paging.{unread_of}
-use Rattle.teco_verifier.specs.table.Closed.{is_counted}
-use Rattle.teco_law_tables.specs.Following.{OpenTurn, begun_of, run_at, loops_in, open_loops, AreMore, IsOpened}
-use Rattle.teco_law_tables.specs.Following.{AreOpened, IsDescribed, held_of, loops_of, shown}
-use Rattle.teco_law_tables.specs.Moving.{MovesOn}
-use Rattle.teco_verifier.specs.table.Table.{Table, facts_at, choice_at}
-use Rattle.teco_law_tables.specs.Turning.{is_reached, held_at, turning}
-use Rattle.teco_verifier.specs.table.Written.{changes_in}
+use Rattle.teco_verifier.specs.facts.Bodies.{returns}
+use Rattle.teco_law_facts.specs.Describes.{run_in_turn, AreEach}
+use Rattle.teco_law_facts.specs.Laws.{IsCarried, BeginsAgain}
 use Rattle.teco_law_tables.proofs.Ground.{Ground, Passage}
 use Rattle.teco_law_tables.proofs.Closing.{held_known, held_same}
 use Rattle.teco_law_tables.proofs.Entered.{counted_covered, not_again, world_same}
@@ -40,7 +26,6 @@ use Rattle.teco_law_tables.proofs.Entering.{Entering, enters}
 use Rattle.teco_law_tables.proofs.Going.{Laws, stands_there, leads_there}
 use Rattle.teco_law_tables.proofs.Reading.{Body, body_is}
 use Rattle.teco_law_tables.proofs.Standing.{ending}
-use Rattle.std.proofs.lemmas.List.{length-map}
 
 same_some : {X : Type 0} (o : Option X) (x y : X) → o ≡ Some x → o ≡ Some y → x ≡ y
 same_some o x y h g = let e : Some x ≡ Some y = sym h ∙ g in cc

@@ -1,14 +1,8 @@
 -- What facts describe has the push-down list of the entry below it.
-use Rattle.std.proofs.Common.{◌≡◌, ℕ, zero, List, [], ◌∷◌, Option, Some, None, refl, ap}
-use Rattle.teco_law_facts.specs.Describes.{ArePushed, Run}
-use Rattle.teco_law_tables.specs.Framing.{LiesBelow}
-use Rattle.teco_law_tables.specs.Moving.{run_along, run_by_flow, run_by_kind}
-use Rattle.teco_model.specs.Element.{Element}
-use Rattle.teco_model.specs.Registers.{Pair}
-use Rattle.teco_model.specs.State.{World}
-use Rattle.teco_model.specs.declared.kind.Flow.{Flow}
+use Rattle.teco_law_tables.proofs.Prelude.{◌≡◌, ℕ, zero, List, [], ◌∷◌, Option, Some, None, refl, ap, Run, LiesBelow}
+use Rattle.teco_law_tables.proofs.Prelude.{run_along, run_by_flow, run_by_kind, Element, Pair, World, Flow, Kind}
+use Rattle.teco_law_facts.specs.Describes.{ArePushed}
 use Rattle.teco_model.specs.declared.kind.Flow.TheVariants as flow
-use Rattle.teco_model.specs.declared.kind.Kind.{Kind}
 use Rattle.teco_model.specs.declared.kind.Kind.TheVariants as kind
 use Rattle.teco_verifier.specs.facts.Facts.{Pushed}
 

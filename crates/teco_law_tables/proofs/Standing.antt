@@ -1,26 +1,16 @@
 -- The iterations round the nodes, as one pass over them tells.
-use Rattle.std.proofs.Common.{◌≡◌, ℕ, zero, suc, ◌≤◌, ◌<◌, refl, sym, ap, ◌∙◌, subst, arith, List, [], ◌∷◌, drop}
-use Rattle.std.proofs.Common.{length, true, false, Option, Some, None, Ok}
-use Rattle.std.specs.List.{AllByRecursion}
-use Rattle.std.specs.Option.{option_map_or}
-use Rattle.teco_law_turns.specs.Nests.{Mark, Begin, End, Plain, onward, EndsInnermost, IsPassed}
-use Rattle.teco_model.specs.declared.kind.Flow.{Flow}
+use Rattle.teco_law_tables.proofs.Prelude.{◌≡◌, ℕ, zero, suc, ◌≤◌, ◌<◌, refl, sym, ap, ◌∙◌, subst, arith, List, [], ◌∷◌}
+use Rattle.teco_law_tables.proofs.Prelude.{drop, length, true, false, Option, Some, None, Ok, AllByRecursion}
+use Rattle.teco_law_tables.proofs.Prelude.{option_map_or, Begin, onward, Flow, Kind, Element, is_innermost}
+use Rattle.teco_law_tables.proofs.Prelude.{ends_by_kind, ends_by, ends, end_of, AreClosed, AreOpenIn, IterationsAreOpen}
+use Rattle.teco_law_tables.proofs.Prelude.{Library, AreLinked, Stand, Node, beginning, numbered, Spot, Position}
+use Rattle.teco_law_tables.proofs.Prelude.{end_ways, flow_ways, element_ways, ways_at, Table, begins_by_kind}
+use Rattle.teco_law_tables.proofs.Prelude.{begins_iteration, iterations_of, iterations_at, begins_of, turning}
+use Rattle.teco_law_turns.specs.Nests.{Mark, End, Plain, EndsInnermost, IsPassed}
 use Rattle.teco_model.specs.declared.kind.Flow.TheVariants as flow
-use Rattle.teco_model.specs.declared.kind.Kind.{Kind}
 use Rattle.teco_model.specs.declared.kind.Kind.TheVariants as kind
-use Rattle.teco_model.specs.Element.{Element}
-use Rattle.teco_verifier.specs.expansion.Ends.{is_innermost, ends_by_kind, ends_by, ends, end_of}
-use Rattle.teco_law_expansion.specs.Ends.{AreClosed}
-use Rattle.teco_law_expansion.specs.Iterations.{AreOpenIn, AreOpen, IterationsAreOpen}
-use Rattle.teco_model.specs.Macros.{Library}
-use Rattle.teco_law_expansion.specs.Linked.{AreLinked}
-use Rattle.teco_verifier.specs.expansion.Node.{Stand, Node, beginning, numbered}
+use Rattle.teco_law_expansion.specs.Iterations.{AreOpen}
 use Rattle.teco_verifier.specs.expansion.Order.{stand_behind_kind, stand_behind}
-use Rattle.teco_verifier.specs.expansion.Position.{Spot, Position}
-use Rattle.teco_verifier.specs.expansion.Ways.{end_ways, flow_ways, element_ways, ways_at}
-use Rattle.teco_verifier.specs.table.Table.{Table}
-use Rattle.teco_verifier.specs.table.Closed.{begins_by_kind, begins_iteration}
-use Rattle.teco_law_tables.specs.Turning.{iterations_of, iterations_at, begins_of, turning}
 use Rattle.teco_law_tables.proofs.Lookup.{node_of, same_stand, same_number}
 
 -- ---- what a node is

@@ -1,12 +1,7 @@
 -- A step from where a run is described is a move, or comes to the end.
-use Rattle.std.proofs.Common.{◌≡◌, refl, ap, Bool, true, false, Some}
-use Rattle.teco_law_expansion.specs.Ends.{AreClosed, IterationsEnd, LeftHaveEnded}
-use Rattle.teco_law_expansion.specs.Iterations.{IterationsAreOpen}
-use Rattle.teco_law_expansion.specs.Leading.{WaysLead}
-use Rattle.teco_verifier.specs.expansion.Node.{Stand, Node, numbered, stand_at}
-use Rattle.teco_verifier.specs.expansion.Position.{position_of}
-use Rattle.teco_verifier.specs.table.Behind.{begins_turn}
-use Rattle.teco_law_tables.specs.Moving.{MovesOn, ComesOn, Over, On, StepsMove}
+use Rattle.teco_law_tables.proofs.Prelude.{◌≡◌, refl, ap, Bool, true, false, Some, AreClosed, IterationsEnd}
+use Rattle.teco_law_tables.proofs.Prelude.{LeftHaveEnded, IterationsAreOpen, WaysLead, Stand, Node, numbered, stand_at}
+use Rattle.teco_law_tables.proofs.Prelude.{position_of, begins_turn, MovesOn, ComesOn, Over, On, StepsMove}
 use Rattle.teco_law_tables.proofs.Ground.{Ground, Passage}
 use Rattle.teco_law_tables.proofs.Entered.{Begins, First, Further, begins_by, begins_first}
 use Rattle.teco_law_tables.proofs.Going.{Laws, Target, AtNode, AtEnd, target_is, goes_on}

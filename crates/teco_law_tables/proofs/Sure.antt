@@ -1,27 +1,20 @@
 -- A run that comes to its end does nothing else.
-use Rattle.std.proofs.Common.{◌≡◌, ℕ, zero, suc, ◌+◌, ◌-◌, ◌<◌, ◌≤◌, ◌⊎◌, inl, inr, refl, sym, ap, ◌∙◌, arith, Bool}
-use Rattle.std.proofs.Common.{true, false, Option, Some, None, Result, Ok, Err}
-use Rattle.std.proofs.lemmas.Bool.{cases_order}
-use Rattle.teco_base.specs.declared.code.Code.{Code}
-use Rattle.teco_model.specs.declared.kind.Kind.{Kind}
+use Rattle.teco_law_tables.proofs.Prelude.{◌≡◌, ℕ, zero, suc, ◌+◌, ◌-◌, ◌<◌, ◌≤◌, ◌⊎◌, inl, inr, refl, sym, ap, ◌∙◌}
+use Rattle.teco_law_tables.proofs.Prelude.{arith, Bool, true, false, Option, Some, None, Result, Ok, Err, cases_order}
+use Rattle.teco_law_tables.proofs.Prelude.{Code, Kind, Page, Search, Stop, Element, element_at, Course, Behind, Reply}
+use Rattle.teco_law_tables.proofs.Prelude.{settled, settle, run, go_on, Ends, Reaches, World, Frames, State, Outcome}
+use Rattle.teco_law_tables.proofs.Prelude.{Next, End, Exit, Fail, reply_of, outcome_at, step, EndsWithin, is_of_files}
+use Rattle.teco_law_tables.proofs.Prelude.{changes_files, ReadsNoFileCommand, ComesTo}
 use Rattle.teco_model.specs.declared.kind.Kind.TheVariants as kind
-use Rattle.teco_model.specs.declared.kind.Page.{Page}
 use Rattle.teco_model.specs.declared.kind.Page.TheVariants as page
-use Rattle.teco_model.specs.declared.kind.Search.{Search}
 use Rattle.teco_model.specs.declared.kind.Search.TheVariants as search
 use Rattle.teco_model.specs.declared.stop.HostFault.TheVariants as host_fault
-use Rattle.teco_model.specs.declared.stop.Stop.{Stop}
 use Rattle.teco_model.specs.declared.stop.Stop.TheVariants as stop
-use Rattle.teco_model.specs.Element.{Element, element_at}
 use Rattle.teco_model.specs.Faults.{Breaks, BreaksAt, BreaksFrom}
-use Rattle.teco_model.specs.Going.{Course, Behind, Reply, settled, settle, world_left}
+use Rattle.teco_model.specs.Going.{world_left}
 use Rattle.teco_model.specs.Memory.{grows}
-use Rattle.teco_model.specs.Run.{run, go_on, Ends, IsSure, Reaches, Stops}
-use Rattle.teco_model.specs.State.{World, Frames, State, Outcome, Next, End, Exit, Fail}
-use Rattle.teco_model.specs.Step.{reply_of, outcome_at, step}
-use Rattle.teco_law_tables.specs.Ending.{EndsWithin}
-use Rattle.teco_law_tables.specs.Staying.{is_of_files, changes_files, ReadsNoFileCommand}
-use Rattle.teco_law_tables.specs.Sure.{ComesTo, RunsAreSure, RunsEndOnce}
+use Rattle.teco_model.specs.Run.{IsSure, Stops}
+use Rattle.teco_law_tables.specs.Sure.{RunsAreSure, RunsEndOnce}
 use Rattle.teco_law_tables.proofs.Walking.{same_next}
 
 -- it is no state

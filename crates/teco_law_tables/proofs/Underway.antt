@@ -1,23 +1,9 @@
 -- An element that passes, and what a run is at in the midst of it.
-use Rattle.std.proofs.Common.{◌≡◌, ◌⊎◌, inl, inr, ℕ, suc, ◌≤◌, ◌<◌, sym, ap, ◌∙◌, subst, arith, List, Option, Some}
-use Rattle.std.proofs.Common.{Ok}
-use Rattle.std.proofs.lemmas.Bool.{cases_order}
-use Rattle.teco_model.proofs.Ahead.{element_at-again}
-use Rattle.teco_model.specs.Element.{Element, element_at}
-use Rattle.teco_model.specs.Registers.{Pair}
-use Rattle.teco_model.specs.Run.{Reaches, run}
-use Rattle.teco_model.specs.State.{State, End}
-use Rattle.teco_model.specs.Step.{step}
-use Rattle.teco_model.specs.Macros.{Library}
-use Rattle.teco_law_expansion.specs.Linked.{NodesAreSound}
-use Rattle.teco_verifier.specs.expansion.Node.{Node, stands}
-use Rattle.teco_verifier.specs.expansion.Position.{Position}
-use Rattle.teco_law_facts.specs.SoundSteps.{AreOpen}
-use Rattle.teco_law_tables.specs.Ending.{Passes, ElementsPass}
-use Rattle.teco_law_tables.specs.Following.{OpenTurn, IsDescribed}
-use Rattle.teco_law_tables.specs.Moving.{IsLong}
-use Rattle.teco_verifier.specs.table.Printed.{needs_in}
-use Rattle.teco_verifier.specs.table.Table.{Table}
+use Rattle.teco_law_tables.proofs.Prelude.{◌≡◌, ◌⊎◌, inl, inr, ℕ, suc, ◌≤◌, ◌<◌, sym, ap, ◌∙◌, subst, arith, List}
+use Rattle.teco_law_tables.proofs.Prelude.{Option, Some, Ok, cases_order, element_at-again, Element, element_at, Pair}
+use Rattle.teco_law_tables.proofs.Prelude.{Reaches, run, State, End, step, Library, NodesAreSound, Node, stands}
+use Rattle.teco_law_tables.proofs.Prelude.{Position, AreOpen, Passes, ElementsPass, OpenTurn, IsDescribed, IsLong}
+use Rattle.teco_law_tables.proofs.Prelude.{needs_in, Table}
 use Rattle.teco_law_tables.proofs.Ground.{Ground, Arrival}
 use Rattle.teco_law_tables.proofs.Walking.{same_next}
 

@@ -1,53 +1,29 @@
 -- A macro whose table is closed runs to its end in time.
-use Rattle.std.proofs.Common.{◌≡◌, ◌⊎◌, inl, inr, ℕ, zero, suc, ◌+◌, ◌<◌, ◌≤◌, refl, sym, ap, ◌∙◌, subst, arith, List}
-use Rattle.std.proofs.Common.{[], ◌∷◌, map, Bool, true, false, ◌||◌, Option, Some, None, Result, Ok, Err, IfOk}
-use Rattle.std.proofs.Common.{slice_get, rules}
-use Rattle.std.specs.Prelude.{IsTrue}
-use Rattle.std.specs.Option.{option_map_or}
-use Rattle.std.proofs.lemmas.Int.{ints}
-use Rattle.teco_model.specs.declared.flow.Loop.{Loop}
-use Rattle.teco_model.specs.Element.{Element, element_at}
-use Rattle.teco_model.specs.Files.{Files}
-use Rattle.teco_model.specs.Run.{Reaches, run, go_on}
-use Rattle.teco_model.specs.Searching.{has_colon}
-use Rattle.teco_model.specs.State.{World, Kept, Frame, State, Outcome, Next, End, start, frame_of}
-use Rattle.teco_model.specs.Step.{end_outcome, end_of_text, outcome_at, step}
-use Rattle.teco_law_expansion.specs.Ends.{AreClosed, IterationsEnd}
-use Rattle.teco_model.specs.Macros.{Library, call_of, ArgumentRange, IsAsked, Needs}
-use Rattle.teco_law_expansion.specs.Linked.{AreLinked, NodesAreSound}
-use Rattle.teco_verifier.specs.expansion.Node.{Node, stands, numbered}
-use Rattle.teco_verifier.specs.expansion.Position.{Spot, Position, start_of}
-use Rattle.teco_law_expansion.specs.Run.{GoesTo, MovesFrom, Went, Stayed}
-use Rattle.teco_law_expansion.specs.Steps.{IsLeftAt}
-use Rattle.teco_verifier.specs.expansion.Ways.{return_ways, ways_at}
-use Rattle.teco_poly.proofs.Lawful.{values_of_constants}
-use Rattle.teco_model.specs.Paging.{unread_of}
-use Rattle.teco_law_tables.specs.Moving.{Alone, run_along}
-use Rattle.teco_law_tables.specs.Turning.{value_of, turning}
-use Rattle.teco_poly.specs.Polynomial.{Polynomial, value}
-use Rattle.teco_verifier.specs.declared.refusal.Refusal.{Refusal}
-use Rattle.teco_base.specs.declared.TheConstants.{LIMIT, REGISTERS}
-use Rattle.teco_model.specs.Arguments.{Arguments}
-use Rattle.teco_law_turns.specs.Table.{commands as steps_in}
-use Rattle.teco_law_expansion.specs.Given.{call_given}
-use Rattle.teco_verifier.specs.facts.Argument.{arguments_given}
-use Rattle.teco_law_facts.specs.Describes.{Run, Describes}
-use Rattle.teco_verifier.specs.facts.Transfer.{without_answer, transfer_return}
-use Rattle.teco_verifier.specs.facts.Facts.{Facts}
-use Rattle.teco_verifier.specs.facts.Flows.{Edges}
-use Rattle.teco_verifier.specs.facts.Printed.{no_needs, needs}
-use Rattle.teco_law_facts.specs.SoundSteps.{AreOpen, BeginsAt, ElementsAreNamed}
+use Rattle.teco_law_tables.proofs.Prelude.{◌≡◌, ◌⊎◌, inl, inr, ℕ, zero, suc, ◌+◌, ◌<◌, ◌≤◌, refl, sym, ap, ◌∙◌, subst}
+use Rattle.teco_law_tables.proofs.Prelude.{arith, List, [], ◌∷◌, map, Bool, true, false, ◌||◌, Option, Some, None}
+use Rattle.teco_law_tables.proofs.Prelude.{Result, Ok, Err, slice_get, rules, IsTrue, option_map_or, ints, Loop}
+use Rattle.teco_law_tables.proofs.Prelude.{Element, element_at, Files, Reaches, run, go_on, has_colon, World, Kept}
+use Rattle.teco_law_tables.proofs.Prelude.{Frame, State, Outcome, Next, End, start, frame_of, end_outcome, end_of_text}
+use Rattle.teco_law_tables.proofs.Prelude.{outcome_at, step, AreClosed, IterationsEnd, Library, ArgumentRange, IsAsked}
+use Rattle.teco_law_tables.proofs.Prelude.{Needs, AreLinked, NodesAreSound, Node, stands, numbered, Spot, Position}
+use Rattle.teco_law_tables.proofs.Prelude.{start_of, GoesTo, MovesFrom, Stayed, IsLeftAt, ways_at, values_of_constants}
+use Rattle.teco_law_tables.proofs.Prelude.{unread_of, Alone, run_along, value_of, turning, Polynomial, value, Refusal}
+use Rattle.teco_law_tables.proofs.Prelude.{LIMIT, REGISTERS, Arguments, steps_in, call_given, arguments_given, Run}
+use Rattle.teco_law_tables.proofs.Prelude.{Describes, without_answer, Facts, Edges, no_needs, needs, AreOpen, BeginsAt}
+use Rattle.teco_law_tables.proofs.Prelude.{left_by, placed, edges_behind, edges_at, along, closed_behind, EndsWithin}
+use Rattle.teco_law_tables.proofs.Prelude.{start_given, RunsEndInTime, run_at, steps_before, steps_of, needs_from}
+use Rattle.teco_law_tables.proofs.Prelude.{needs_in, IsPrinted, changes_files, ReadsNoFileCommand, Table, facts_at}
+use Rattle.teco_law_tables.proofs.Prelude.{IsReady}
+use Rattle.std.proofs.Common.{IfOk}
+use Rattle.teco_model.specs.Macros.{call_of}
+use Rattle.teco_law_expansion.specs.Run.{Went}
+use Rattle.teco_verifier.specs.expansion.Ways.{return_ways}
+use Rattle.teco_verifier.specs.facts.Transfer.{transfer_return}
+use Rattle.teco_law_facts.specs.SoundSteps.{ElementsAreNamed}
 use Rattle.teco_law_facts.specs.Wholeness.{AreBytes, AreWholeArguments, IsWholeWorld, IsWholeState, IsWholeOutcome}
 use Rattle.teco_law_facts.specs.Wholeness.{WholeIsKept}
-use Rattle.teco_verifier.specs.table.Behind.{left_by, placed, edges_behind, edges_at, along}
-use Rattle.teco_verifier.specs.table.Closed.{closed_behind}
-use Rattle.teco_law_tables.specs.Ending.{EndsWithin, start_given, RunsEndInTime}
-use Rattle.teco_law_tables.specs.Following.{run_at}
-use Rattle.teco_verifier.specs.table.Printed.{steps_before, steps_of, needs_of, known_needs, needs_from, needs_in}
-use Rattle.teco_verifier.specs.table.Printed.{IsPrinted}
-use Rattle.teco_law_tables.specs.Staying.{changes_files, ReadsNoFileCommand}
-use Rattle.teco_verifier.specs.table.Table.{Table, facts_at}
-use Rattle.teco_law_tables.specs.Verified.{IsReady, RunsAreVerified}
+use Rattle.teco_verifier.specs.table.Printed.{needs_of, known_needs}
+use Rattle.teco_law_tables.specs.Verified.{RunsAreVerified}
 use Rattle.teco_law_tables.proofs.Ground.{Ground, Arrival}
 use Rattle.teco_law_tables.proofs.Completing as completing
 use Rattle.teco_law_tables.proofs.Edging.{edges_fit}

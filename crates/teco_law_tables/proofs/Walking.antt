@@ -1,15 +1,11 @@
 -- Runs that come to a state, move by move.
-use Rattle.std.proofs.Common.{◌≡◌, ◌⊎◌, inl, inr, ℕ, zero, suc, ◌+◌, ◌-◌, ◌≤◌, ◌<◌, refl, sym, ap, ◌∙◌, subst, arith}
-use Rattle.std.proofs.Common.{false, Option, Result, Ok}
-use Rattle.std.proofs.lemmas.Bool.{cases_order}
-use Rattle.teco_law_turns.specs.Moves.{State as Shown, Move, RunTakes}
+use Rattle.teco_law_tables.proofs.Prelude.{◌≡◌, ◌⊎◌, inl, inr, ℕ, zero, suc, ◌+◌, ◌-◌, ◌≤◌, ◌<◌, refl, sym, ap, ◌∙◌}
+use Rattle.teco_law_tables.proofs.Prelude.{subst, arith, false, Option, Result, Ok, cases_order, Shown, Move, Code}
+use Rattle.teco_law_tables.proofs.Prelude.{Element, element_at, Reaches, run, go_on, State, Next, changes_files}
+use Rattle.teco_law_tables.proofs.Prelude.{ReadsNoFileCommand, NoFileCommands}
+use Rattle.teco_law_turns.specs.Moves.{RunTakes}
 use Rattle.teco_law_turns.specs.Table.{Table as Numbers}
 use Rattle.teco_law_turns.specs.Turns.{Lead}
-use Rattle.teco_base.specs.declared.code.Code.{Code}
-use Rattle.teco_model.specs.Element.{Element, element_at}
-use Rattle.teco_model.specs.Run.{Reaches, run, go_on}
-use Rattle.teco_model.specs.State.{State, Next}
-use Rattle.teco_law_tables.specs.Staying.{changes_files, ReadsNoFileCommand, NoFileCommands}
 
 -- some moves lead from one state to another, in so many steps
 abbrev pub Came : Numbers → ℕ → Shown → ℕ → Shown → Type 0

@@ -1,17 +1,10 @@
 -- Tables worked by hand.
-use Rattle.std.proofs.Common.{rules}
-use Rattle.std.specs.Fmt.{digits}
-use Rattle.std.specs.Int.{int_wrap}
-use Rattle.teco_model.specs.Ahead.{reading_at, first_readings, readings}
-use Rattle.teco_model.specs.Element.{blank_len, element_from, element_at}
-use Rattle.teco_model.specs.Letters.{letters}
+use Rattle.teco_law_tables.proofs.Prelude.{rules, digits, int_wrap, readings, blank_len, element_from, element_at}
+use Rattle.teco_law_tables.proofs.Prelude.{letters, read_at, flow_ways, ways_at, next_visit, walk, way_numbers, node_at}
+use Rattle.teco_law_tables.proofs.Prelude.{nodes_at, expansion, transfer, check_nodes, check, derive, commands, size}
+use Rattle.teco_law_tables.proofs.Prelude.{needs_in}
+use Rattle.teco_model.specs.Ahead.{reading_at, first_readings}
 use Rattle.teco_model.specs.Pattern.{part_at, parts_within, parts}
-use Rattle.teco_verifier.specs.expansion.Ways.{read_at, flow_ways, ways_at}
-use Rattle.teco_verifier.specs.expansion.Expansion.{next_visit, walk, way_numbers, node_at, nodes_at, expansion}
-use Rattle.teco_verifier.specs.facts.Transfer.{transfer}
-use Rattle.teco_verifier.specs.table.Closed.{check_nodes, check}
-use Rattle.teco_verifier.specs.table.Deriving.{derive}
-use Rattle.teco_verifier.specs.table.Printed.{commands, size, needs_in}
 use Rattle.teco_law_tables.specs.Rows.{WorkedTables}
 use Rattle.teco_verifier.specs.table.Written.{written_in, written, ends_in}
 

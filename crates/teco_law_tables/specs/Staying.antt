@@ -1,18 +1,12 @@
 -- Files stay as open as they are, through each step whose element is no command of files.
-use Rattle.std.specs.Prelude.{◌≡◌, ℕ, ◌<◌, ◌≤◌, length, Bool, true, false, is_some, Option, Some, None, Ok}
-use Rattle.teco_model.specs.declared.kind.Kind.{Kind}
-use Rattle.teco_model.specs.declared.kind.Kind.TheVariants as kind
+use Rattle.std.specs.Prelude.{◌≡◌, ℕ, ◌<◌, ◌≤◌, length, Bool, false, is_some, Option, Some, None, Ok}
 use Rattle.teco_model.specs.Element.{Element, element_at}
 use Rattle.teco_model.specs.Files.{Files}
+pub use Rattle.teco_model.specs.Names.{is_of_files}
 use Rattle.teco_model.specs.Paging.{unread}
 use Rattle.teco_model.specs.Run.{Reaches}
 use Rattle.teco_model.specs.State.{State, Next}
 use Rattle.teco_model.specs.Step.{step}
-
--- ER, EW, EF, EK, EC and EX alone open and close
-abbrev pub is_of_files : Kind → Bool
-is_of_files (kind.File f) = true
-is_of_files k = false
 
 abbrev pub changes_files : Option Element → Bool
 changes_files None = false

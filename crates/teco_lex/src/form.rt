@@ -7,7 +7,7 @@ use teco_base::bytes::ESC;
 use teco_model::kind::{
     Argument, Call, Command, File, Flow, Insertion, Motion, Query, Search, Stack, Storage, Typing,
 };
-use teco_model::{Head, Kind, OnRegister, Texts};
+use teco_model::{Head, Kind, OnRegister, TextShape};
 
 /// The byte that ends the text of `^A`.
 const CONTROL_A: u8 = 1;
@@ -81,28 +81,28 @@ pub fn kind_on(on: OnRegister, reg: Reg) -> Kind
 }
 
 /// Which texts has a command?
-fn texts_of_command(command: Command) -> Texts
+fn texts_of_command(command: Command) -> TextShape
     ensures { result ≡ form.texts_of_command command }
 {
     match command {
-        Command::Typing(Typing::Message) => Texts::EndedBy(CONTROL_A),
-        Command::Insertion(_) | Command::Storage(Storage::SetText(_)) => Texts::EndedBy(ESC),
-        _ => Texts::NoText,
+        Command::Typing(Typing::Message) => TextShape::EndedBy(CONTROL_A),
+        Command::Insertion(_) | Command::Storage(Storage::SetText(_)) => TextShape::EndedBy(ESC),
+        _ => TextShape::NoText,
     }
 }
 
 /// Which texts follow?
-pub fn texts_of(kind: &Kind) -> Texts
+pub fn texts_of(kind: &Kind) -> TextShape
     ensures { result ≡ form.texts_of kind.now }
 {
     match *kind {
-        Kind::Argument(Argument::Digits) => Texts::Itself,
+        Kind::Argument(Argument::Digits) => TextShape::Itself,
         Kind::Command(command) => texts_of_command(command),
-        Kind::Search(Search::Replace | Search::ReplaceInPages) => Texts::Two,
+        Kind::Search(Search::Replace | Search::ReplaceInPages) => TextShape::Two,
         Kind::Search(_) | Kind::Flow(Flow::GoTo) | Kind::File(File::Read | File::Write) => {
-            Texts::EndedBy(ESC)
+            TextShape::EndedBy(ESC)
         }
-        Kind::Flow(Flow::Comment) => Texts::EndedBy(b'!'),
-        _ => Texts::NoText,
+        Kind::Flow(Flow::Comment) => TextShape::EndedBy(b'!'),
+        _ => TextShape::NoText,
     }
 }

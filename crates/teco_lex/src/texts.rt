@@ -1,7 +1,7 @@
 //! What follows an element's letters: a register's name and texts.
 ghost use Rattle.std.specs.Prelude.{◌≡◌, ◌≤◌, ◌==◌, [], drop, length, position, IfOk};
 ghost use Rattle.teco_model.specs.Element as model;
-ghost use Rattle.teco_model.specs.declared.head.Texts.TheVariants as texts;
+ghost use Rattle.teco_model.specs.declared.head.TextShape.TheVariants as texts;
 ghost use Rattle.teco_lex.specs.Reading.{Gives};
 ghost use Rattle.teco_lex.specs.Texts.{texts_seen};
 
@@ -9,7 +9,7 @@ use crate::form::kind_on;
 use memchr::memchr;
 use teco_base::bytes::ESC;
 use teco_base::{Code, Reg};
-use teco_model::{Head, Kind, Texts};
+use teco_model::{Head, Kind, TextShape};
 
 /// The texts of an element, and what stands behind them.
 #[derive(Clone, Copy)]
@@ -90,7 +90,7 @@ fn two_texts(at: bool, bytes: &[u8]) -> Result<TextsRead<'_>, Code>
 
 /// The texts of an element whose own bytes are known.
 pub fn texts<'a>(
-    shape: Texts,
+    shape: TextShape,
     at: bool,
     own: &'a [u8],
     bytes: &'a [u8],
@@ -99,14 +99,14 @@ pub fn texts<'a>(
     ensures within { IfOk result (λ x. length x.rest.now ≤ length bytes.now) }
 {
     match shape {
-        Texts::Itself => Ok(TextsRead {
+        TextShape::Itself => Ok(TextsRead {
             text: own,
             second: &[],
             rest: bytes,
         }),
-        Texts::EndedBy(byte) => one_text(at, byte, bytes),
-        Texts::Two => two_texts(at, bytes),
-        Texts::NoText => Ok(TextsRead {
+        TextShape::EndedBy(byte) => one_text(at, byte, bytes),
+        TextShape::Two => two_texts(at, bytes),
+        TextShape::NoText => Ok(TextsRead {
             text: &[],
             second: &[],
             rest: bytes,

@@ -1,7 +1,7 @@
 -- The text of a ^U stands in the file, before the byte that ends it.
 use Rattle.std.proofs.Common.{◌≡◌, ℕ, ◌-◌, ◌<◌, ◌≤◌, List, length, Some, refl, sym, arith}
 use Rattle.teco_base.specs.declared.bytes.TheConstants.{ESC}
-use Rattle.teco_model.specs.declared.head.Texts.TheVariants.{EndedBy}
+use Rattle.teco_model.specs.declared.head.TextShape.TheVariants.{EndedBy}
 use Rattle.teco_model.specs.declared.kind.Kind.{Kind}
 use Rattle.teco_model.specs.declared.kind.Kind.TheVariants as kind
 use Rattle.teco_model.specs.declared.kind.Command.TheVariants as command

@@ -1,4 +1,4 @@
-// Why no library is read.
+//! Why no library is read.
 ghost use Rattle.std.specs.Prelude.{◌≡◌};
 ghost use Rattle.teco_library.specs.declared.fault.LibraryFault.TheVariants.{Memory};
 

@@ -1,21 +1,18 @@
 -- Why tables bound the differences of symbols.
-use Rattle.std.proofs.Common.{Bool, true, false, eqb, ◌≡◌, ◌≢◌, ℕ, ◌+◌, ◌*◌, ◌/◌, ◌%◌, ◌^◌, ◌<◌, ◌≤◌, ◌⊎◌}
-use Rattle.std.proofs.Common.{inl, inr, ltb, ℤ, pos, negsuc, neg_ℤ, ◌+ℤ◌, ◌-ℤ◌, ◌*ℤ◌, ◌≤ℤ◌, List, [], ◌∷◌, ◌++◌}
-use Rattle.std.proofs.Common.{Option, Some, None, is_none, IfSome, length, drop, get_or, set, add-one, length-append}
-use Rattle.std.proofs.Common.{sym, ap, subst, ◌∙◌, refl, arith}
-use Rattle.std.proofs.lemmas.Int.{ints}
+use Rattle.teco_linear.proofs.Prelude.{Bool, true, false, ◌≡◌, ℕ, ◌+◌, ◌*◌, ◌^◌, ◌<◌, ◌≤◌, ltb, ℤ, pos, negsuc, neg_ℤ}
+use Rattle.teco_linear.proofs.Prelude.{◌+ℤ◌, ◌-ℤ◌, ◌*ℤ◌, ◌≤ℤ◌, List, [], ◌∷◌, ◌++◌, Option, Some, None, IfSome, length}
+use Rattle.teco_linear.proofs.Prelude.{drop, get_or, sym, ap, subst, ◌∙◌, refl, arith, ints, ltb-true, ltb-false}
+use Rattle.teco_linear.proofs.Prelude.{get_or_past, *ℤ_comm, pow-zero, Term, Valuation, symbol_value, term_value, value}
+use Rattle.teco_linear.proofs.Prelude.{number_of, number_at, AllHold}
+use Rattle.std.proofs.Common.{eqb, ◌≢◌, ◌/◌, ◌%◌, ◌⊎◌}
+use Rattle.std.proofs.Common.{inl, inr}
+use Rattle.std.proofs.Common.{is_none, set, add-one, length-append}
 use Rattle.std.proofs.lemmas.Nat.{div-mul-add, mod-mul-add}
-use Rattle.std.proofs.lemmas.Bool.{ltb-true, ltb-false}
 use Rattle.std.proofs.lemmas.List.{get_or-set_same, get_or-set_other, set_past, get_or_push, get_or_append_left}
-use Rattle.std.proofs.lemmas.List.{get_or_past}
-use Rattle.std.proofs.Math.IntN.{*ℤ_comm}
-use Rattle.std.proofs.Math.Nat.{pow-zero}
 use Rattle.teco_linear.proofs.Integers.{neg-*ℤ, one-*ℤ}
 use Rattle.teco_linear.proofs.Loops.{term_at, value-drop, value-drop_all}
-use Rattle.teco_linear.specs.declared.term.Term.{Term}
 use Rattle.teco_linear.specs.declared.difference.Difference.{Difference}
-use Rattle.teco_linear.specs.Form.{Valuation, symbol_value, term_value, value}
-use Rattle.teco_linear.specs.DifferenceBounds.{number_of, slack, place_of, number_at, IsWithin, AllHold}
+use Rattle.teco_linear.specs.DifferenceBounds.{slack, place_of, IsWithin}
 
 -- a term without N is its coefficient times its symbol
 term_value-plain : (t : Term) (n : ℕ) (v : Valuation) → t.power ≡ 0

@@ -1,10 +1,9 @@
 -- Laws of whole numbers.
-use Rattle.std.proofs.Common.{◌≡◌, ℕ, ◌*◌, ◌^◌, ℤ, pos, negsuc, neg_ℤ, ◌+ℤ◌, ◌*ℤ◌, ◌≤ℤ◌}
-use Rattle.std.proofs.Common.{sym, ap, ◌∙◌, arith, to_z, of_z}
+use Rattle.teco_linear.proofs.Prelude.{◌≡◌, ℕ, ◌*◌, ◌^◌, ℤ, pos, negsuc, neg_ℤ, ◌+ℤ◌, ◌*ℤ◌, ◌≤ℤ◌, sym, ap, ◌∙◌, arith}
+use Rattle.teco_linear.proofs.Prelude.{ints, *ℤ_comm, zero-*ℤ, pow-zero}
+use Rattle.std.proofs.Common.{to_z, of_z}
 use mir.Syntax.{w128}
-use Rattle.std.proofs.lemmas.Int.{ints}
-use Rattle.std.proofs.Math.IntN.{one, *ℤ_comm, zero-*ℤ, *ℤ-one}
-use Rattle.std.proofs.Math.Nat.{pow-zero}
+use Rattle.std.proofs.Math.IntN.{one, *ℤ-one}
 use borrow.Author.Differences.{up, down, same_in, product_is, sum_is_lem}
 
 -- a number as it is passed to a call

@@ -1,23 +1,20 @@
 -- What the loop over the multipliers keeps, and why a harmless rest shows that the target holds.
-use Rattle.std.proofs.Common.{Bool, true, false, ◌≡◌, ℕ, suc, ◌+◌, ◌-◌, ◌^◌, ◌<◌, ◌≤◌, ℤ, pos, negsuc, neg_ℤ}
-use Rattle.std.proofs.Common.{◌+ℤ◌, ◌-ℤ◌, ◌*ℤ◌, ◌≤ℤ◌, List, [], ◌∷◌, Option, Some, None, MatchOption, length, drop}
-use Rattle.std.proofs.Common.{get_or, ltb, ap, ◌∙◌, refl, arith}
-use Rattle.std.proofs.lemmas.Int.{ints}
-use Rattle.std.proofs.lemmas.Bool.{ltb-true, ltb-false}
-use Rattle.std.proofs.lemmas.List.{drop_more, drop_all, get_or_past}
+use Rattle.teco_linear.proofs.Prelude.{Bool, true, false, ◌≡◌, ℕ, ◌+◌, ◌-◌, ◌^◌, ◌<◌, ◌≤◌, ℤ, pos, negsuc, neg_ℤ, ◌+ℤ◌}
+use Rattle.teco_linear.proofs.Prelude.{◌-ℤ◌, ◌*ℤ◌, ◌≤ℤ◌, List, [], ◌∷◌, Option, Some, None, length, drop, get_or, ltb}
+use Rattle.teco_linear.proofs.Prelude.{ap, ◌∙◌, refl, arith, ints, ltb-true, ltb-false, drop_more, drop_all}
+use Rattle.teco_linear.proofs.Prelude.{get_or_past, zero-*ℤ, All, Term, Scale, Valuation, symbol_value, term_value}
+use Rattle.teco_linear.proofs.Prelude.{scale_value, value, Holds}
+use Rattle.std.proofs.Common.{suc}
+use Rattle.std.proofs.Common.{MatchOption}
 use Rattle.std.proofs.lemmas.List.Elements.{All-head, All-tail}
-use Rattle.std.proofs.Math.IntN.{zero-*ℤ}
 use Rattle.std.proofs.Math.Nat.{mul-le-mul_left}
-use Rattle.std.specs.List.{All}
 use Rattle.std.specs.Prelude.{IsTrue, ◌↔◌}
 use Rattle.std.specs.Bool.{OnTrue}
 use borrow.Author.Differences.{product_is}
 use Rattle.teco_linear.proofs.Integers.{neg-*ℤ, not_negative_times, times_power_0, *ℤ-1}
-use Rattle.teco_linear.specs.declared.term.Term.{Term}
-use Rattle.teco_linear.specs.declared.term.Scale.{Scale}
 use Rattle.teco_linear.specs.declared.implied.Multiplier.{Multiplier}
-use Rattle.teco_linear.specs.Form.{Valuation, symbol_value, term_value, scale_value, value, IsHarmless}
-use Rattle.teco_linear.specs.Implied.{Holds, Implies, taken, multiplier_value, IsRest}
+use Rattle.teco_linear.specs.Form.{IsHarmless}
+use Rattle.teco_linear.specs.Implied.{Implies, taken, multiplier_value, IsRest}
 
 -- what a divisor makes of a target: the divisor less 1, and the divisor times the target
 abbrev pub rounded : ℕ → List Term → ℕ → Valuation → ℤ

@@ -1,3 +1,4 @@
+mod Prelude
 pub mod Integers
 pub mod Values
 pub mod Loops

@@ -1,13 +1,11 @@
 -- What the loops over terms keep.
-use Rattle.std.proofs.Common.{◌≡◌, ℕ, ◌+◌, ◌<◌, ◌≤◌, pos, ◌+ℤ◌, ◌*ℤ◌, List, [], None, length, ◌-◌, drop, take}
-use Rattle.std.proofs.Common.{get_or, ap, ◌∙◌, arith}
-use Rattle.std.proofs.lemmas.Int.{ints}
-use Rattle.std.proofs.lemmas.List.{drop_more, drop_all, take_rest}
+use Rattle.teco_linear.proofs.Prelude.{◌≡◌, ℕ, ◌+◌, ◌<◌, ◌≤◌, pos, ◌+ℤ◌, ◌*ℤ◌, List, [], None, length, ◌-◌, drop}
+use Rattle.teco_linear.proofs.Prelude.{get_or, ap, ◌∙◌, arith, ints, drop_more, drop_all, Term, Scale, Valuation}
+use Rattle.teco_linear.proofs.Prelude.{term_value, scale_value, value}
+use Rattle.std.proofs.Common.{take}
+use Rattle.std.proofs.lemmas.List.{take_rest}
 use Rattle.std.proofs.Math.IntN.{*ℤ-zero}
 use Rattle.teco_linear.proofs.Integers.{*ℤ-+ℤ}
-use Rattle.teco_linear.specs.declared.term.Term.{Term}
-use Rattle.teco_linear.specs.declared.term.Scale.{Scale}
-use Rattle.teco_linear.specs.Form.{Valuation, term_value, scale_value, value}
 
 -- the terms before a place are multiplied: what is made and the rest, multiplied, are the whole
 pub record IsScaled (terms : List Term) (s : Scale) (i : ℕ) (made : List Term) : Type 0 where

@@ -1,12 +1,10 @@
 -- What the loop that puts forms in place of symbols keeps.
-use Rattle.std.proofs.Common.{◌≡◌, ℕ, ◌+◌, ◌^◌, ◌<◌, ◌≤◌, pos, ◌+ℤ◌, ◌*ℤ◌, List, [], Option, Some, None}
-use Rattle.std.proofs.Common.{length, drop, ap, ◌∙◌, refl, arith}
-use Rattle.std.proofs.lemmas.Int.{ints}
+use Rattle.teco_linear.proofs.Prelude.{◌≡◌, ℕ, ◌+◌, ◌^◌, ◌<◌, ◌≤◌, pos, ◌+ℤ◌, ◌*ℤ◌, List, [], Option, Some, None}
+use Rattle.teco_linear.proofs.Prelude.{length, drop, ap, ◌∙◌, refl, arith, ints, Term, Scale, Valuation, symbol_value}
+use Rattle.teco_linear.proofs.Prelude.{term_value, scale_value, value}
 use Rattle.teco_linear.proofs.Integers.{*ℤ_assoc}
 use Rattle.teco_linear.proofs.Loops.{term_at, value-drop, value-drop_all}
-use Rattle.teco_linear.specs.declared.term.Term.{Term}
-use Rattle.teco_linear.specs.declared.term.Scale.{Scale}
-use Rattle.teco_linear.specs.Form.{Valuation, symbol_value, term_value, scale_value, value, values, form_in_place}
+use Rattle.teco_linear.specs.Form.{values, form_in_place}
 
 -- the terms before a place are done: what is made, and the value of the rest, are the whole
 pub record IsSubstituted (terms : List Term) (forms : List (List Term)) (i : ℕ) (made : List Term) : Type 0 where

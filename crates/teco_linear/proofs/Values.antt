@@ -1,13 +1,9 @@
 -- The values of terms and forms.
-use Rattle.std.proofs.Common.{◌≡◌, ℕ, ◌+◌, ◌^◌, ℤ, pos, negsuc, neg_ℤ, ◌+ℤ◌, ◌-ℤ◌, ◌*ℤ◌, List, []}
-use Rattle.std.proofs.Common.{◌∷◌, ◌++◌, Option, sym, ap, ◌∙◌, arith}
-use Rattle.std.proofs.lemmas.Int.{ints}
+use Rattle.teco_linear.proofs.Prelude.{◌≡◌, ℕ, ◌+◌, ◌^◌, ℤ, pos, negsuc, neg_ℤ, ◌+ℤ◌, ◌-ℤ◌, ◌*ℤ◌, List, [], ◌∷◌, ◌++◌}
+use Rattle.teco_linear.proofs.Prelude.{Option, sym, ap, ◌∙◌, arith, ints, zero-*ℤ, Term, Scale, Valuation, symbol_value}
+use Rattle.teco_linear.proofs.Prelude.{term_value, scale_value, value}
 use Rattle.std.proofs.lemmas.Nat.{pow-add}
-use Rattle.std.proofs.Math.IntN.{zero-*ℤ}
 use Rattle.teco_linear.proofs.Integers.{+ℤ-*ℤ, times_power_0, one-*ℤ, neg-*ℤ, factors}
-use Rattle.teco_linear.specs.declared.term.Term.{Term}
-use Rattle.teco_linear.specs.declared.term.Scale.{Scale}
-use Rattle.teco_linear.specs.Form.{Valuation, symbol_value, term_value, scale_value, value}
 
 -- what a term counts besides its coefficient
 abbrev pub unit_value : ℕ → Option ℕ → ℕ → Valuation → ℤ

@@ -9,7 +9,7 @@ ghost use Rattle.teco_linear.specs.DifferenceBounds.{AreBounds, bound_of, number
 use crate::difference::Difference;
 use crate::fault::LinearFault;
 use crate::form::Form;
-use crate::table::{self, Bounds, MAX_SYMBOLS};
+use crate::table::{self, BoundTable, MAX_SYMBOLS};
 use std::alloc::Global;
 use std::marker::Model;
 
@@ -17,7 +17,7 @@ use std::marker::Model;
 #[derive(Debug, Drop)]
 pub struct DifferenceBounds {
     size: usize,
-    table: Bounds,
+    table: BoundTable,
 }
 
 impl Model for DifferenceBounds {

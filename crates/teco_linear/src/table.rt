@@ -11,10 +11,10 @@ use std::alloc::{AllocError, Global};
 pub const MAX_SYMBOLS: usize = 511;
 
 // Bounds in rows.
-pub type Bounds = Vec<Option<i128>>;
+pub type BoundTable = Vec<Option<i128>>;
 
 // The table that bounds only the difference of each symbol and itself.
-pub fn diagonal(size: usize, alloc: Global) -> Result<Bounds, AllocError>
+pub fn diagonal(size: usize, alloc: Global) -> Result<BoundTable, AllocError>
     requires some { 0 < size }
     requires small { size ≤ MAX_SYMBOLS + 1 }
     ensures { IfOk result (λ table. (v : Valuation) → AllHold size table.items v) }
@@ -32,7 +32,7 @@ pub fn diagonal(size: usize, alloc: Global) -> Result<Bounds, AllocError>
 }
 
 // The bound in a row and a column.
-pub fn at(table: &Bounds, size: usize, row: usize, column: usize) -> Option<i128>
+pub fn at(table: &BoundTable, size: usize, row: usize, column: usize) -> Option<i128>
     requires small { size ≤ MAX_SYMBOLS + 1 }
     requires row { row < size }
     requires column { column < size }
@@ -52,7 +52,7 @@ pub fn sum(bound: Option<i128>, number: i128) -> Option<i128>
 }
 
 // Lowers the bound at an index to a number, if it is above it.
-fn lower(table: &mut Bounds, index: usize, number: i128)
+fn lower(table: &mut BoundTable, index: usize, number: i128)
     ensures { table.new.items ≡ table.old.items
         ⊎ table.new.items ≡ slice_set table.old.items index (Some number) }
 {
@@ -67,7 +67,7 @@ fn lower(table: &mut Bounds, index: usize, number: i128)
 
 // Lowers the bounds of a row by way of another one: what the one's symbol is above the other's is at
 // most `most`.
-fn lower_row(table: &mut Bounds, size: usize, row: usize, other: usize, most: i128)
+fn lower_row(table: &mut BoundTable, size: usize, row: usize, other: usize, most: i128)
     requires small { size ≤ MAX_SYMBOLS + 1 }
     requires row { row < size }
     requires other { other < size }
@@ -82,7 +82,7 @@ fn lower_row(table: &mut Bounds, size: usize, row: usize, other: usize, most: i1
 }
 
 // Lowers all bounds by way of one: what the left symbol is above the right one is at most `most`.
-pub fn close(table: &mut Bounds, size: usize, left: usize, right: usize, most: i128)
+pub fn close(table: &mut BoundTable, size: usize, left: usize, right: usize, most: i128)
     requires small { size ≤ MAX_SYMBOLS + 1 }
     requires left { left < size }
     requires right { right < size }

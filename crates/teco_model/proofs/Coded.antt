@@ -1,25 +1,13 @@
--- The codes of reading, of arguments and of search texts.
-use Rattle.std.proofs.Common.{ℕ, zero, suc, ◌+◌, ℤ, pos, negsuc, List, [], ◌∷◌, drop, take, Bool, true, false}
-use Rattle.std.proofs.Common.{if◌then◌else◌, Option, Some, None, Result, Ok, Err}
+-- What a result comes to, and the codes of reading and of search texts.
+use Rattle.teco_model.proofs.Prelude.{ℕ, zero, suc, ◌+◌, List, [], ◌∷◌, drop, take, Bool, true, false, ◌≡◌, refl}
+use Rattle.teco_model.proofs.Prelude.{if◌then◌else◌, Option, Some, None, Result, Ok, Err, Code, ◌>>=◌, Element}
+use Rattle.teco_model.proofs.Prelude.{Registers, IsOfStep, Head, TextShape, Itself, EndedBy, Two, NoText}
 use Rattle.std.specs.Option.{ok_or}
-use Rattle.teco_base.specs.declared.code.Code.{Code}
 use Rattle.teco_base.specs.declared.code.Code.TheVariants as code
-use Rattle.teco_model.specs.Checked.{◌>>=◌}
-use Rattle.teco_model.specs.Arguments as arguments
-use Rattle.teco_model.specs.Arguments.{Arguments}
 use Rattle.teco_model.specs.Element as element
-use Rattle.teco_model.specs.Element.{Element}
 use Rattle.teco_model.specs.Letters as letters
 use Rattle.teco_model.specs.Pattern as pattern
-use Rattle.teco_model.specs.Registers.{Registers}
-use Rattle.teco_model.specs.laws.StepCodes.{IsOfStep}
-use Rattle.teco_model.specs.declared.arguments.Level.{Level}
-use Rattle.teco_model.specs.declared.arguments.Operator.{Operator}
-use Rattle.teco_model.specs.declared.arguments.Operator.TheVariants.{Plus, Minus, Over}
-use Rattle.teco_model.specs.declared.head.Head.{Head}
 use Rattle.teco_model.specs.declared.head.Head.TheVariants as head
-use Rattle.teco_model.specs.declared.head.Texts.{Texts}
-use Rattle.teco_model.specs.declared.head.Texts.TheVariants.{Itself, EndedBy, Two, NoText}
 use Rattle.teco_model.specs.declared.pattern.Class.{Class}
 
 -- if it is a code, it is one that a step may be
@@ -31,6 +19,26 @@ pub after : {X Y : Type 0} (r : Result X Code) (f : X → Result Y Code) → Cod
     → Coded (r >>= f)
 after (Ok x) f h k = k x
 after (Err c) f h k = h
+
+-- if it is Ok, then Q; if it is a code, it is one that a step may be
+abbrev pub Yields : {X : Type 0} → (X → Type 0) → Result X Code → Type 0
+Yields Q (Ok x) = Q x
+Yields Q (Err c) = IsOfStep c
+
+pub yields_then : {X Y : Type 0} (P : X → Type 0) (Q : Y → Type 0) (r : Result X Code) (f : X → Result Y Code)
+    → Yields P r → ((x : X) → P x → Yields Q (f x)) → Yields Q (r >>= f)
+yields_then P Q (Ok x) f h k = k x h
+yields_then P Q (Err c) f h k = h
+
+pub yields_any : {X Y : Type 0} (Q : Y → Type 0) (r : Result X Code) (f : X → Result Y Code) → Coded r
+    → ((x : X) → Yields Q (f x)) → Yields Q (r >>= f)
+yields_any Q (Ok x) f h k = k x
+yields_any Q (Err c) f h k = h
+
+pub yields_if : {X : Type 0} (Q : X → Type 0) (b : Bool) (x : X) (c : Code) → IsOfStep c → (b ≡ true → Q x)
+    → Yields Q (if b then Ok x else Err c)
+yields_if Q true x c h k = k refl
+yields_if Q false x c h k = h
 
 pub some : {X : Type 0} (o : Option X) (c : Code) → IsOfStep c → Coded (ok_or o c)
 some None c h = h
@@ -76,7 +84,7 @@ text_up_to byte bytes = found _
     found None = tt
     found (Some n) = tt
 
-texts : (t : Texts) (at : Bool) (own bytes : List ℕ) → Coded (element.texts t at own bytes)
+texts : (t : TextShape) (at : Bool) (own bytes : List ℕ) → Coded (element.texts t at own bytes)
 texts Itself at own bytes = tt
 texts (EndedBy byte) at own bytes = search (after, ending, text_up_to)
 texts Two at own bytes = search (after, ending, text_up_to)
@@ -94,68 +102,6 @@ element_at text place = by _ _ (element_from text _)
         → Coded {X = Option Element} (elim b [ true ↦ Ok None | false ↦ r >>= (λ e. Ok (Some e)) ])
     by true r h = tt
     by false r h = after r _ h (λ e. tt)
-
--- arguments
-result_of : (operator : Operator) (x y : ℤ) → Coded (arguments.result_of operator x y)
-result_of Over x y = some _ code.Div tt
-result_of operator x y = tt
-
-value_with : (v : ℤ) (value : Option ℤ) (operator : Option Operator) → Coded (arguments.value_with v value operator)
-value_with v value None = tt
-value_with v value (Some operator) = result_of operator _ v
-
-pub level_with : (v : ℤ) (level : Level) → Coded (arguments.level_with v level)
-level_with v level = after _ _ (value_with v level.value level.operator) (λ given. tt)
-
-operator_after : (operator : Operator) (pending : Option Operator) → Coded (arguments.operator_after operator pending)
-operator_after operator None = tt
-operator_after operator (Some pending) = tt
-
-pub level_with_operator : (operator : Operator) (level : Level) → Coded (arguments.level_with_operator operator level)
-level_with_operator operator level = search (after, operator_after)
-
-value_at_end : (value : Option ℤ) (operator : Option Operator) → Coded (arguments.value_at_end value operator)
-value_at_end value None = tt
-value_at_end None (Some Minus) = tt
-value_at_end None (Some Plus) = tt
-value_at_end value (Some operator) = tt
-
-first_value : (o : Option ℤ) → Coded (arguments.first_value o)
-first_value None = tt
-first_value (Some (pos n)) = tt
-first_value (Some (negsuc n)) = tt
-
-no_first : (o : Option ℤ) → Coded (arguments.no_first o)
-no_first None = tt
-no_first (Some v) = tt
-
-pub level_after_comma : (level : Level) → Coded (arguments.level_after_comma level)
-level_after_comma level = search (after, no_first, value_at_end, first_value)
-
-pub level_with_pair : (x y : ℤ) (level : Level) → Coded (arguments.level_with_pair x y level)
-level_with_pair x y level = after _ _ (level_with x level)
-    (λ first. after _ _ (level_after_comma first) (λ parted. level_with y parted))
-
-pub with_level : (a : Arguments) (r : Result Level Code) → Coded r → Coded (arguments.with_level a r)
-with_level a r h = after r _ h (λ level. tt)
-
-closed_onto : (level : Level) (outer : List Level) → Coded (arguments.levels_closed_onto level outer)
-closed_onto level [] = tt
-closed_onto level (outside ∷ outer) =
-    after _ _ (after _ _ (no_first level.first)
-    (λ alone. after _ _ (value_at_end level.value level.operator) (λ value. some value code.Arg tt)))
-    (λ value. after _ _ (level_with value outside) (λ given. tt))
-
-pub levels_after_close : (a : Arguments) → Coded (arguments.levels_after_close a)
-levels_after_close a = closed_onto a.level a.outer
-
-arguments_from : (first value : Option ℤ) → Coded (arguments.arguments_from first value)
-arguments_from None value = tt
-arguments_from (Some first) None = tt
-arguments_from (Some first) (Some v) = tt
-
-pub arguments_of : (level : Level) → Coded (arguments.arguments_of level)
-arguments_of level = after _ _ (value_at_end level.value level.operator) (λ value. arguments_from level.first value)
 
 -- search texts
 byte : (text : List ℕ) → Coded (pattern.byte text)

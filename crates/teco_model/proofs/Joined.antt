@@ -1,6 +1,5 @@
 -- Two pieces of bytes are of bytes together.
-use Rattle.std.proofs.Common.{ℕ, List, [], ◌∷◌, ◌++◌}
-use Rattle.teco_model.specs.laws.Whole.{AreBytes}
+use Rattle.teco_model.proofs.Prelude.{ℕ, List, [], ◌∷◌, ◌++◌, AreBytes}
 
 pub bytes_joined : (xs ys : List ℕ) → AreBytes xs → AreBytes ys → AreBytes (xs ++ ys)
 bytes_joined [] ys h i = i

@@ -1,3 +1,4 @@
+mod Prelude
 pub mod Worked
 pub mod WorkedPages
 pub mod WorkedSkips
@@ -12,4 +13,7 @@ pub mod MatchWorked
 pub mod Searches
 mod Joined
 pub mod Coded
-pub mod CodedSteps
+pub mod Bytes
+pub mod Lines
+pub mod Reading
+pub mod upkeep

@@ -1,25 +1,22 @@
 -- Matches and searches: what the definition finds is what the relations say.
-use Rattle.std.proofs.Common.{◌≡◌, ℕ, zero, suc, ◌+◌, ◌-◌, ◌<◌, ◌≤◌, Bool, true, false, cond, List, [], ◌∷◌, length}
-use Rattle.std.proofs.Common.{drop, Option, Some, None, MatchOption, ⊎_elim, ap, sym, subst, refl, ◌∙◌, arith}
+use Rattle.teco_model.proofs.Prelude.{◌≡◌, ℕ, zero, suc, ◌+◌, ◌-◌, ◌<◌, ◌≤◌, Bool, true, false, cond, List, [], ◌∷◌}
+use Rattle.teco_model.proofs.Prelude.{length, drop, Option, Some, None, MatchOption, ap, sym, subst, refl, ◌∙◌, arith}
+use Rattle.teco_model.proofs.Prelude.{slice_get_within, slice_get, HasAt, Matches, InTurn, IsMatch, IsFirstFrom}
+use Rattle.teco_model.proofs.Prelude.{IsLastBefore, IsNth, Code, ◌>>=◌, Pattern, parts, Registers, Item, Span}
+use Rattle.std.proofs.Common.{⊎_elim}
 use Rattle.std.proofs.Math.Nat.{eq-or-lt_of_le, le_antisymm}
 use Rattle.std.proofs.lemmas.Bool.{cases_order}
 use Rattle.std.proofs.lemmas.List.{length-drop}
-use Rattle.std.proofs.lemmas.Option.{slice_get_within}
 use Rattle.std.specs.Option.{option_or}
-use Rattle.std.specs.Prelude.{not, slice_get, option_map, option_and_then, fold, flat_map, Result, Ok, Err}
+use Rattle.std.specs.Prelude.{not, option_map, option_and_then, fold, flat_map, Result, Ok, Err}
 use Rattle.teco_model.specs.Match as model
-use Rattle.teco_model.specs.laws.Matching.{HasAt, IsOne, IsRun, Matches, InTurn, IsMatch, IsMatchAt, IsFirstFrom}
-use Rattle.teco_model.specs.laws.Matching.{IsLastBefore, HasNoneFrom, HasNoneBefore, IsNth, Finds, OneEnd, HereFinds}
+use Rattle.teco_model.specs.laws.Matching.{IsOne, IsRun, IsMatchAt}
+use Rattle.teco_model.specs.laws.Matching.{HasNoneFrom, HasNoneBefore, Finds, OneEnd, HereFinds}
 use Rattle.teco_model.specs.laws.Matching.{FirstFinds, LastFinds, ForwardFinds, BackwardFinds, NoneIsShorter}
-use Rattle.teco_base.specs.declared.code.Code.{Code}
-use Rattle.teco_model.specs.Checked.{◌>>=◌}
-use Rattle.teco_model.specs.Pattern.{Pattern, parts, with_part, items_of}
-use Rattle.teco_model.specs.Registers.{Registers}
+use Rattle.teco_model.specs.Pattern.{with_part, items_of}
 use Rattle.teco_model.specs.declared.pattern.Part.{Part}
 use Rattle.teco_model.specs.declared.pattern.Part.TheVariants as part
-use Rattle.teco_model.specs.declared.pattern.Item.{Item}
 use Rattle.teco_model.specs.declared.pattern.Item.TheVariants as item
-use Rattle.teco_model.specs.declared.pattern.Span.{Span}
 
 -- what stands at a place is at the front of the text from there on
 front_none : (text : List ℕ) (at : ℕ) → drop at text ≡ [] → slice_get text at ≡ None

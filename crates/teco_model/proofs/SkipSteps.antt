@@ -1,12 +1,10 @@
 -- Skips, one reading after another.
-use Rattle.std.proofs.Common.{◌≡◌, ◌≢◌, ℕ, zero, suc, ◌+◌, List, Some, None, refl}
-use Rattle.teco_base.specs.declared.code.Code.{Code}
+use Rattle.teco_model.proofs.Prelude.{◌≡◌, ℕ, zero, suc, ◌+◌, List, Some, None, refl, Code, Skip, Whole, Faulty}
+use Rattle.teco_model.proofs.Prelude.{reading_at, readings, Element}
+use Rattle.std.proofs.Common.{◌≢◌}
 use Rattle.teco_model.specs.declared.skip.Bracket.{Bracket}
 use Rattle.teco_model.specs.declared.skip.Bracket.TheVariants.{Opens, Closes, Stops, Passes}
 use Rattle.teco_model.specs.declared.skip.Pairs.{Pairs}
-use Rattle.teco_model.specs.declared.skip.Skip.{Skip}
-use Rattle.teco_model.specs.Ahead.{Whole, Faulty, reading_at, readings}
-use Rattle.teco_model.specs.Element.{Element}
 use Rattle.teco_model.specs.Skip.{bracket, tag_bracket, inner_behind, pair_end, tag_skip}
 use Rattle.teco_model.proofs.Ahead.{readings-some, readings-none}
 

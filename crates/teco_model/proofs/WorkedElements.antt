@@ -1,5 +1,4 @@
-use Rattle.std.proofs.Common.{rules}
-use Rattle.teco_model.specs.Letters.{letters}
+use Rattle.teco_model.proofs.Prelude.{rules, letters}
 use Rattle.teco_model.specs.rows.Elements.{ElementRows}
 
 pub element_rows : ElementRows

@@ -1,7 +1,5 @@
-use Rattle.std.proofs.Common.{rules}
-use Rattle.teco_model.specs.Ahead.{reading_at, first_readings, readings}
-use Rattle.teco_model.specs.Element.{blank_len, element_from, element_at}
-use Rattle.teco_model.specs.Letters.{letters}
+use Rattle.teco_model.proofs.Prelude.{rules, reading_at, first_readings, readings, blank_len, element_from, element_at}
+use Rattle.teco_model.proofs.Prelude.{letters}
 use Rattle.teco_model.specs.rows.Skips.{SkipRows}
 
 pub skip_rows : SkipRows

@@ -31,6 +31,7 @@ pub mod Search
 pub mod Searching
 pub mod Outside
 pub mod Step
+pub mod Names
 pub mod Memory
 pub mod Faults
 pub mod Run

@@ -2,3 +2,4 @@
 pub mod Whole
 pub mod Matching
 pub mod StepCodes
+pub mod Upkeep

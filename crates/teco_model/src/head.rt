@@ -35,7 +35,7 @@ pub enum OnRegister {
 
 /// Which texts an element has.
 #[derive(Clone, Copy)]
-pub enum Texts {
+pub enum TextShape {
     /// Its own bytes.
     Itself,
     /// One that ends at this byte.

@@ -20,7 +20,7 @@ mod whole;
 pub use arguments::{Level, Operator, Taken};
 pub use element::Element;
 pub use flow::Loop;
-pub use head::{Head, OnRegister, Texts};
+pub use head::{Head, OnRegister, TextShape};
 pub use kind::Kind;
 pub use macros::{ArgumentRange, Needs};
 pub use pattern::{Sought, Span};

@@ -1,37 +1,24 @@
 -- Q and ^X.
-use Rattle.std.proofs.Common.{◌≡◌, ℕ, zero, suc, ◌<◌, ◌≤◌, ℤ, pos, negsuc, ◌≤ℤ◌, List, [], ◌∷◌, length, Bool, true}
-use Rattle.std.proofs.Common.{false, Option, Some, None, is_some, is_none, ◌&&◌, slice_get, unwrap_or}
-use Rattle.std.proofs.Common.{slice_index_or, refl, sym, ap, subst, ◌∙◌, arith, option_map}
-use Rattle.std.proofs.lemmas.Int.{ints}
+use Rattle.teco_outcomes.proofs.Prelude.{◌≡◌, ℕ, zero, suc, ◌<◌, ◌≤◌, ℤ, pos, negsuc, ◌≤ℤ◌, List, [], ◌∷◌, length, Bool}
+use Rattle.teco_outcomes.proofs.Prelude.{true, false, Option, Some, None, slice_get, unwrap_or, slice_index_or, refl}
+use Rattle.teco_outcomes.proofs.Prelude.{sym, ap, subst, ◌∙◌, arith, ints, Term, Valuation, value, level_with}
+use Rattle.teco_outcomes.proofs.Prelude.{value_beside, code_at, pair_of, Kept, after_query_with, Operator, AreBytes}
+use Rattle.teco_outcomes.proofs.Prelude.{IsWhole, Case, Single, Steps, Pointer, Size, Held, LineEnd, LineStart}
+use Rattle.teco_outcomes.proofs.Prelude.{LastLength, CodeHere, CodeBefore, Typed, Outcomes, Places, IsAtLevel, Leads}
+use Rattle.teco_outcomes.proofs.Prelude.{commanded, Describe, Gives, GivesAny, IsOne, Succeeds, with_level, Asks}
+use Rattle.teco_outcomes.proofs.Prelude.{Stands, value_if, Value, Point, IsShape, IsTrueOf, behind, each, single}
+use Rattle.teco_outcomes.proofs.Prelude.{read_at, describes_one, answers, leads, value_there}
+use Rattle.std.proofs.Common.{is_some, is_none, ◌&&◌}
+use Rattle.std.proofs.Common.{option_map}
 use Rattle.std.specs.List.{AllByRecursion}
-use Rattle.teco_linear.specs.declared.term.Term.{Term}
-use Rattle.teco_linear.specs.Form.{Valuation, value}
-use Rattle.teco_model.specs.Arguments.{level_with, standing_value, value_beside}
-use Rattle.teco_model.specs.Character.{code_at}
-use Rattle.teco_model.specs.Registers.{pair_of, empty_pair}
-use Rattle.teco_model.specs.State.{Kept}
-use Rattle.teco_model.specs.Step.{after_query_with, value_for}
+use Rattle.teco_model.specs.Arguments.{standing_value}
+use Rattle.teco_model.specs.Registers.{empty_pair}
+use Rattle.teco_model.specs.Step.{value_for}
 use Rattle.teco_model.specs.Storage.{number_in, text_in}
-use Rattle.teco_model.specs.declared.arguments.Operator.{Operator}
 use Rattle.teco_model.specs.declared.kind.Query.TheVariants.{Number, Mode}
-use Rattle.teco_model.specs.laws.Whole.{AreBytes, IsWhole, IsWholePair}
-use Rattle.teco_rows.specs.declared.case.Case.{Case}
-use Rattle.teco_rows.specs.declared.measure.Single.{Single}
-use Rattle.teco_rows.specs.declared.measure.Single.TheVariants.{Steps, Pointer, Size, Held, LineEnd, LineStart}
-use Rattle.teco_rows.specs.declared.measure.Single.TheVariants.{LastLength, CodeHere, CodeBefore, Typed}
-use Rattle.teco_rows.specs.declared.outcomes.Outcomes.{Outcomes}
+use Rattle.teco_model.specs.laws.Whole.{IsWholePair}
 use Rattle.teco_outcomes.specs.declared.queries.TheConstants.{CHARACTER}
-use Rattle.teco_rows.specs.declared.row.Places.{Places}
-use Rattle.teco_rows.specs.Commands.{IsAtLevel, IsCommanded, Leads, commanded}
-use Rattle.teco_rows.specs.Foretold.{Describe, Gives, GivesAny, IsOne, Succeeds, with_level}
-use Rattle.teco_outcomes.specs.Queries.{Asks, Stands}
-use Rattle.teco_rows.specs.Cases.{value_if}
-use Rattle.teco_rows.specs.declared.measure.Family.TheVariants.{Value}
-use Rattle.teco_rows.specs.States.{Point, IsShape, IsTrueOf, behind, each, single}
-use Rattle.teco_rows.proofs.Commanding.{read_at}
-use Rattle.teco_rows.proofs.Giving.{describes_one}
-use Rattle.teco_rows.proofs.Leading.{answers, leads}
-use Rattle.teco_rows.proofs.Pending.{value_there}
+use Rattle.teco_rows.specs.Commands.{IsCommanded}
 use Rattle.teco_outcomes.proofs.Valuing.{levels_succeed}
 
 -- ---- whether a value stands

@@ -1,64 +1,45 @@
 -- Numbers that are read and written.
-use Rattle.std.proofs.Common.{◌≡◌, ℕ, zero, suc, ◌+◌, ◌-◌, ◌^◌, ◌%◌, ◌<◌, ◌≤◌, inl, inr, ℤ, pos, negsuc}
-use Rattle.std.proofs.Common.{List, [], ◌∷◌, ◌++◌, length, Bool, true, false, Option, Some, None, Result, Ok, Err}
-use Rattle.std.proofs.Common.{if◌then◌else◌}
-use Rattle.std.proofs.Common.{get_or, take, drop, codes, slice_index_or, refl, sym, ap, subst, ◌∙◌, arith}
-use Rattle.std.proofs.Common.{◌⊎◌, length-append, length-drop, length-take, FitsSigned, w32, neg_ℤ, ◌-ℤ◌, ◌≤ℤ◌}
+use Rattle.teco_outcomes.proofs.Prelude.{◌≡◌, ℕ, zero, suc, ◌+◌, ◌<◌, ◌≤◌, inl, inr, ℤ, pos, negsuc, List, [], ◌∷◌}
+use Rattle.teco_outcomes.proofs.Prelude.{◌++◌, length, Bool, true, false, Option, Some, None, Result, Ok, Err}
+use Rattle.teco_outcomes.proofs.Prelude.{if◌then◌else◌, get_or, slice_index_or, refl, sym, ap, subst, ◌∙◌, arith, ◌⊎◌}
+use Rattle.teco_outcomes.proofs.Prelude.{FitsSigned, w32, neg_ℤ, ◌-ℤ◌, ◌≤ℤ◌, nat_tests, ints, All, is_line_end}
+use Rattle.teco_outcomes.proofs.Prelude.{line_place, Code, Term, Valuation, value, level_with, levels_after_answer}
+use Rattle.teco_outcomes.proofs.Prelude.{levels_after_taking, value_beside, ◌>>=◌, Effect, after, Kept}
+use Rattle.teco_outcomes.proofs.Prelude.{after_query_with, Level, Operator, IsWhole, Case, Value, One, Single, Steps}
+use Rattle.teco_outcomes.proofs.Prelude.{Pointer, Size, Held, LineEnd, LineStart, LastLength, CodeHere, CodeBefore}
+use Rattle.teco_outcomes.proofs.Prelude.{Typed, Guarded, Outcomes, Clause, Places, value_if, AreCommanded, Leads}
+use Rattle.teco_outcomes.proofs.Prelude.{commanded, Describe, GivesAny, Succeeds, with_level, Before, changed, Point}
+use Rattle.teco_outcomes.proofs.Prelude.{IsShape, IsTrueOf, Describes, behind, code_here, each, single, read_at, IsEnd}
+use Rattle.teco_outcomes.proofs.Prelude.{above_or, clash, ends, line_begin, line_end, value_there, IsWay, by, Asks}
+use Rattle.std.proofs.Common.{◌-◌, ◌^◌, ◌%◌}
+use Rattle.std.proofs.Common.{take, drop, codes}
+use Rattle.std.proofs.Common.{length-append, length-drop, length-take}
 use Rattle.std.proofs.lemmas.List.Elements.{All-pop, All-push}
-use Rattle.std.proofs.lemmas.Bool.Decides.{nat_tests}
 use Rattle.std.proofs.lemmas.Fmt.{decimal_by_steps, decimal_nonempty, length-decimal-le}
-use Rattle.std.proofs.lemmas.Int.{ints, SFits-int_wrap}
+use Rattle.std.proofs.lemmas.Int.{SFits-int_wrap}
 use Rattle.std.proofs.lemmas.List.{get_or-append_right, get_or-drop, get_or_append_left}
 use Rattle.std.proofs.lemmas.List.Folds.{length-prefix_len}
 use Rattle.std.proofs.lemmas.List.Sums.{prefix_len_passes, prefix_len-le-length}
 use Rattle.std.specs.Fmt as fmt
-use Rattle.std.specs.List.{All, Any, prefix_len}
-use Rattle.teco_base.specs.Bytes.{is_among, is_digit, is_line_end}
-use Rattle.teco_base.specs.Lines.{line_place}
+use Rattle.std.specs.List.{Any, prefix_len}
+use Rattle.teco_base.specs.Bytes.{is_among, is_digit}
 use Rattle.teco_base.specs.NumberText.{decimal}
 use Rattle.teco_base.specs.Text.{text_after_insertion}
 use Rattle.teco_base.specs.declared.TheConstants.{LIMIT}
-use Rattle.teco_base.specs.declared.code.Code.{Code}
-use Rattle.teco_linear.specs.declared.term.Term.{Term}
-use Rattle.teco_linear.specs.Form.{Valuation, value}
 use Rattle.teco_linear.specs.Implied as linear
-use Rattle.teco_model.specs.Arguments.{level_with, levels_after_answer, levels_after_taking, value_beside}
-use Rattle.teco_model.specs.Checked.{◌>>=◌}
 use Rattle.teco_model.specs.Conversion.{is_minus, number_at, number_here, reading, sign_len, signed_value}
-use Rattle.teco_model.specs.Effect.{Effect, no_answer}
-use Rattle.teco_model.specs.Going.{after}
+use Rattle.teco_model.specs.Effect.{no_answer}
 use Rattle.teco_model.specs.Insertion.{insertion_of}
-use Rattle.teco_model.specs.State.{Kept}
-use Rattle.teco_model.specs.Step.{after_query_with}
-use Rattle.teco_model.specs.declared.arguments.Level.{Level}
-use Rattle.teco_model.specs.declared.arguments.Operator.{Operator}
-use Rattle.teco_model.specs.laws.Whole.{IsWhole}
 use Rattle.teco_model.specs.declared.kind.Query.TheVariants.{Conversion}
-use Rattle.teco_rows.specs.declared.case.Case.{Case}
 use Rattle.teco_rows.specs.declared.commands.Way as command
-use Rattle.teco_rows.specs.declared.measure.Family.TheVariants.{Value}
-use Rattle.teco_rows.specs.declared.measure.Measure.TheVariants.{One}
-use Rattle.teco_rows.specs.declared.measure.Single.{Single}
-use Rattle.teco_rows.specs.declared.measure.Single.TheVariants.{Steps, Pointer, Size, Held, LineEnd, LineStart}
-use Rattle.teco_rows.specs.declared.measure.Single.TheVariants.{LastLength, CodeHere, CodeBefore, Typed}
 use Rattle.teco_rows.specs.declared.levels.TheConstants.{NO}
-use Rattle.teco_rows.specs.declared.outcomes.Guarded.{Guarded}
-use Rattle.teco_rows.specs.declared.outcomes.Outcomes.{Outcomes}
-use Rattle.teco_rows.specs.declared.row.Clause.{Clause}
 use Rattle.teco_rows.specs.declared.row.Clause.TheVariants.{Wants}
-use Rattle.teco_rows.specs.declared.row.Places.{Places}
-use Rattle.teco_rows.specs.Cases.{value_if}
-use Rattle.teco_rows.specs.Commands.{AreCommanded, Leads, commanded}
-use Rattle.teco_rows.specs.Foretold.{Describe, GivesAny, IsGuarded, Succeeds, with_level}
-use Rattle.teco_rows.specs.Rows.{AreMet, Before, changed}
-use Rattle.teco_rows.specs.States.{Point, IsShape, IsTrueOf, Describes, behind, code_here, each, single}
+use Rattle.teco_rows.specs.Foretold.{IsGuarded}
+use Rattle.teco_rows.specs.Rows.{AreMet}
 use Rattle.teco_rows.proofs.Characters.{with_codes}
-use Rattle.teco_rows.proofs.Commanding.{read_at}
 use Rattle.teco_rows.proofs.Leading.{leads_singles, performed}
-use Rattle.teco_rows.proofs.Lines.{IsEnd, above_or, clash, ends, line_begin, line_end, one_begin, one_end}
-use Rattle.teco_rows.proofs.Pending.{value_there}
-use Rattle.teco_rows.proofs.Ways.{IsWay, by}
-use Rattle.teco_outcomes.specs.declared.conversions.Span.{Span}
+use Rattle.teco_rows.proofs.Lines.{one_begin, one_end}
+use Rattle.teco_outcomes.specs.declared.conversions.NumberSpan.{NumberSpan}
 use Rattle.teco_outcomes.specs.declared.conversions.TheConstants.{ALL, BELOW, FEW, FURTHER, LAST, LONG, LONGER, MANY}
 use Rattle.teco_outcomes.specs.declared.conversions.TheConstants.{MORE, MOVES, NUMBER, ONE, READS}
 use Rattle.teco_outcomes.specs.declared.conversions.TheConstants.{READS_DIGIT, READS_HIGH, READS_LOW}
@@ -67,7 +48,6 @@ use Rattle.teco_command_outcomes.specs.Changes.{IsChangedFrom, read_given, with_
 use Rattle.teco_outcomes.specs.Conversions.{AddsRoom, FitsIn, HasRoomFor, IsBehindNumber, IsStanding, ReadsNumber}
 use Rattle.teco_outcomes.specs.Conversions.{WritesNumber, kept_behind_number}
 use Rattle.teco_command_outcomes.specs.Deletions.{IsDone}
-use Rattle.teco_outcomes.specs.Queries.{Asks}
 use Rattle.teco_command_outcomes.proofs.Changing.{changes_plainly, changes_singles}
 use Rattle.teco_command_outcomes.proofs.Codes.{grown_here, here_dropped}
 use Rattle.teco_command_outcomes.proofs.Inserting.{grown_end, grown_kept, grown_long, inserted, kept_with}
@@ -357,7 +337,7 @@ module _ (s : Point) (here : Places) (given : ℕ → ℤ) (new : List ℕ) (ins
         singles Typed = refl
 
 -- a number is within bounds, and its text is not longer than they say
-pub record IsWithin (span : Span) (x : ℤ) : Type 0 where
+pub record IsWithin (span : NumberSpan) (x : ℤ) : Type 0 where
   least : span.least ≤ℤ x
   most : x ≤ℤ span.most
   some : 1 ≤ length (decimal x)
@@ -412,7 +392,7 @@ one_of (negsuc m) fits =
     })
 
 -- what is asked and done of a number within bounds
-pub record IsWritten (case : Case) (ways : List command.Way) (form : List Term) (all : Outcomes) (span : Span) :
+pub record IsWritten (case : Case) (ways : List command.Way) (form : List Term) (all : Outcomes) (span : NumberSpan) :
     Type 0 where
   pub room : (n : ℕ) (v : Valuation) (s : Point)
       → IsTrueOf n v case s → All (IsGuarded n v) all.guarded.items → FitsIn span n v form s
@@ -445,7 +425,7 @@ writes_number case ways form here all are spans fits n v s begins = by_span (one
   plain : line_place new (length new) (pos 0) ≡ 0
   plain = one_line new (written_plain x r)
 
-  within : (span : Span) → IsWritten case ways form all span → IsWithin span x
+  within : (span : NumberSpan) → IsWritten case ways form all span → IsWithin span x
       → IsDone n all s (insertion_of (decimal x) s.kept)
   within span is w =
       let room : length s.kept.text + span.long ≤ LIMIT =
@@ -470,7 +450,7 @@ writes_number case ways form here all are spans fits n v s begins = by_span (one
   by_span (is_below w) = within BELOW spans.below w
 
 -- ---- room
-pub has_room : (case : Case) (form : List Term) (span : Span) (guarded : Guarded) (least most : List Term)
+pub has_room : (case : Case) (form : List Term) (span : NumberSpan) (guarded : Guarded) (least most : List Term)
     (others : List (List Term)) → guarded.symbols ≡ case.symbols
     → ((n : ℕ) (v : Valuation) → All (linear.Holds n v) case.constraints.items → All (linear.Holds n v) others)
     → ((n : ℕ) (v : Valuation) → value least n v ≡ value form n v -ℤ span.least)
@@ -489,7 +469,7 @@ has_room case form span guarded least most others symbols copies least_is most_i
     let so : H guarded.wanted = holds v (λ symbol h. refl) (subst (All H) (sym items) asked) in
     omega (arith, ints, so, wanted n v s true_of)
 
-pub adds_room : (case : Case) (form : List Term) (span : Span) (asked all : List Guarded) (guarded : Guarded)
+pub adds_room : (case : Case) (form : List Term) (span : NumberSpan) (asked all : List Guarded) (guarded : Guarded)
     → all ≡ asked ++ guarded ∷ [] → HasRoomFor case form span guarded → AddsRoom case form span asked all
 adds_room case form span asked all guarded items has = record {
   others = λ n v h. (All-pop (IsGuarded n v) all asked (Some guarded) items h).0;

@@ -1,4 +1,5 @@
 -- Lemmas of elements.
+mod Prelude
 pub mod Valuing
 pub mod Asking
 pub mod Stepping

@@ -1,52 +1,40 @@
 -- [ and ].
-use Rattle.std.proofs.Common.{◌≡◌, ℕ, ◌+◌, ◌<◌, ◌≤◌, ◌==◌, ℤ, pos, List, [], ◌∷◌, ◌++◌, length, Bool, true, false}
-use Rattle.std.proofs.Common.{Option, Some}
-use Rattle.std.proofs.Common.{None, Ok, if◌then◌else◌, slice_get, unwrap_or, refl, sym, ap, subst, ◌∙◌}
-use Rattle.std.proofs.Common.{arith}
-use Rattle.std.proofs.lemmas.Bool.Decides.{nat_tests}
-use Rattle.std.proofs.lemmas.Int.{ints}
+use Rattle.teco_outcomes.proofs.Prelude.{◌≡◌, ℕ, ◌+◌, ◌<◌, ◌≤◌, ℤ, pos, List, [], ◌∷◌, ◌++◌, length, Bool, true, false}
+use Rattle.teco_outcomes.proofs.Prelude.{Option, Some, None, Ok, if◌then◌else◌, slice_get, unwrap_or, refl, sym, ap}
+use Rattle.teco_outcomes.proofs.Prelude.{subst, ◌∙◌, arith, nat_tests, ints, Term, Valuation, ◌>>=◌, after, pair_of}
+use Rattle.teco_outcomes.proofs.Prelude.{Kept, after_stack, Operator, IsWhole, Case, Value, One, Steps, Pointer, Size}
+use Rattle.teco_outcomes.proofs.Prelude.{Held, LineEnd, LineStart, LastLength, CodeHere, CodeBefore, Typed, Outcomes}
+use Rattle.teco_outcomes.proofs.Prelude.{Describe, Foretells, IsOne, Succeeds, Before, changed, Describes, Point}
+use Rattle.teco_outcomes.proofs.Prelude.{IsShape, IsTrueOf, behind, describes_one}
+use Rattle.std.proofs.Common.{◌==◌}
 use Rattle.std.specs.Option.{ok_or}
 use Rattle.teco_base.specs.declared.TheConstants.{REGISTERS}
 use Rattle.teco_base.specs.declared.code.Code.TheVariants as code
-use Rattle.teco_linear.specs.declared.term.Term.{Term}
-use Rattle.teco_linear.specs.Form.{Valuation}
-use Rattle.teco_model.specs.Checked.{◌>>=◌}
-use Rattle.teco_model.specs.Going.{after}
-use Rattle.teco_model.specs.Registers.{Pair, pair_of, registers_without_top}
-use Rattle.teco_model.specs.State.{Kept}
-use Rattle.teco_model.specs.Step.{after_stack}
+use Rattle.teco_model.specs.Registers.{Pair, registers_without_top}
 use Rattle.teco_model.specs.Storage.{push}
-use Rattle.teco_model.specs.declared.arguments.Operator.{Operator}
 use Rattle.teco_model.specs.declared.kind.Stack.TheVariants.{Push, Pop}
-use Rattle.teco_model.specs.laws.Whole.{IsWhole}
-use Rattle.teco_rows.specs.declared.case.Case.{Case}
 use Rattle.teco_rows.specs.declared.case.Shape.{Shape}
 use Rattle.teco_rows.specs.declared.measure.Family.TheVariants.{Number, Length, Turns, PushedNumber, PushedLength}
-use Rattle.teco_rows.specs.declared.measure.Family.TheVariants.{First, Value}
+use Rattle.teco_rows.specs.declared.measure.Family.TheVariants.{First}
 use Rattle.teco_rows.specs.declared.measure.Measure.{Measure}
-use Rattle.teco_rows.specs.declared.measure.Measure.TheVariants.{One, Each}
-use Rattle.teco_rows.specs.declared.measure.Single.TheVariants.{Steps, Pointer, Size, Held, LineEnd, LineStart}
-use Rattle.teco_rows.specs.declared.measure.Single.TheVariants.{LastLength, CodeHere, CodeBefore, Typed}
-use Rattle.teco_rows.specs.declared.outcomes.Outcomes.{Outcomes}
+use Rattle.teco_rows.specs.declared.measure.Measure.TheVariants.{Each}
 use Rattle.teco_outcomes.specs.declared.pushes.TheConstants.{PUSHES, POPS}
-use Rattle.teco_rows.specs.declared.row.Step.{Step}
+use Rattle.teco_rows.specs.declared.row.RowStep.{RowStep}
 use Rattle.teco_rows.specs.Cases.{Carries, read_with}
-use Rattle.teco_rows.specs.Foretold.{Describe, Foretells, IsOne, Succeeds}
 use Rattle.teco_outcomes.specs.Pushes.{IsPopped, IsPushed, IsStacked, kept_with_popped}
-use Rattle.teco_rows.specs.Rows.{Before, Holds, changed}
-use Rattle.teco_rows.specs.States.{Describes, Point, IsLast, IsShape, IsTrueOf, WaitsFor, behind, from_end}
+use Rattle.teco_rows.specs.Rows.{Holds}
+use Rattle.teco_rows.specs.States.{IsLast, WaitsFor, from_end}
 use Rattle.teco_rows.specs.States.{length_of, measures_of}
 use Rattle.teco_rows.specs.States.{number_of, operators_of}
 use Rattle.teco_rows.proofs.Closing.{beyond, equal_is}
 use Rattle.teco_rows.proofs.Describing.{described}
-use Rattle.teco_rows.proofs.Giving.{describes_one}
 use Rattle.teco_rows.proofs.Pending.{innermost}
 use Rattle.teco_rows.proofs.Registering.{length_set, number_set, pair_there}
 
 abbrev nothing : ℕ → ℤ
 nothing i = pos 0
 
-pub is_stacked : (case made : Case) (step : Step) (shape : Shape) (pushes : ℕ) (operator : Option Operator)
+pub is_stacked : (case made : Case) (step : RowStep) (shape : Shape) (pushes : ℕ) (operator : Option Operator)
     → WaitsFor operator case → Carries case step made → made.shape ≡ shape
     → IsLast operator case.shape.operators.items shape.operators.items → shape.iterations ≡ case.shape.iterations
     → shape.pushes ≡ pushes → IsStacked case step pushes made
@@ -102,7 +90,7 @@ module _ (get : Option Pair → Option ℤ) (none : get None ≡ None) where
 worth : (x : Option ℤ) (z : ℤ) → x ≡ Some z → unwrap_or x (pos 0) ≡ z
 worth x z e = ap (λ o. unwrap_or o (pos 0)) e
 
-module _ (n : ℕ) (v : Valuation) (s : Point) (step : Step) (register at : ℕ) (whole : IsWhole s.kept)
+module _ (n : ℕ) (v : Valuation) (s : Point) (step : RowStep) (register at : ℕ) (whole : IsWhole s.kept)
     (is : step.here.register ≡ register) (in' : step.here.register < REGISTERS) (push_is : step.here.push ≡ at) where
   abbrev b : Before
   b = read_with step n v (measures_of s) nothing
@@ -199,7 +187,7 @@ module _ (n : ℕ) (v : Valuation) (s : Point) (step : Step) (register at : ℕ)
     becomes (Each First i) = refl
     becomes (Each Value i) = refl
 
-pub is_pushed : (case made : Case) (step : Step) (register pushes : ℕ) → IsStacked case step pushes made
+pub is_pushed : (case made : Case) (step : RowStep) (register pushes : ℕ) → IsStacked case step pushes made
     → step.clauses.now ≡ PUSHES → step.here.register ≡ register → step.here.register < REGISTERS
     → step.here.push ≡ case.shape.pushes → pushes ≡ step.here.push + 1 → IsPushed case register made
 is_pushed case made step register pushes stacked row is in' count more =
@@ -214,7 +202,7 @@ first_of : {X : Type 0} (xs : List X) → 1 ≤ length xs → (x : X) × (rest :
 first_of [] h = absurd (omega arith)
 first_of (x ∷ xs) h = (x, xs, refl)
 
-pub is_popped : (case made : Case) (step : Step) (register newest : ℕ) → IsStacked case step newest made
+pub is_popped : (case made : Case) (step : RowStep) (register newest : ℕ) → IsStacked case step newest made
     → step.clauses.now ≡ POPS → step.here.register ≡ register → step.here.register < REGISTERS
     → step.here.push ≡ newest → newest + 1 ≡ case.shape.pushes → IsPopped case register made
 is_popped case made step register newest stacked row is in' at count =

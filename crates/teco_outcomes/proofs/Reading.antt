@@ -1,48 +1,28 @@
 -- The code of a character.
-use Rattle.std.proofs.Common.{◌≡◌, ℕ, zero, suc, ◌+◌, ◌<◌, ◌≤◌, ◌⊎◌, inl, inr, ℤ, pos, negsuc, ◌+ℤ◌, List, [], ◌∷◌}
-use Rattle.std.proofs.Common.{length}
-use Rattle.std.proofs.Common.{Bool, true, false, Some, None, get_or, slice_index_or, refl, sym, ap, subst, ◌∙◌, arith}
-use Rattle.std.proofs.lemmas.Bool.Decides.{nat_tests}
-use Rattle.std.proofs.lemmas.Int.{ints}
-use Rattle.teco_base.specs.Bytes.{is_line_end}
-use Rattle.teco_base.specs.Lines.{line_place}
-use Rattle.teco_linear.specs.declared.term.Term.{Term}
-use Rattle.teco_linear.specs.Form.{Valuation, value}
-use Rattle.teco_model.specs.Arguments.{levels_after_taking}
-use Rattle.teco_model.specs.Character.{character, code_at}
-use Rattle.teco_model.specs.Checked.{◌>>=◌}
-use Rattle.teco_model.specs.Element.{Element}
+use Rattle.teco_outcomes.proofs.Prelude.{◌≡◌, ℕ, zero, suc, ◌+◌, ◌<◌, ◌≤◌, ◌⊎◌, inl, inr, ℤ, pos, negsuc, ◌+ℤ◌, List}
+use Rattle.teco_outcomes.proofs.Prelude.{[], ◌∷◌, length, Bool, true, false, Some, None, get_or, slice_index_or, refl}
+use Rattle.teco_outcomes.proofs.Prelude.{sym, ap, subst, ◌∙◌, arith, nat_tests, ints, is_line_end, line_place, Term}
+use Rattle.teco_outcomes.proofs.Prelude.{Valuation, value, levels_after_taking, code_at, ◌>>=◌, Element, outcome_at}
+use Rattle.teco_outcomes.proofs.Prelude.{reply_of, step, AreBytes, Case, TakenForms, Single, Steps, Pointer, Size, Held}
+use Rattle.teco_outcomes.proofs.Prelude.{LineEnd, LineStart, LastLength, CodeHere, CodeBefore, Typed, Outcomes, Places}
+use Rattle.teco_outcomes.proofs.Prelude.{value_if, AreCommanded, IsAtLevel, IsTaken, Leads, commanded, Describe, Before}
+use Rattle.teco_outcomes.proofs.Prelude.{Clause, IsTrueOf, Point, single, code_here, read_at, answers, leads, IsEnd}
+use Rattle.teco_outcomes.proofs.Prelude.{above_or, clash, ends, line_begin, line_end, IsWay, by, Goes, Law, StepsTo}
+use Rattle.teco_outcomes.proofs.Prelude.{point_of}
+use Rattle.teco_model.specs.Character.{character}
 use Rattle.teco_model.specs.Going as going
 use Rattle.teco_model.specs.Outside.{append_reply}
-use Rattle.teco_model.specs.Step.{outcome_at, reply_of, step}
 use Rattle.teco_model.specs.declared.kind.Kind.TheVariants as kind
 use Rattle.teco_model.specs.declared.kind.Page.TheVariants.{Append}
-use Rattle.teco_model.specs.laws.Whole.{AreBytes}
-use Rattle.teco_rows.specs.declared.case.Case.{Case}
-use Rattle.teco_rows.specs.declared.commands.Taken.{Taken}
 use Rattle.teco_rows.specs.declared.commands.Way as command
-use Rattle.teco_rows.specs.declared.measure.Single.{Single}
-use Rattle.teco_rows.specs.declared.measure.Single.TheVariants.{Steps, Pointer, Size, Held, LineEnd, LineStart}
-use Rattle.teco_rows.specs.declared.measure.Single.TheVariants.{LastLength, CodeHere, CodeBefore, Typed}
-use Rattle.teco_rows.specs.declared.outcomes.Outcomes.{Outcomes}
-use Rattle.teco_rows.specs.declared.row.Places.{Places}
-use Rattle.teco_rows.specs.Cases.{value_if}
-use Rattle.teco_rows.specs.Commands.{AreCommanded, IsAtLevel, IsTaken, Leads, commanded}
-use Rattle.teco_rows.specs.Foretold.{Describe}
-use Rattle.teco_rows.specs.Rows.{Before}
-use Rattle.teco_rows.specs.declared.row.Clause.{Clause}
-use Rattle.teco_rows.specs.States.{IsTrueOf, Point, single, code_here, code_before}
+use Rattle.teco_rows.specs.States.{code_before}
 use Rattle.teco_rows.proofs.Characters.{before_next}
 use Rattle.teco_rows.proofs.Characters as characters
-use Rattle.teco_rows.proofs.Commanding.{read_at}
-use Rattle.teco_rows.proofs.Leading.{answers, leads}
-use Rattle.teco_rows.proofs.Lines.{IsBegin, IsEnd, above_or, begin_most, clash, end_least, ends, line_begin, line_end}
-use Rattle.teco_rows.proofs.Ways.{IsWay, by}
+use Rattle.teco_rows.proofs.Lines.{IsBegin, begin_most, end_least}
 use Rattle.teco_outcomes.specs.declared.characters.TheConstants.{AT_FIRST, AT_LAST, BEFORE, BEHIND, ENDS_HERE}
 use Rattle.teco_outcomes.specs.declared.characters.TheConstants.{ENDS_THERE, HIGH_HERE}
 use Rattle.teco_outcomes.specs.declared.characters.TheConstants.{HIGH_THERE, INSIDE, LOW_HERE, LOW_THERE}
 use Rattle.teco_outcomes.specs.Characters.{AnswersCode, GivesCharacter}
-use Rattle.teco_flow_outcomes.specs.Law.{Goes, Law, StepsTo, point_of}
 
 -- a character that is there is a byte, and outside there is none
 code_inside : (text : List ℕ) (k : ℕ) → k < length text → AreBytes text
@@ -376,7 +356,7 @@ gives_character case ways form here all level are w0 w1 w2 n v s begins =
       ])
 
 -- nA gives it where it is read
-pub character_law : (e : Element) (case : Case) (taken : Taken) (form : List Term) (all : Outcomes)
+pub character_law : (e : Element) (case : Case) (taken : TakenForms) (form : List Term) (all : Outcomes)
     → e.kind ≡ kind.Page Append → IsTaken case taken → taken.value ≡ Some form → GivesCharacter form case all
     → Law e case all
 unfolding step reply_of

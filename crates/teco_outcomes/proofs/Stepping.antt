@@ -1,15 +1,15 @@
 -- What is foretold of elements is a law of the machine's step.
-use Rattle.std.proofs.Common.{◌≡◌, ℕ, inl, inr, Result, Ok, Err, refl, sym, ap, subst, ◌∙◌}
-use Rattle.teco_base.specs.declared.code.Code.{Code}
-use Rattle.teco_model.specs.Arguments.{Arguments, levels_after_answer, levels_after_taking}
-use Rattle.teco_model.specs.Checked.{◌>>=◌}
-use Rattle.teco_model.specs.Effect.{Effect}
-use Rattle.teco_model.specs.Element.{Element}
+use Rattle.teco_outcomes.proofs.Prelude.{◌≡◌, ℕ, inl, inr, Result, Ok, Err, refl, sym, ap, subst, ◌∙◌, Code}
+use Rattle.teco_outcomes.proofs.Prelude.{levels_after_answer, levels_after_taking, ◌>>=◌, Effect, Element}
+use Rattle.teco_outcomes.proofs.Prelude.{after_command, after_stack, after_value, outcome_at, reply_of, step, Case}
+use Rattle.teco_outcomes.proofs.Prelude.{TakenForms, Outcomes, IsTaken, Performs, commanded, Describe, Foretells}
+use Rattle.teco_outcomes.proofs.Prelude.{Succeeds, Goes, Law, StepsTo, point_of, Asks, Point, behind}
+use Rattle.teco_model.specs.Arguments.{Arguments}
 use Rattle.teco_model.specs.Going as going
 use Rattle.teco_model.specs.Flow.{Turn, turn_of}
 use Rattle.teco_model.specs.State.{Frame, State}
-use Rattle.teco_model.specs.Step.{after_argument, after_command, after_query, after_stack, after_value, execution}
-use Rattle.teco_model.specs.Step.{flow_reply, levels_after, outcome_at, reply_of, step}
+use Rattle.teco_model.specs.Step.{after_argument, after_query, execution}
+use Rattle.teco_model.specs.Step.{flow_reply, levels_after}
 use Rattle.teco_model.specs.declared.kind.Argument.{Argument}
 use Rattle.teco_model.specs.declared.kind.Command.{Command}
 use Rattle.teco_model.specs.declared.kind.Flow.{Flow}
@@ -17,15 +17,11 @@ use Rattle.teco_model.specs.declared.kind.Kind.TheVariants as kind
 use Rattle.teco_model.specs.declared.kind.Query.{Query}
 use Rattle.teco_model.specs.declared.kind.Stack.{Stack}
 use Rattle.teco_model.specs.declared.kind.Value.{Value}
-use Rattle.teco_rows.specs.declared.case.Case.{Case}
-use Rattle.teco_rows.specs.declared.commands.Taken.{Taken}
-use Rattle.teco_rows.specs.declared.outcomes.Outcomes.{Outcomes}
-use Rattle.teco_rows.specs.Commands.{IsTaken, Performs, commanded, taken_by}
-use Rattle.teco_rows.specs.Foretold.{Describe, Foretells, Rearranges, Succeeds}
+use Rattle.teco_rows.specs.Commands.{taken_by}
+use Rattle.teco_rows.specs.Foretold.{Rearranges}
 use Rattle.teco_flow_outcomes.specs.Flow.{IsTurnOf, Turns}
-use Rattle.teco_flow_outcomes.specs.Law.{Goes, Law, StepsTo, loops_in, point_of}
-use Rattle.teco_outcomes.specs.Queries.{Asks}
-use Rattle.teco_rows.specs.States.{Origin, Point, behind}
+use Rattle.teco_flow_outcomes.specs.Law.{loops_in}
+use Rattle.teco_rows.specs.States.{Origin}
 
 -- an element that works on the editor alone goes on behind itself
 pub editor_law : (e : Element) (case : Case) (all : Outcomes) (performed : Point → Result going.After Code)
@@ -79,7 +75,8 @@ command_law e case all c is foretells =
     foretells
 
 -- A command that takes what is foretold, and comes to what is foretold with that.
-pub command_foretold : (e : Element) (case : Case) (taken : Taken) (all : Outcomes) (c : Command) → IsTaken case taken
+pub command_foretold : (e : Element) (case : Case) (taken : TakenForms) (all : Outcomes) (c : Command)
+    → IsTaken case taken
     → Performs (execution c e) taken case all → Foretells (λ s. after_command c e s.kept s.arguments) case all
 command_foretold e case taken all c is performs n v s begins =
     subst (Succeeds (λ done. Describe n all (behind s done)))

@@ -1,24 +1,14 @@
 -- B, Z, . and ^S.
-use Rattle.std.proofs.Common.{◌≡◌, ℕ, ℤ, pos, neg_ℤ, ◌+ℤ◌, ◌-ℤ◌, List, [], length, Result, Ok, Err, refl, sym, ap}
-use Rattle.std.proofs.Common.{subst}
-use Rattle.std.proofs.Common.{◌∙◌, arith, FitsSigned, w32}
-use Rattle.std.proofs.lemmas.Int.{ints, int_wrap_fits}
+use Rattle.teco_outcomes.proofs.Prelude.{◌≡◌, ℕ, ℤ, pos, neg_ℤ, ◌+ℤ◌, ◌-ℤ◌, List, [], length, Result, Ok, Err, refl}
+use Rattle.teco_outcomes.proofs.Prelude.{sym, ap, subst, ◌∙◌, arith, FitsSigned, w32, ints, Code, Term, Valuation}
+use Rattle.teco_outcomes.proofs.Prelude.{value, level_with, ◌>>=◌, after, after_value, Level, IsWhole, Case, Outcomes}
+use Rattle.teco_outcomes.proofs.Prelude.{Point, IsTrueOf, behind, Describe, Foretells, Gives, Succeeds, with_level}
+use Rattle.std.proofs.lemmas.Int.{int_wrap_fits}
 use Rattle.teco_base.specs.Arithmetic.{add}
-use Rattle.teco_base.specs.declared.code.Code.{Code}
-use Rattle.teco_linear.specs.declared.term.Term.{Term}
-use Rattle.teco_linear.specs.Form.{Valuation, value}
-use Rattle.teco_model.specs.Arguments.{level_with, level_with_pair}
-use Rattle.teco_model.specs.Checked.{◌>>=◌}
-use Rattle.teco_model.specs.Going.{after}
-use Rattle.teco_model.specs.Step.{after_value, level_with_value}
-use Rattle.teco_model.specs.declared.arguments.Level.{Level}
+use Rattle.teco_model.specs.Arguments.{level_with_pair}
+use Rattle.teco_model.specs.Step.{level_with_value}
 use Rattle.teco_model.specs.declared.kind.Value.{Value}
 use Rattle.teco_model.specs.declared.kind.Value.TheVariants.{Begin, Size, Pointer, Whole, LastLength, LastText}
-use Rattle.teco_model.specs.laws.Whole.{IsWhole}
-use Rattle.teco_rows.specs.declared.case.Case.{Case}
-use Rattle.teco_rows.specs.declared.outcomes.Outcomes.{Outcomes}
-use Rattle.teco_rows.specs.States.{Point, IsTrueOf, behind}
-use Rattle.teco_rows.specs.Foretold.{Describe, Foretells, Gives, Succeeds, with_level}
 use Rattle.teco_rows.specs.Levels.{GivesPair}
 
 -- a form is the number that a value gives

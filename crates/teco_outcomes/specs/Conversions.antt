@@ -16,7 +16,7 @@ use Rattle.teco_rows.specs.declared.outcomes.Outcomes.{Outcomes}
 use Rattle.teco_rows.specs.Cases.{value_if}
 use Rattle.teco_rows.specs.Foretold.{Begins, Describe, IsGuarded, Succeeds, with_level}
 use Rattle.teco_rows.specs.States.{Point, IsTrueOf, Describes, behind}
-use Rattle.teco_outcomes.specs.declared.conversions.Span.{Span}
+use Rattle.teco_outcomes.specs.declared.conversions.NumberSpan.{NumberSpan}
 use Rattle.teco_command_outcomes.specs.Changes.{with_kept}
 use Rattle.teco_command_outcomes.specs.Deletions.{IsDone}
 
@@ -51,17 +51,17 @@ WritesNumber form case all =
     → Begins n v case all s → IsDone n all s (insertion_of (decimal (value form n v)) s.kept)
 
 -- the buffer has room for a number that is within bounds
-abbrev pub FitsIn : Span → ℕ → Valuation → List Term → Point → Type 0
+abbrev pub FitsIn : NumberSpan → ℕ → Valuation → List Term → Point → Type 0
 FitsIn span n v form s =
     span.least ≤ℤ value form n v → value form n v ≤ℤ span.most → length s.kept.text + span.long ≤ LIMIT
 
 -- it has, if a guarded condition holds
-abbrev pub HasRoomFor : Case → List Term → Span → Guarded → Type 0
+abbrev pub HasRoomFor : Case → List Term → NumberSpan → Guarded → Type 0
 HasRoomFor case form span guarded =
     (n : ℕ) (v : Valuation) (s : Point) → IsTrueOf n v case s → IsGuarded n v guarded → FitsIn span n v form s
 
 -- it has, if these guarded conditions hold, and those others hold too
-pub record AddsRoom (case : Case) (form : List Term) (span : Span) (asked all : List Guarded) : Type 0 where
+pub record AddsRoom (case : Case) (form : List Term) (span : NumberSpan) (asked all : List Guarded) : Type 0 where
   pub others : (n : ℕ) (v : Valuation) → All (IsGuarded n v) all → All (IsGuarded n v) asked
   pub room : (n : ℕ) (v : Valuation) (s : Point)
       → IsTrueOf n v case s → All (IsGuarded n v) all → FitsIn span n v form s

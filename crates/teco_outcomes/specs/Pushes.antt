@@ -8,13 +8,13 @@ use Rattle.teco_model.specs.Storage.{push}
 use Rattle.teco_model.specs.laws.Whole.{IsWhole}
 use Rattle.std.specs.Prelude.{◌+◌, length}
 use Rattle.teco_rows.specs.declared.case.Case.{Case}
-use Rattle.teco_rows.specs.declared.row.Step.{Step}
+use Rattle.teco_rows.specs.declared.row.RowStep.{RowStep}
 use Rattle.teco_rows.specs.Cases.{read_with}
 use Rattle.teco_rows.specs.Rows.{Holds}
 use Rattle.teco_rows.specs.States.{Point, IsTrueOf, Describes, behind, measures_of}
 
 -- Where a row holds from a state to that with this kept and so many pairs pushed, a case describes it.
-pub record IsStacked (case : Case) (step : Step) (pushes : ℕ) (made : Case) : Type 0 where
+pub record IsStacked (case : Case) (step : RowStep) (pushes : ℕ) (made : Case) : Type 0 where
   pub describes : (n : ℕ) (v : Valuation) (s : Point) (kept : Kept)
       → IsTrueOf n v case s → s.origin.pushes + pushes ≡ length kept.registers.stack
       → Holds step.clauses.now (read_with step n v (measures_of s) (λ i. pos 0))

@@ -10,8 +10,8 @@ use teco_command_outcomes::motions::{CODE_BEFORE, CODE_HERE, LINE_END, LINE_STAR
 use teco_linear::Form;
 use teco_model::kind::Page;
 use teco_rows::case::Case;
-use teco_rows::commands::{Taken, Way, commands, take_arguments};
-use teco_rows::fault::Fault;
+use teco_rows::commands::{TakenForms, Way, commands, take_arguments};
+use teco_rows::fault::RowFault;
 use teco_rows::forms::is_number;
 use teco_rows::levels::{NO, VALUE, at_level};
 use teco_rows::outcomes::Outcomes;
@@ -126,7 +126,7 @@ const LOW_THERE: [Clause; 4] = [GIVES_THERE, LOW_FROM_THERE, LOW_TO_THERE, SAME_
 const HIGH_THERE: [Clause; 4] = [GIVES_THERE, HIGH_FROM_THERE, HIGH_TO_THERE, SAME_LINE];
 
 // The code of the character at the pointer is answered, or -1. A line end says where the line ends.
-fn character_here(case: &Case, alloc: Global) -> Result<Outcomes, Fault>
+fn character_here(case: &Case, alloc: Global) -> Result<Outcomes, RowFault>
     ensures { IfOk result (λ all. AnswersCode (pos 0) case.now all) }
 {
     let here = at_level(case)?;
@@ -158,7 +158,7 @@ fn character_here(case: &Case, alloc: Global) -> Result<Outcomes, Fault>
 }
 
 // So is that of the one before it. It says whether the line starts at the pointer.
-fn character_before(case: &Case, alloc: Global) -> Result<Outcomes, Fault>
+fn character_before(case: &Case, alloc: Global) -> Result<Outcomes, RowFault>
     ensures { IfOk result (λ all. AnswersCode (negsuc 0) case.now all) }
 {
     let here = at_level(case)?;
@@ -190,7 +190,7 @@ fn character_before(case: &Case, alloc: Global) -> Result<Outcomes, Fault>
 }
 
 // The code of a character so far from the pointer is answered, or -1.
-fn character_at(case: &Case, by: Form, alloc: Global) -> Result<Outcomes, Fault>
+fn character_at(case: &Case, by: Form, alloc: Global) -> Result<Outcomes, RowFault>
     ensures { IfOk result (λ all. GivesCharacter by case.now all) }
 {
     let here = at_level(case)?;
@@ -218,7 +218,7 @@ fn character_at(case: &Case, by: Form, alloc: Global) -> Result<Outcomes, Fault>
 }
 
 // The code of a character is answered; of those at the pointer and before it more is known.
-fn answer_code(case: &Case, by: Form, alloc: Global) -> Result<Outcomes, Fault>
+fn answer_code(case: &Case, by: Form, alloc: Global) -> Result<Outcomes, RowFault>
     ensures { IfOk result (λ all. GivesCharacter by case.now all) }
 {
     if is_number(&by, 0) {
@@ -232,19 +232,19 @@ fn answer_code(case: &Case, by: Form, alloc: Global) -> Result<Outcomes, Fault>
 
 /// `nA` answers the code of a character. What becomes of pages is told elsewhere, under a premise
 /// on the files that are open.
-pub fn turn_page(case: &Case, page: Page, alloc: Global) -> Result<Outcomes, Fault>
+pub fn turn_page(case: &Case, page: Page, alloc: Global) -> Result<Outcomes, RowFault>
     ensures { IfOk result (λ all. (e : model.Element) → e.kind ≡ kinds.Page page → Law e case.now all) }
 {
     let taken = take_arguments(case, alloc)?;
-    let Taken {
+    let TakenForms {
         first: _first,
         value,
     } = taken;
     match page {
         Page::Append => match value {
             Some(by) => answer_code(case, by, alloc),
-            None => Err(Fault::NotTold),
+            None => Err(RowFault::NotTold),
         },
-        _ => Err(Fault::NotTold),
+        _ => Err(RowFault::NotTold),
     }
 }

@@ -17,7 +17,7 @@ use teco_model::kind::Query;
 use teco_rows::applied::copied_constraints;
 use teco_rows::case::Case;
 use teco_rows::commands::{Way, commands};
-use teco_rows::fault::Fault;
+use teco_rows::fault::RowFault;
 use teco_rows::forms::{single, within_32_bits};
 use teco_rows::levels::{NO, at_level, give_any, pending, waiting};
 use teco_rows::measure::{Family, Single};
@@ -83,37 +83,37 @@ const LAST: Clause = Clause::Sets(Mark::One(Single::LastLength), 0, [(1, LONG), 
 
 // The bounds of a number, and the most characters that one within them has.
 #[derive(Clone, Copy)]
-struct Span {
+struct NumberSpan {
     least: i64,
     most: i64,
     long: usize,
 }
 
-const ONE: Span = Span {
+const ONE: NumberSpan = NumberSpan {
     least: 0,
     most: 9,
     long: 1,
 };
 
-const FEW: Span = Span {
+const FEW: NumberSpan = NumberSpan {
     least: 10,
     most: 999,
     long: 3,
 };
 
-const MANY: Span = Span {
+const MANY: NumberSpan = NumberSpan {
     least: 1_000,
     most: 999_999_999,
     long: 9,
 };
 
-const ALL: Span = Span {
+const ALL: NumberSpan = NumberSpan {
     least: 1_000_000_000,
     most: 2_147_483_647,
     long: 10,
 };
 
-const BELOW: Span = Span {
+const BELOW: NumberSpan = NumberSpan {
     least: -2_147_483_648,
     most: -1,
     long: 11,
@@ -186,7 +186,7 @@ const WRITES_BELOW: [Clause; 10] = [
 ];
 
 // The value that stands, if one does.
-fn standing(case: &Case, alloc: Global) -> Result<Option<Form>, Fault>
+fn standing(case: &Case, alloc: Global) -> Result<Option<Form>, RowFault>
     ensures { IfOk result (λ form. IsStanding case.now form) }
 {
     match waiting(case) {
@@ -196,14 +196,14 @@ fn standing(case: &Case, alloc: Global) -> Result<Option<Form>, Fault>
 }
 
 // The case where the pointer is behind the number that it is at.
-fn behind_number(case: &Case, alloc: Global) -> Result<Case, Fault>
+fn behind_number(case: &Case, alloc: Global) -> Result<Case, RowFault>
     ensures { IfOk result (λ made. IsBehindNumber case.now made) }
 {
     changed(case, &READS, &[], alloc)
 }
 
 // The outcomes of any of two cases.
-fn either(one: Outcomes, other: Outcomes) -> Result<Outcomes, Fault>
+fn either(one: Outcomes, other: Outcomes) -> Result<Outcomes, RowFault>
     ensures { IfOk result (λ all. all.cases.items ≡ one.cases.items ++ other.cases.items) }
 {
     let Outcomes {
@@ -228,7 +228,7 @@ fn either(one: Outcomes, other: Outcomes) -> Result<Outcomes, Fault>
 }
 
 // The number at the pointer is given, where something is known of the character there.
-fn read_known(case: &Case, alloc: Global) -> Result<Outcomes, Fault>
+fn read_known(case: &Case, alloc: Global) -> Result<Outcomes, RowFault>
     ensures { IfOk result (λ all. ReadsNumber case.now all) }
 {
     let digit = changed(case, &READS_DIGIT, &[], alloc)?;
@@ -243,7 +243,7 @@ fn read_known(case: &Case, alloc: Global) -> Result<Outcomes, Fault>
 }
 
 // The number at the pointer, which is not known, is given.
-fn read_number(case: &Case, alloc: Global) -> Result<Outcomes, Fault>
+fn read_number(case: &Case, alloc: Global) -> Result<Outcomes, RowFault>
     ensures { IfOk result (λ all. ReadsNumber case.now all) }
 {
     if is_known(case, Single::CodeHere) {
@@ -254,7 +254,7 @@ fn read_number(case: &Case, alloc: Global) -> Result<Outcomes, Fault>
 }
 
 // The condition that the buffer has room for a number, asked where that is within bounds.
-fn room(case: &Case, number: &Form, span: Span, alloc: Global) -> Result<Guarded, Fault>
+fn room(case: &Case, number: &Form, span: NumberSpan, alloc: Global) -> Result<Guarded, RowFault>
     ensures { IfOk result (λ guarded. HasRoomFor case.now number.now span guarded) }
 {
     let least = Form::constant(i128::from(span.least), alloc)?;
@@ -280,10 +280,10 @@ fn room(case: &Case, number: &Form, span: Span, alloc: Global) -> Result<Guarded
 fn with_room(
     case: &Case,
     number: &Form,
-    span: Span,
+    span: NumberSpan,
     asked: Vec<Guarded>,
     alloc: Global,
-) -> Result<Vec<Guarded>, Fault>
+) -> Result<Vec<Guarded>, RowFault>
     ensures { IfOk result (λ all. AddsRoom case.now number.now span asked.items all.items) }
 {
     let guarded = room(case, number, span, alloc)?;
@@ -293,7 +293,7 @@ fn with_room(
 }
 
 // A number is inserted in decimal, where it is one of 32 bits.
-fn write_number(case: &Case, number: Form, alloc: Global) -> Result<Outcomes, Fault>
+fn write_number(case: &Case, number: Form, alloc: Global) -> Result<Outcomes, RowFault>
     ensures { IfOk result (λ all. WritesNumber number case.now all) }
 {
     let here = at_level(case)?;
@@ -335,7 +335,7 @@ fn write_number(case: &Case, number: Form, alloc: Global) -> Result<Outcomes, Fa
 }
 
 /// `\` gives the number at the pointer and goes behind it, or inserts the value that stands.
-pub fn convert(case: &Case, alloc: Global) -> Result<Outcomes, Fault>
+pub fn convert(case: &Case, alloc: Global) -> Result<Outcomes, RowFault>
     ensures { IfOk result (λ all. (colons : ℕ) → Asks Query.Conversion colons case.now all) }
 {
     let value = standing(case, alloc)?;

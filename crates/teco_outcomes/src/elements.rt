@@ -29,19 +29,19 @@ use teco_flow_outcomes::flow::turn;
 use teco_model::kind::{Command, Motion, Search, Storage};
 use teco_model::{Element, Kind};
 use teco_rows::case::Case;
-use teco_rows::commands::{Taken, take_arguments};
-use teco_rows::fault::Fault;
+use teco_rows::commands::{TakenForms, take_arguments};
+use teco_rows::fault::RowFault;
 use teco_rows::outcomes::Outcomes;
 use teco_search_outcomes::searches::search;
 
 // Whether there is a colon. These elements have one at most.
-fn has_colon(colons: u8) -> Result<bool, Fault>
+fn has_colon(colons: u8) -> Result<bool, RowFault>
     ensures { IfOk result (λ colon. colons ≡ (if colon then 1 else 0)) }
 {
     match colons {
         0 => Ok(false),
         1 => Ok(true),
-        _ => Err(Fault::Argument),
+        _ => Err(RowFault::Argument),
     }
 }
 
@@ -50,9 +50,9 @@ fn move_by(
     case: &Case,
     kind: Motion,
     has_colon: bool,
-    taken: Taken,
+    taken: TakenForms,
     alloc: Global,
-) -> Result<Outcomes, Fault>
+) -> Result<Outcomes, RowFault>
     ensures { IfOk result (λ all. (e : model.Element) → e.colons ≡ (if has_colon then 1 else 0)
         → Performs (motion kind e) taken case.now all) }
 {
@@ -66,16 +66,16 @@ fn move_by(
 fn store_number(
     case: &Case,
     kind: Storage,
-    taken: Taken,
+    taken: TakenForms,
     may_wrap: bool,
     alloc: Global,
-) -> Result<Outcomes, Fault>
+) -> Result<Outcomes, RowFault>
     ensures { IfOk result (λ all. (e : model.Element) → Performs (storage kind e) taken case.now all) }
 {
     match kind {
         Storage::SetNumber(register) => set_number(case, register, taken, alloc),
         Storage::Add(register) => add_number(case, register, taken, may_wrap, alloc),
-        _ => Err(Fault::NotTold),
+        _ => Err(RowFault::NotTold),
     }
 }
 
@@ -84,9 +84,9 @@ fn retrieve(
     case: &Case,
     register: Reg,
     colons: u8,
-    taken: Taken,
+    taken: TakenForms,
     alloc: Global,
-) -> Result<Outcomes, Fault>
+) -> Result<Outcomes, RowFault>
     ensures { IfOk result (λ all. (e : model.Element) → e.colons ≡ colons
         → Performs (storage (Get register) e) taken case.now all) }
 {
@@ -102,16 +102,16 @@ fn store_text(
     case: &Case,
     kind: Storage,
     element: &Element,
-    taken: Taken,
+    taken: TakenForms,
     alloc: Global,
-) -> Result<Outcomes, Fault>
+) -> Result<Outcomes, RowFault>
     ensures { IfOk result (λ all. Performs (storage kind (seen element.now)) taken case.now all) }
 {
     match kind {
         Storage::Get(register) => retrieve(case, register, element.colons, taken, alloc),
         Storage::Copy(register) => copy(case, register, element.colons, taken, alloc),
         Storage::SetText(register) => set_text(case, register, element, taken, alloc),
-        _ => Err(Fault::NotTold),
+        _ => Err(RowFault::NotTold),
     }
 }
 
@@ -122,7 +122,7 @@ fn perform(
     element: &Element,
     may_wrap: bool,
     alloc: Global,
-) -> Result<Outcomes, Fault>
+) -> Result<Outcomes, RowFault>
     ensures { IfOk result (λ all.
         Foretells (λ s. after_command command (seen element.now) s.kept s.arguments) case.now all) }
 {
@@ -151,11 +151,11 @@ fn search_with_colon(
     kind: Search,
     element: &Element,
     alloc: Global,
-) -> Result<Outcomes, Fault>
+) -> Result<Outcomes, RowFault>
     ensures { IfOk result (λ all. element.now.kind ≡ kinds.Search kind → Law (seen element.now) case.now all) }
 {
     if element.colons == 0 {
-        return Err(Fault::NotTold);
+        return Err(RowFault::NotTold);
     }
     search(case, kind, element, true, alloc)
 }
@@ -166,7 +166,7 @@ pub fn outcomes_of(
     element: &Element,
     may_wrap: bool,
     alloc: Global,
-) -> Result<Outcomes, Fault>
+) -> Result<Outcomes, RowFault>
     ensures { IfOk result (λ all. Law (seen element.now) case.now all) }
 {
     match element.kind {
@@ -180,6 +180,6 @@ pub fn outcomes_of(
         Kind::Command(command) => perform(case, command, element, may_wrap, alloc),
         Kind::Search(kind) => search_with_colon(case, kind, element, alloc),
         Kind::Page(page) => turn_page(case, page, alloc),
-        _ => Err(Fault::NotTold),
+        _ => Err(RowFault::NotTold),
     }
 }

@@ -11,11 +11,11 @@ use teco_command_outcomes::storages::NUMBER;
 use teco_model::kind::Stack;
 use teco_rows::applied::applied;
 use teco_rows::case::Case;
-use teco_rows::fault::Fault;
+use teco_rows::fault::RowFault;
 use teco_rows::levels::{NO, STEP, one, waiting, with_operator};
 use teco_rows::measure::Family;
 use teco_rows::outcomes::Outcomes;
-use teco_rows::row::{Clause, Mark, Of, Places, Step};
+use teco_rows::row::{Clause, Mark, Of, Places, RowStep};
 
 pub const LENGTH: Mark = Mark::Here(Family::Length);
 
@@ -40,7 +40,7 @@ const POPS: [Clause; 5] = [
 ];
 
 // The places at hand where an element is about a register and a pair on the list.
-fn at_pair(register: Reg, pair: usize) -> Result<Places, Fault>
+fn at_pair(register: Reg, pair: usize) -> Result<Places, RowFault>
     ensures register { IfOk result (λ here. here.register ≡ register) }
     ensures within { IfOk result (λ here. here.register < REGISTERS) }
     ensures push { IfOk result (λ here. here.push ≡ pair) }
@@ -52,12 +52,12 @@ fn at_pair(register: Reg, pair: usize) -> Result<Places, Fault>
             push,
             level: 0,
         }),
-        Err(_) => Err(Fault::TooMany),
+        Err(_) => Err(RowFault::TooMany),
     }
 }
 
 // The case behind a row, with so many pairs pushed.
-fn with_pushes(case: &Case, step: &Step, pushes: usize, alloc: Global) -> Result<Case, Fault>
+fn with_pushes(case: &Case, step: &RowStep, pushes: usize, alloc: Global) -> Result<Case, RowFault>
     ensures { IfOk result (λ made. IsStacked case.now step.now pushes made) }
 {
     let mut shape = with_operator(&case.shape, waiting(case), alloc)?;
@@ -67,11 +67,11 @@ fn with_pushes(case: &Case, step: &Step, pushes: usize, alloc: Global) -> Result
 }
 
 // The case with one pair more.
-fn pushed(case: &Case, register: Reg, alloc: Global) -> Result<Case, Fault>
+fn pushed(case: &Case, register: Reg, alloc: Global) -> Result<Case, RowFault>
     ensures { IfOk result (λ made. IsPushed case.now register made) }
 {
     let here = at_pair(register, case.shape.pushes)?;
-    let step = Step {
+    let step = RowStep {
         clauses: &PUSHES,
         here,
         given: &[],
@@ -81,14 +81,14 @@ fn pushed(case: &Case, register: Reg, alloc: Global) -> Result<Case, Fault>
 }
 
 // The case with one pair fewer, where one was pushed.
-fn popped(case: &Case, register: Reg, alloc: Global) -> Result<Case, Fault>
+fn popped(case: &Case, register: Reg, alloc: Global) -> Result<Case, RowFault>
     ensures { IfOk result (λ made. IsPopped case.now register made) }
 {
     let Some(newest) = case.shape.pushes.checked_sub(1) else {
-        return Err(Fault::NotTold);
+        return Err(RowFault::NotTold);
     };
     let here = at_pair(register, newest)?;
-    let step = Step {
+    let step = RowStep {
         clauses: &POPS,
         here,
         given: &[],
@@ -98,7 +98,7 @@ fn popped(case: &Case, register: Reg, alloc: Global) -> Result<Case, Fault>
 }
 
 // `[` pushes a pair.
-fn push_pair(case: &Case, register: Reg, alloc: Global) -> Result<Outcomes, Fault>
+fn push_pair(case: &Case, register: Reg, alloc: Global) -> Result<Outcomes, RowFault>
     ensures { IfOk result (λ all.
         Foretells (λ s. after_stack (Stack.Push register) s.kept s.arguments) case.now all) }
 {
@@ -107,7 +107,7 @@ fn push_pair(case: &Case, register: Reg, alloc: Global) -> Result<Outcomes, Faul
 }
 
 // `]` pops one.
-fn pop_pair(case: &Case, register: Reg, alloc: Global) -> Result<Outcomes, Fault>
+fn pop_pair(case: &Case, register: Reg, alloc: Global) -> Result<Outcomes, RowFault>
     ensures { IfOk result (λ all.
         Foretells (λ s. after_stack (Stack.Pop register) s.kept s.arguments) case.now all) }
 {
@@ -116,7 +116,7 @@ fn pop_pair(case: &Case, register: Reg, alloc: Global) -> Result<Outcomes, Fault
 }
 
 /// `[` pushes a pair, and `]` pops one that was pushed since the entry.
-pub fn stack(case: &Case, kind: Stack, alloc: Global) -> Result<Outcomes, Fault>
+pub fn stack(case: &Case, kind: Stack, alloc: Global) -> Result<Outcomes, RowFault>
     ensures { IfOk result (λ all. Foretells (λ s. after_stack kind s.kept s.arguments) case.now all) }
 {
     match kind {

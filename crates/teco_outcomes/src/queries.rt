@@ -10,7 +10,7 @@ use teco_model::Operator;
 use teco_model::kind::Query;
 use teco_rows::case::Case;
 use teco_rows::commands::{Way, command};
-use teco_rows::fault::Fault;
+use teco_rows::fault::RowFault;
 use teco_rows::forms::{length, number};
 use teco_rows::levels::{NO, VALUE, at_level, give, give_any, one, pending, waiting};
 use teco_rows::measure::Family;
@@ -32,7 +32,7 @@ fn is_alone(operator: Option<Operator>, value: &Option<Form>) -> bool
 }
 
 // Whether a value stands.
-fn stands(case: &Case, alloc: Global) -> Result<bool, Fault>
+fn stands(case: &Case, alloc: Global) -> Result<bool, RowFault>
     ensures { IfOk result (λ answer. Stands answer case.now) }
 {
     let value = pending(case, Family::Value, alloc)?;
@@ -40,7 +40,7 @@ fn stands(case: &Case, alloc: Global) -> Result<bool, Fault>
 }
 
 // The code of a character of a register's text is answered.
-fn character(case: &Case, register: Reg, alloc: Global) -> Result<Outcomes, Fault>
+fn character(case: &Case, register: Reg, alloc: Global) -> Result<Outcomes, RowFault>
     requires { Stands true case.now }
     ensures { IfOk result (λ all. Asks (Query.Number register) 0 case.now all) }
 {
@@ -54,7 +54,12 @@ fn character(case: &Case, register: Reg, alloc: Global) -> Result<Outcomes, Faul
 }
 
 // The number of a register is given, or a character of its text.
-fn ask_number(case: &Case, register: Reg, may_wrap: bool, alloc: Global) -> Result<Outcomes, Fault>
+fn ask_number(
+    case: &Case,
+    register: Reg,
+    may_wrap: bool,
+    alloc: Global,
+) -> Result<Outcomes, RowFault>
     ensures { IfOk result (λ all. Asks (Query.Number register) 0 case.now all) }
 {
     if stands(case, alloc)? {
@@ -64,7 +69,7 @@ fn ask_number(case: &Case, register: Reg, may_wrap: bool, alloc: Global) -> Resu
 }
 
 // The search mode is set.
-fn set_mode(case: &Case, alloc: Global) -> Result<Outcomes, Fault>
+fn set_mode(case: &Case, alloc: Global) -> Result<Outcomes, RowFault>
     requires { Stands true case.now }
     ensures { IfOk result (λ all. (colons : ℕ) → Asks Query.Mode colons case.now all) }
 {
@@ -78,7 +83,7 @@ fn set_mode(case: &Case, alloc: Global) -> Result<Outcomes, Fault>
 }
 
 // The search mode, which is not known, is given, or it is set.
-fn ask_mode(case: &Case, alloc: Global) -> Result<Outcomes, Fault>
+fn ask_mode(case: &Case, alloc: Global) -> Result<Outcomes, RowFault>
     ensures { IfOk result (λ all. (colons : ℕ) → Asks Query.Mode colons case.now all) }
 {
     if stands(case, alloc)? {
@@ -95,7 +100,7 @@ pub fn ask(
     colons: u8,
     may_wrap: bool,
     alloc: Global,
-) -> Result<Outcomes, Fault>
+) -> Result<Outcomes, RowFault>
     ensures { IfOk result (λ all. Asks query colons case.now all) }
 {
     match query {

@@ -8,7 +8,7 @@ use teco_flow_outcomes::pairs::give_pair;
 use teco_linear::Form;
 use teco_model::kind::Value;
 use teco_rows::case::Case;
-use teco_rows::fault::Fault;
+use teco_rows::fault::RowFault;
 use teco_rows::forms::single;
 use teco_rows::levels::give;
 use teco_rows::measure::Single;
@@ -20,7 +20,7 @@ pub fn give_value(
     value: Value,
     may_wrap: bool,
     alloc: Global,
-) -> Result<Outcomes, Fault>
+) -> Result<Outcomes, RowFault>
     ensures { IfOk result (λ all. Foretells (λ s. after_value value s.kept s.arguments) case.now all) }
 {
     match value {

@@ -1,18 +1,17 @@
 -- Files of bytes stay so.
-use Rattle.std.proofs.Common.{◌≡◌, ℕ, List, [], ◌∷◌, ◌++◌, Bool, true, false, cond, Option, Some, None, option_map}
-use Rattle.std.proofs.Common.{sym, subst, arith}
-use Rattle.std.specs.Prelude.{IfSome, bytes_eq}
-use Rattle.std.specs.List.{AllByRecursion}
-use Rattle.teco_model.specs.Files.{File, Input, Output, file_named, with_closed, with_file, with_written}
-use Rattle.teco_base.specs.declared.bytes.TheConstants.{FF}
-use Rattle.teco_model.specs.Pages.{Page, written_page}
-use Rattle.teco_model.specs.laws.Whole.{AreBytes, AreWholeFiles}
-use Rattle.teco_pages.specs.Events.{Event, Happened, Happens, IsOfBytes, opened_input, gave, ended, opened_output}
-use Rattle.teco_pages.specs.Events.{wrote, closed, dropped, measured}
-use Rattle.teco_pages.specs.Held.{Held, HoldsBytes, behind_held, files_of, unread_bytes, written_if_any}
+use Rattle.teco_pages.proofs.Prelude.{◌≡◌, ℕ, List, [], ◌∷◌, ◌++◌, Bool, true, false, cond, Option, Some, None}
+use Rattle.teco_pages.proofs.Prelude.{option_map, sym, subst, arith, IfSome, bytes_eq, AllByRecursion, File, Input}
+use Rattle.teco_pages.proofs.Prelude.{Output, file_named, with_closed, with_file, with_written, FF, Page, AreBytes}
+use Rattle.teco_pages.proofs.Prelude.{Event, Happened, IsOfBytes, opened_input, gave, ended, opened_output, wrote}
+use Rattle.teco_pages.proofs.Prelude.{closed, dropped, measured, Held, behind_held, files_of, unread_bytes}
+use Rattle.teco_pages.proofs.Prelude.{written_if_any, HostFiles, AreOfBytes, Becomes, NoneUnread, Reads, Tells}
+use Rattle.teco_pages.proofs.Prelude.{after_writing}
+use Rattle.teco_model.specs.Pages.{written_page}
+use Rattle.teco_model.specs.laws.Whole.{AreWholeFiles}
+use Rattle.teco_pages.specs.Events.{Happens}
+use Rattle.teco_pages.specs.Held.{HoldsBytes}
 use Rattle.teco_pages.specs.HostCalls.{HasOpened}
-use Rattle.teco_pages.specs.HostFiles.{HostFiles, AreOfBytes, Becomes, Fits, NoneUnread, Reads, Tells, after_closing}
-use Rattle.teco_pages.specs.HostFiles.{after_writing}
+use Rattle.teco_pages.specs.HostFiles.{Fits, after_closing}
 
 -- each file has bytes
 abbrev Named : List File → Type 0

@@ -1,13 +1,10 @@
 -- What is unread, copied piece by piece.
-use Rattle.std.proofs.Common.{◌≡◌, ℕ, ◌<◌, List, [], ◌∷◌, ◌++◌, length, Bool, true, false, IsTrue, arith, Option}
-use Rattle.std.proofs.Common.{refl, sym, ap, subst, ◌∙◌, append_assoc}
-use Rattle.std.proofs.lemmas.List.{append-nil}
-use Rattle.std.specs.Prelude.{Result, Ok, Err}
-use Rattle.teco_model.specs.Files.{Output, with_written}
-use Rattle.teco_pages.specs.Copying.{CopiesOn, IsCopied}
-use Rattle.teco_pages.specs.HostFiles.{HostFiles, Telling, Told, Becomes, Reads, Stays, NoneUnread, after_writing}
-use Rattle.teco_pages.specs.PageCalls.{Copies, WritesFront}
-use Rattle.teco_pages.specs.declared.fault.Fault.{Fault}
+use Rattle.teco_pages.proofs.Prelude.{◌≡◌, ℕ, ◌<◌, List, [], ◌∷◌, ◌++◌, length, Bool, true, false, arith, Option, refl}
+use Rattle.teco_pages.proofs.Prelude.{sym, ap, subst, ◌∙◌, append_assoc, append-nil, Result, Ok, Err, Output}
+use Rattle.teco_pages.proofs.Prelude.{with_written, CopiesOn, HostFiles, Telling, Told, Becomes, Reads, Stays}
+use Rattle.teco_pages.proofs.Prelude.{NoneUnread, after_writing, Copies, WritesFront, Fault}
+use Rattle.std.proofs.Common.{IsTrue}
+use Rattle.teco_pages.specs.Copying.{IsCopied}
 use Rattle.teco_pages.proofs.Told.{told-same, told-on, told-both}
 use Rattle.teco_pages.proofs.Written.{written-nil, written-written}
 

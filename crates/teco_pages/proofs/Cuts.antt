@@ -1,12 +1,8 @@
 -- A list of bytes is what stands before its first form feed, that form feed if there is one, and what stands behind it.
-use Rattle.std.proofs.Common.{◌≡◌, ℕ, suc, ◌+◌, ◌-◌, ◌<◌, ◌≤◌, List, [], ◌∷◌, ◌++◌, length, take, drop, Bool, true}
-use Rattle.std.proofs.Common.{false, ◌==◌, refl, ap, ◌∙◌, arith, slice_range}
-use Rattle.std.proofs.lemmas.List.{take-take, drop-drop, drop-take}
-use Rattle.std.proofs.lemmas.Bool.{eqb-true}
-use Rattle.std.specs.List.{prefix_len}
-use Rattle.teco_base.specs.declared.bytes.TheConstants.{FF}
-use Rattle.teco_pages.specs.Reading.{is_inner}
-use Rattle.teco_model.specs.Pages.{before_form_feed, has_form_feed, behind_form_feed}
+use Rattle.teco_pages.proofs.Prelude.{◌≡◌, ℕ, suc, ◌+◌, ◌-◌, ◌<◌, ◌≤◌, List, [], ◌∷◌, ◌++◌, length, take, drop, Bool}
+use Rattle.teco_pages.proofs.Prelude.{true, false, ◌==◌, refl, ap, ◌∙◌, arith, slice_range, drop-drop, eqb-true}
+use Rattle.teco_pages.proofs.Prelude.{prefix_len, FF, is_inner, before_form_feed, has_form_feed, behind_form_feed}
+use Rattle.std.proofs.lemmas.List.{take-take, drop-take}
 
 pub record Cut (xs : List ℕ) : Type 0 where
   pub taken : take (prefix_len is_inner xs) xs ≡ before_form_feed xs

@@ -1,15 +1,13 @@
 -- Notes that can be are fitted by some files.
-use Rattle.std.proofs.Common.{◌≡◌, ℕ, List, [], ◌∷◌, ◌++◌, Bool, true, false, Option, Some, None, option_map, refl}
-use Rattle.std.proofs.Common.{sym, ap, subst, ◌∙◌}
+use Rattle.teco_pages.proofs.Prelude.{◌≡◌, ℕ, List, [], ◌∷◌, Bool, true, false, Option, Some, None, option_map}
+use Rattle.teco_pages.proofs.Prelude.{refl, ◌∙◌, IfSome, ◌≢◌, AllByRecursion, File, Output, file_named}
+use Rattle.teco_pages.proofs.Prelude.{with_file, with_closed, with_written, AreBytes, Event, Happened, IsOfBytes}
+use Rattle.teco_pages.proofs.Prelude.{opened_input, gave, ended, opened_output, wrote, closed, dropped, measured}
+use Rattle.teco_pages.proofs.Prelude.{EndsAtEnd}
 use Rattle.std.proofs.lemmas.Bool.{true≢false}
-use Rattle.std.specs.Prelude.{⊤, IfSome, ◌≢◌}
-use Rattle.std.specs.List.{AllByRecursion}
-use Rattle.teco_model.specs.Files.{File, Output, output_of, file_named, with_file, with_closed, with_written}
-use Rattle.teco_model.specs.laws.Whole.{AreBytes}
+use Rattle.std.specs.Prelude.{⊤}
+use Rattle.teco_model.specs.Files.{output_of}
 use Rattle.teco_pages.specs.Changes.{HostFiles, after_opening, after_writing, after_closing, after_dropping}
-use Rattle.teco_pages.specs.Events.{Event, Happened, IsOfBytes, opened_input, gave, ended, opened_output, wrote}
-use Rattle.teco_pages.specs.Events.{closed, dropped, measured}
-use Rattle.teco_pages.specs.Noting.{EndsAtEnd}
 use Rattle.teco_pages.specs.Possible.{GivesMeasured, IsUnopened, NotesFit, OpensAnew, given_next}
 use Rattle.teco_pages.proofs.Bytes.{bytes_joined}
 use Rattle.teco_pages.proofs.Puts.{named-before, named-first, named-put}

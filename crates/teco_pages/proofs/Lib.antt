@@ -1,3 +1,4 @@
+mod Prelude
 pub mod Bytes
 pub mod Copied
 pub mod Cuts

@@ -1,8 +1,7 @@
 -- What names stand for where a file is put among others.
-use Rattle.std.proofs.Common.{◌≡◌, ℕ, List, [], ◌∷◌, Bool, true, false, cond, Option, Some, refl, sym, ap, subst, ◌∙◌}
+use Rattle.teco_pages.proofs.Prelude.{◌≡◌, ℕ, List, [], ◌∷◌, Bool, true, false, cond, Some, refl, sym, ap}
+use Rattle.teco_pages.proofs.Prelude.{subst, ◌∙◌, bytes_eq, ◌≢◌, File, file_named, with_file}
 use Rattle.std.proofs.lemmas.Slice.Eq.{bytes_eq-Decides}
-use Rattle.std.specs.Prelude.{bytes_eq, ◌≢◌}
-use Rattle.teco_model.specs.Files.{File, file_named, with_file}
 
 pub other : (a b : List ℕ) → a ≢ b → bytes_eq a b ≡ false
 other a b n = by (bytes_eq a b) refl where

@@ -1,14 +1,9 @@
 -- Reading on to the end of a page.
-use Rattle.std.proofs.Common.{◌≡◌, ℕ, ◌+◌, ◌<◌, List, [], ◌∷◌, ◌++◌, length, Bool, true, false, subst, sym, ap, ◌∙◌}
-use Rattle.std.proofs.Common.{append_assoc, length-append}
-use Rattle.std.proofs.lemmas.List.{append-nil}
-use Rattle.std.specs.Prelude.{Ok, Err}
-use Rattle.teco_base.specs.declared.bytes.TheConstants.{FF}
-use Rattle.teco_model.specs.Pages.{before_form_feed, has_form_feed, behind_form_feed}
-use Rattle.teco_pages.specs.HostFiles.{Telling}
-use Rattle.teco_pages.specs.Reading.{EndsPage, Gives, Shifts, TopsUp}
-use Rattle.teco_pages.specs.declared.fault.Fault.{Fault}
-use Rattle.teco_pages.specs.declared.fault.Fault.TheVariants.{NoFile, In, Out, Full, Memory}
+use Rattle.teco_pages.proofs.Prelude.{◌≡◌, ℕ, ◌+◌, ◌<◌, List, [], ◌∷◌, ◌++◌, length, Bool, true, false, subst, sym, ap}
+use Rattle.teco_pages.proofs.Prelude.{◌∙◌, append_assoc, length-append, append-nil, Ok, Err, FF, before_form_feed}
+use Rattle.teco_pages.proofs.Prelude.{has_form_feed, behind_form_feed, Telling, EndsPage, Shifts, Fault, NoFile, In}
+use Rattle.teco_pages.proofs.Prelude.{Out, Full, Memory}
+use Rattle.teco_pages.specs.Reading.{Gives, TopsUp}
 use Rattle.teco_pages.proofs.Cuts.{onward, plain, whole-ff, whole-none}
 use Rattle.teco_pages.proofs.Shifted.{Shift, shifts-on, shifts-as}
 use Rattle.teco_pages.proofs.Told.{told-on}

@@ -1,17 +1,14 @@
 -- The page that is ready is the first of what is unread.
-use Rattle.std.proofs.Common.{◌≡◌, ℕ, ◌+◌, ◌<◌, ◌≤◌, List, [], ◌∷◌, ◌++◌, length, Bool, true, false, not, Option}
-use Rattle.std.proofs.Common.{Some, None, ◌==◌, refl, sym, ap, subst, ◌∙◌, append_assoc, length-append, arith}
-use Rattle.std.proofs.lemmas.List.{append-nil}
-use Rattle.std.specs.Prelude.{Result, Ok, Err, IsSome, is_some}
-use Rattle.teco_base.specs.declared.TheConstants.{LIMIT}
-use Rattle.teco_base.specs.declared.bytes.TheConstants.{FF}
-use Rattle.teco_model.specs.Pages.{Page, before_form_feed, has_form_feed, behind_form_feed, first_page}
-use Rattle.teco_pages.specs.HostFiles.{HostFiles, Telling, Told, NoneUnread}
-use Rattle.teco_pages.specs.Held.{Held, unread_bytes, page_in, behind_page_in, behind_held, IsWhole}
+use Rattle.teco_pages.proofs.Prelude.{◌≡◌, ℕ, ◌+◌, ◌<◌, ◌≤◌, List, [], ◌∷◌, ◌++◌, length, Bool, true, false, not}
+use Rattle.teco_pages.proofs.Prelude.{Option, Some, None, ◌==◌, refl, sym, ap, subst, ◌∙◌, append_assoc, length-append}
+use Rattle.teco_pages.proofs.Prelude.{arith, append-nil, Result, Ok, Err, is_some, LIMIT, FF, Page, before_form_feed}
+use Rattle.teco_pages.proofs.Prelude.{has_form_feed, behind_form_feed, HostFiles, Telling, Told, NoneUnread, Held}
+use Rattle.teco_pages.proofs.Prelude.{unread_bytes, page_in, behind_page_in, behind_held, EndsPage, Shifts, Fault}
+use Rattle.teco_pages.proofs.Prelude.{NoFile, In, Out, Full, Memory}
+use Rattle.std.specs.Prelude.{IsSome}
+use Rattle.teco_model.specs.Pages.{first_page}
+use Rattle.teco_pages.specs.Held.{IsWhole}
 use Rattle.teco_pages.specs.PageCalls.{MakesReady, IsFirstPage}
-use Rattle.teco_pages.specs.Reading.{EndsPage, Shifts}
-use Rattle.teco_pages.specs.declared.fault.Fault.{Fault}
-use Rattle.teco_pages.specs.declared.fault.Fault.TheVariants.{NoFile, In, Out, Full, Memory}
 use Rattle.teco_pages.proofs.Told.{told-same, told-map, told-both}
 use Rattle.teco_pages.proofs.Cuts.{onward, whole-none}
 use Rattle.teco_pages.proofs.Shifted.{Shift}

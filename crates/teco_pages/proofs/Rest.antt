@@ -1,14 +1,11 @@
 -- All that is unread, written from what is held on.
-use Rattle.std.proofs.Common.{◌≡◌, ℕ, List, [], ◌∷◌, ◌++◌, Bool, true, false, if◌then◌else◌, Option, Some, None, sym}
-use Rattle.std.proofs.Common.{ap, ◌∙◌, append_assoc}
-use Rattle.std.proofs.lemmas.List.{append-nil}
-use Rattle.std.specs.Prelude.{Result, Ok, Err, unwrap_or}
-use Rattle.teco_base.specs.declared.bytes.TheConstants.{FF}
-use Rattle.teco_model.specs.Files.{Output}
-use Rattle.teco_pages.specs.Held.{Held, unread_bytes, page_in, behind_page_in, behind_held, written_if_any}
-use Rattle.teco_pages.specs.HostFiles.{HostFiles, Telling, Told, Becomes, after_writing}
-use Rattle.teco_pages.specs.PageCalls.{Copies, CopiesRest, WritesFront}
-use Rattle.teco_pages.specs.declared.fault.Fault.{Fault}
+use Rattle.teco_pages.proofs.Prelude.{◌≡◌, ℕ, List, [], ◌∷◌, ◌++◌, Bool, true, false, Option, Some, None, sym, ap, ◌∙◌}
+use Rattle.teco_pages.proofs.Prelude.{append_assoc, append-nil, Result, Ok, Err, FF, Output, Held, unread_bytes}
+use Rattle.teco_pages.proofs.Prelude.{page_in, behind_page_in, behind_held, written_if_any, HostFiles, Telling, Told}
+use Rattle.teco_pages.proofs.Prelude.{Becomes, after_writing, Copies, WritesFront, Fault}
+use Rattle.std.proofs.Common.{if◌then◌else◌}
+use Rattle.std.specs.Prelude.{unwrap_or}
+use Rattle.teco_pages.specs.PageCalls.{CopiesRest}
 use Rattle.teco_pages.proofs.Told.{told-map, told-on}
 use Rattle.teco_pages.proofs.Written.{written-written}
 

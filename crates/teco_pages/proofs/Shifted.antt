@@ -1,7 +1,6 @@
 -- What is held and what is unread is together what it was, over reads in turn.
-use Rattle.std.proofs.Common.{◌≡◌, ℕ, List, ◌++◌, refl, sym, ap, subst, ◌∙◌, append_assoc}
-use Rattle.teco_pages.specs.HostFiles.{HostFiles, Telling}
-use Rattle.teco_pages.specs.Reading.{Shifts}
+use Rattle.teco_pages.proofs.Prelude.{◌≡◌, ℕ, List, ◌++◌, refl, sym, ap, subst, ◌∙◌, append_assoc, HostFiles, Telling}
+use Rattle.teco_pages.proofs.Prelude.{Shifts}
 use Rattle.teco_pages.proofs.Told.{told-same, told-map, told-on}
 
 -- of the files themselves

@@ -1,12 +1,11 @@
 -- Relations of files, over calls in turn; and when the files of an editor stay.
-use Rattle.std.proofs.Common.{◌≡◌, ℕ, List, [], ◌∷◌, ◌++◌, Option, refl, sym, ap, subst, ◌∙◌, append_assoc}
-use Rattle.std.proofs.lemmas.List.{append-nil, append_cancel_left}
+use Rattle.teco_pages.proofs.Prelude.{◌≡◌, ℕ, List, [], ◌∷◌, ◌++◌, Option, refl, sym, ap, subst, ◌∙◌, append_assoc}
+use Rattle.teco_pages.proofs.Prelude.{append-nil, Input, Event, Happened, Held, unread_bytes, files_of, HostFiles}
+use Rattle.teco_pages.proofs.Prelude.{AreOfBytes, Telling, Tells, Notes, Told}
+use Rattle.std.proofs.lemmas.List.{append_cancel_left}
 use Rattle.std.specs.Prelude.{option_map}
-use Rattle.teco_model.specs.Files.{Files, Input}
+use Rattle.teco_model.specs.Files.{Files}
 use Rattle.teco_pages.proofs.Bytes.{both_of_bytes, whole_behind}
-use Rattle.teco_pages.specs.Events.{Event, Happened}
-use Rattle.teco_pages.specs.Held.{Held, unread_bytes, files_of}
-use Rattle.teco_pages.specs.HostFiles.{HostFiles, AreOfBytes, Telling, Tells, Notes, Told}
 use Rattle.teco_pages.specs.PageCalls.{OnlyReads}
 
 -- of a host that was not called

@@ -1,14 +1,12 @@
 -- What was noted of calls in turn.
-use Rattle.std.proofs.Common.{◌≡◌, ℕ, zero, suc, List, [], ◌∷◌, ◌++◌, ◌<◌, ◌==◌, length, arith, Bool, true, false}
-use Rattle.std.proofs.Common.{drop, take, refl, sym, ap, subst, ◌∙◌, append_assoc}
-use Rattle.std.proofs.lemmas.Bool.{eqb-true, false≢true, ne_eqb}
-use Rattle.std.proofs.lemmas.List.{append-nil}
-use Rattle.teco_model.specs.laws.Whole.{AreBytes}
+use Rattle.teco_pages.proofs.Prelude.{◌≡◌, ℕ, suc, List, [], ◌∷◌, ◌++◌, ◌<◌, ◌==◌, length, arith, Bool, true, false}
+use Rattle.teco_pages.proofs.Prelude.{drop, take, refl, sym, ap, subst, ◌∙◌, append_assoc, eqb-true, append-nil}
+use Rattle.teco_pages.proofs.Prelude.{AreBytes, Event, IsOfBytes, opened_input, gave, ended, opened_output, wrote}
+use Rattle.teco_pages.proofs.Prelude.{closed, dropped, measured, Telling, Tells, Notes, EndsAtEnd, Touches}
+use Rattle.std.proofs.Common.{zero}
+use Rattle.std.proofs.lemmas.Bool.{false≢true, ne_eqb}
 use Rattle.teco_pages.proofs.Bytes.{both_of_bytes}
-use Rattle.teco_pages.specs.Events.{Event, IsOfBytes, opened_input, gave, ended, opened_output, wrote, closed}
-use Rattle.teco_pages.specs.Events.{dropped, measured}
-use Rattle.teco_pages.specs.HostFiles.{Telling, Tells, Notes}
-use Rattle.teco_pages.specs.Noting.{EndsAtEnd, NotesJust, Touches, event_of_reading, openings}
+use Rattle.teco_pages.specs.Noting.{NotesJust, event_of_reading, openings}
 
 -- of no call
 pub touches-none : (end : Bool) (x : Telling) → Touches [] end end x x

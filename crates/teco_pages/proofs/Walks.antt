@@ -1,5 +1,5 @@
 -- A value of no fields is made.
-use Rattle.std.proofs.Common.{List, [], ◌∷◌, refl}
+use Rattle.teco_pages.proofs.Prelude.{List, [], ◌∷◌, refl}
 use seplogic.Ra.Ura.{Ura}
 use mir.Val.{Val, vstruct, vnil}
 use types.Logic.{Logic}

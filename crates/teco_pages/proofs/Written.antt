@@ -1,13 +1,10 @@
 -- Bytes that are written in turn.
-use Rattle.std.proofs.Common.{◌≡◌, ℕ, ◌+◌, ◌≤◌, List, [], ◌++◌, length, take, drop, Option, Some, None, refl, sym, ap}
-use Rattle.std.proofs.Common.{subst, ◌∙◌, append_assoc}
-use Rattle.std.proofs.lemmas.List.{append-nil, take_all, take-append-drop}
+use Rattle.teco_pages.proofs.Prelude.{◌≡◌, ℕ, ◌+◌, ◌≤◌, List, [], ◌++◌, length, take, drop, Option, Some, None, refl}
+use Rattle.teco_pages.proofs.Prelude.{sym, ap, subst, ◌∙◌, append_assoc, append-nil, take_all, take-append-drop, Output}
+use Rattle.teco_pages.proofs.Prelude.{with_written, Result, Ok, Err, Telling, Becomes, Stays, after_writing}
+use Rattle.teco_pages.proofs.Prelude.{WritesFront, Fault}
 use Rattle.std.proofs.Math.Seq.{take-add}
-use Rattle.teco_model.specs.Files.{Output, with_written}
-use Rattle.std.specs.Prelude.{Result, Ok, Err}
-use Rattle.teco_pages.specs.HostFiles.{Telling, Becomes, Stays, after_writing}
-use Rattle.teco_pages.specs.PageCalls.{WritesFront, WritesBytes}
-use Rattle.teco_pages.specs.declared.fault.Fault.{Fault}
+use Rattle.teco_pages.specs.PageCalls.{WritesBytes}
 use Rattle.teco_pages.proofs.Told.{told-same, told-on}
 
 pub written-written : (o : Option Output) (a b : List ℕ) → with_written b (with_written a o) ≡ with_written (a ++ b) o

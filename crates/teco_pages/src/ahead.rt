@@ -1,4 +1,4 @@
-// Bytes that were read and belong to no page yet.
+//! Bytes that were read and belong to no page yet.
 ghost use Rattle.std.specs.Prelude.{◌≡◌, false, ◌↔◌, ◌≤◌, ◌<◌, ◌+◌, [], length, take, drop, IfErr, OnOk, OnErr, IsTrue};
 ghost use Rattle.std.specs.List.{prefix_len};
 ghost use Rattle.teco_base.specs.declared.TheConstants.{LIMIT};

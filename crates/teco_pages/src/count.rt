@@ -1,4 +1,4 @@
-// A number that only contracts see.
+//! A number that only contracts see.
 ghost use Rattle.std.specs.Prelude.{◌≡◌, ℕ, suc, IsErr};
 ghost use Rattle.std.specs.Borrow.{ftrue};
 

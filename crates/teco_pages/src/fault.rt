@@ -1,4 +1,4 @@
-// Why a call on pages or on a host is refused.
+//! Why a call on pages or on a host is refused.
 ghost use Rattle.std.specs.Prelude.{◌≡◌};
 ghost use Rattle.teco_pages.specs.declared.fault.Fault.TheVariants.{Memory};
 

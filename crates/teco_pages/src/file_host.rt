@@ -1,4 +1,4 @@
-// A host of the files of the system.
+//! A host of the files of the system.
 ghost use Rattle.std.specs.Prelude.{◌≡◌, ◌≤◌, ◌<◌, [], suc, length, IfOk, IsErr};
 ghost use Rattle.teco_pages.specs.HostFiles.{Notes};
 ghost use Rattle.teco_pages.specs.Kept.{output_contents};
@@ -16,7 +16,7 @@ use std::io::{Read, Write};
 use teco_base::LIMIT;
 use teco_files::{
     Backup, Closed, Closing, Ended, Finish, Handling, Identity, Likeness, ProcessFacts, Purpose,
-    Reason, Source, System, Trouble, Unfinished, folder_of,
+    ReadFile, System, Trouble, TroubleReason, Unfinished, folder_of,
 };
 
 /// Outputs replace their targets, and outlast a power cut.
@@ -60,7 +60,7 @@ pub struct FileHost<R: System> {
     alloc: Global,
     // read where the first output is opened, if they were not given
     facts: Option<ProcessFacts>,
-    input: Option<Source<R::File>>,
+    input: Option<ReadFile<R::File>>,
     // how many bytes of the input were read
     given: usize,
     output: Option<Unfinished<R::File>>,
@@ -185,7 +185,7 @@ impl<R: System> Host for FileHost<R> {
     ghost given = { λ h. h.given };
 
     fn open_in(&mut self, name: &[u8]) -> Result<(), Failed> {
-        match Source::open(&self.rt, self.alloc, name, self.handling.in_place) {
+        match ReadFile::open(&self.rt, self.alloc, name, self.handling.in_place) {
             Ok(file) => {
                 self.input = Some(file);
                 self.given = 0;
@@ -286,7 +286,7 @@ fn facts_of<R: System>(rt: &R, alloc: Global, facts: Option<ProcessFacts>) -> Pr
 
 // The only file that an output may replace: the input, where files are edited in place.
 fn only_of<F: OpenFile + Read + Drop>(
-    input: &Option<Source<F>>,
+    input: &Option<ReadFile<F>>,
     handling: Handling,
 ) -> Option<Identity> {
     if handling.in_place {
@@ -313,7 +313,7 @@ fn note_written(likeness: &mut Likeness, handling: Handling, bytes: &[u8], n: us
 // Does an output have the bytes of the input that it replaces, if that can be told?
 fn is_same<F: OpenFile + Read + Drop>(
     likeness: &Likeness,
-    input: &Option<Source<F>>,
+    input: &Option<ReadFile<F>>,
     handling: Handling,
 ) -> Option<bool> {
     match input {
@@ -325,16 +325,16 @@ fn is_same<F: OpenFile + Read + Drop>(
 // Reads some bytes of the input that is open, but no more than are left of what it may give. Where
 // none are it must be at its end.
 fn read_some<F: OpenFile + Read + Drop>(
-    input: &mut Option<Source<F>>,
+    input: &mut Option<ReadFile<F>>,
     left: usize,
     buf: &mut [u8],
-) -> Result<usize, Reason>
+) -> Result<usize, TroubleReason>
     ensures bound { IfOk result (λ n. n ≤ length buf.new) }
     ensures left { IfOk result (λ n. n ≤ left) }
 {
     match input {
         Some(file) => file.read_within(left, buf),
-        None => Err(Reason::NotOpen),
+        None => Err(TroubleReason::NotOpen),
     }
 }
 
@@ -353,16 +353,16 @@ fn begin_output<R: System>(
     alloc: Global,
     output: &mut Option<Unfinished<R::File>>,
     begin: Begin<'_>,
-) -> Result<(), Reason> {
+) -> Result<(), TroubleReason> {
     if output.is_some() {
-        return Err(Reason::NotOpen);
+        return Err(TroubleReason::NotOpen);
     }
     *output = Some(Unfinished::begin(rt, alloc, begin.name, begin.facts, begin.only)?);
     Ok(())
 }
 
 // Removes what was written of an output, if one is open.
-fn abandon<R: Files>(rt: &R, output: Option<Unfinished<R::File>>) -> Result<(), Reason> {
+fn abandon<R: Files>(rt: &R, output: Option<Unfinished<R::File>>) -> Result<(), TroubleReason> {
     match output {
         Some(output) => output.abandon(rt),
         None => Ok(()),
@@ -373,7 +373,7 @@ fn abandon<R: Files>(rt: &R, output: Option<Unfinished<R::File>>) -> Result<(), 
 fn write_some<F: OpenFile + Write + Drop>(
     output: &mut Option<Unfinished<F>>,
     bytes: &[u8],
-) -> Result<usize, Reason>
+) -> Result<usize, TroubleReason>
     ensures bound { IfOk result (λ n. n ≤ length bytes.now) }
     ensures some { IfOk result (λ n. 0 < length bytes.now → 0 < n) }
     ensures bytes { WriteAppends (output_contents F.contents output.old)
@@ -381,7 +381,7 @@ fn write_some<F: OpenFile + Write + Drop>(
 {
     match output {
         Some(output) => output.write_some(bytes),
-        None => Err(Reason::NotOpen),
+        None => Err(TroubleReason::NotOpen),
     }
 }
 
@@ -391,14 +391,14 @@ fn close<R: System>(
     alloc: Global,
     output: Option<Unfinished<R::File>>,
     finish: Finish<'_>,
-) -> Result<Ended, Reason> {
+) -> Result<Ended, TroubleReason> {
     match output {
         Some(output) if finish.handling.closing != Closing::Compares => {
             output.finish(rt, alloc, finish)
         }
         output => {
             abandon(rt, output)?;
-            Err(Reason::NotOpen)
+            Err(TroubleReason::NotOpen)
         }
     }
 }
@@ -409,7 +409,7 @@ fn let_go<R: System>(
     alloc: Global,
     output: Option<Unfinished<R::File>>,
     finish: Finish<'_>,
-) -> Result<Option<Ended>, Reason> {
+) -> Result<Option<Ended>, TroubleReason> {
     match output {
         Some(output) if finish.handling.closing == Closing::Compares => {
             Ok(Some(output.finish(rt, alloc, finish)?))

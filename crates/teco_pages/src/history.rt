@@ -1,4 +1,4 @@
-// What the calls of a host did: contracts see it, and nothing else.
+//! What the calls of a host did: contracts see it, and nothing else.
 ghost use Rattle.std.specs.Prelude.{◌≡◌, ◌≤◌, ◌<◌, ◌∷◌, ◌++◌, List, [], length, take, Some};
 ghost use Rattle.std.specs.Borrow.{ftrue};
 ghost use Rattle.teco_pages.specs.Events.{Event, events_code, opened_input, opened_output, wrote, closed, dropped};

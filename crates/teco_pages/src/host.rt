@@ -1,4 +1,4 @@
-// What every host of files promises.
+//! What every host of files promises.
 ghost use Rattle.std.specs.Prelude.{◌≡◌, ◌≤◌, ◌<◌, ◌+◌, ◌∷◌, [], ℕ, length, IfOk, OnOk, OnErr};
 ghost use Rattle.teco_base.specs.declared.TheConstants.{LIMIT};
 ghost use Rattle.teco_pages.specs.HostFiles.{Telling, Becomes, after_dropping};
@@ -26,6 +26,10 @@ pub trait Host {
     ghost given: { Self → ℕ };
 
     /// Opens the file of a name as the input, in the place of the one before.
+    ///
+    /// # Errors
+    ///
+    /// `Failed` where there is no such file, or it cannot be opened.
     fn open_in(&mut self, name: &[u8]) -> Result<(), Failed>
         ensures files { OpensIn name.now result (files self.old) (files self.new) }
         ensures noted { NotesJust (noted_open_in name.now result) (files self.old) (files self.new) }
@@ -35,6 +39,10 @@ pub trait Host {
 
     /// Reads the next bytes of the input, one at least unless it is at its end; of one input at
     /// most `LIMIT`.
+    ///
+    /// # Errors
+    ///
+    /// `Failed` where the input cannot be read, or has more than `LIMIT` bytes.
     fn read(&mut self, buf: &mut [u8]) -> Result<usize, Failed>
         ensures files { ReadsSome buf.new result (files self.old) (files self.new) }
         ensures noted { NotesJust (noted_read buf.new result) (files self.old) (files self.new) }
@@ -45,6 +53,10 @@ pub trait Host {
         ensures err { OnErr result (given self.new ≡ given self.old) };
 
     /// Opens an output that will have this name.
+    ///
+    /// # Errors
+    ///
+    /// `Failed` where an output of this name cannot be made.
     fn open_out(&mut self, name: &[u8]) -> Result<(), Failed>
         ensures files { OpensOut name.now result (files self.old) (files self.new) }
         ensures noted { NotesJust (noted_open_out name.now result) (files self.old) (files self.new) }
@@ -52,6 +64,10 @@ pub trait Host {
         ensures given { given self.new ≡ given self.old };
 
     /// Writes the first of some bytes to the output, one of them at least.
+    ///
+    /// # Errors
+    ///
+    /// `Failed` where nothing can be written.
     fn write(&mut self, bytes: &[u8]) -> Result<usize, Failed>
         ensures files { WritesSome bytes.now result (files self.old) (files self.new) }
         ensures noted { NotesJust (noted_write bytes.now result) (files self.old) (files self.new) }
@@ -61,6 +77,10 @@ pub trait Host {
         ensures given { given self.new ≡ given self.old };
 
     /// Gives the output its name, in the place of a file that has it. A failure drops the output.
+    ///
+    /// # Errors
+    ///
+    /// `Failed` where the output cannot take its name.
     fn close_out(&mut self) -> Result<(), Failed>
         ensures files { Closes result (files self.old) (files self.new) }
         ensures noted { NotesJust (noted_close_out result) (files self.old) (files self.new) }
@@ -68,6 +88,10 @@ pub trait Host {
         ensures given { given self.new ≡ given self.old };
 
     /// Drops the output, which leaves no trace. A failure drops it too.
+    ///
+    /// # Errors
+    ///
+    /// `Failed` where the output cannot be removed.
     fn drop_out(&mut self) -> Result<(), Failed>
         ensures files { Becomes after_dropping (files self.old) (files self.new) }
         ensures noted { NotesJust (dropped ∷ []) (files self.old) (files self.new) }

@@ -21,7 +21,7 @@ pub use host::Host;
 pub use mem_host::MemHost;
 pub use pages::Pages;
 pub use teco_files::{
-    Backup, Closed, Closing, Handling, ProcessFacts, Purpose, Reason, System, Trouble, folder_of,
-    remove_strays, sync_folder,
+    Backup, Closed, Closing, Handling, ProcessFacts, Purpose, System, Trouble, TroubleReason,
+    folder_of, remove_strays, sync_folder,
 };
 pub use test_host::{HostCall, TestHost};

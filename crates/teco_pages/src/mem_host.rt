@@ -1,4 +1,4 @@
-// A host of files in memory.
+//! A host of files in memory.
 ghost use Rattle.std.specs.Prelude.{◌≡◌, ◌≤◌, length, Some, option_copied, IfSome, IfOk, OnOk, OnErr};
 ghost use Rattle.std.specs.List.{prefix_len};
 ghost use Rattle.teco_model.specs.Files.{file_named, with_file, with_written, with_closed};
@@ -77,6 +77,10 @@ impl MemHost {
 
     /// Makes a file of a name and bytes, in the place of the one of that name if there is one. What
     /// is open stays.
+    ///
+    /// # Errors
+    ///
+    /// `AllocError` where memory is refused; the files are as before then.
     pub fn put(&mut self, name: &[u8], bytes: &[u8]) -> Result<(), AllocError>
         ensures ok { OnOk result (self.new ≡ with_put name.now bytes.now self.old) }
         ensures err { OnErr result (self.new ≡ self.old) }

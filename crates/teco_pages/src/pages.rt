@@ -1,4 +1,4 @@
-// The pages of the open input, and what is open.
+//! The pages of the open input, and what is open.
 ghost use Rattle.std.specs.Prelude.{◌≡◌, ◌≤◌, ◌++◌, [], ◌∷◌, if◌then◌else◌, Some, None, false, length, option_map};
 ghost use Rattle.std.specs.Prelude.{option_copied, IsSome, IfSome, OnOk, OnErr};
 ghost use Rattle.teco_base.specs.declared.TheConstants.{LIMIT};
@@ -85,6 +85,10 @@ impl Pages {
 
     /// Opens the file of a name as the input, in the place of the one before. A refusal leaves that
     /// one open.
+    ///
+    /// # Errors
+    ///
+    /// `NoFile` where the host does not open it; `Memory` where the name cannot be kept.
     pub fn open_in<H: Host>(&mut self, name: &[u8], host: &mut H) -> Result<(), Fault>
         ensures answer { OkOrNoFile result (H.failures host.old) (H.failures host.new) }
         ensures files { OpensIn name.now result (H.files host.old) (H.files host.new) }
@@ -124,6 +128,10 @@ impl Pages {
     }
 
     /// Opens an output that will have this name once it is closed.
+    ///
+    /// # Errors
+    ///
+    /// `Out` where the host does not open it; `Memory` where the name cannot be kept.
     pub fn open_out<H: Host>(&mut self, name: &[u8], host: &mut H) -> Result<(), Fault>
         ensures answer { OkOrCannotOpen result (H.failures host.old) (H.failures host.new) }
         ensures files { OpensOut name.now result (H.files host.old) (H.files host.new) }
@@ -142,6 +150,10 @@ impl Pages {
 
     /// Closes the output, which takes its name. A fault leaves none open, and the file of that name
     /// as it was.
+    ///
+    /// # Errors
+    ///
+    /// `Out` where the host does not close it.
     pub fn close_out<H: Host>(&mut self, host: &mut H) -> Result<(), Fault>
         ensures answer { OkOrOut result (H.failures host.old) (H.failures host.new) }
         ensures files { Closes result (H.files host.old) (H.files host.new) }
@@ -157,6 +169,10 @@ impl Pages {
     }
 
     /// Drops the output, which leaves no trace. A fault leaves none open either.
+    ///
+    /// # Errors
+    ///
+    /// `Out` where the host does not drop it.
     pub fn drop_out<H: Host>(&mut self, host: &mut H) -> Result<(), Fault>
         ensures answer { OkOrOut result (H.failures host.old) (H.failures host.new) }
         ensures files { Becomes after_dropping (H.files host.old) (H.files host.new) }
@@ -180,6 +196,22 @@ impl Pages {
 
     /// Makes the first page of the unread input ready, unless it is: an empty page at the end of
     /// the input, and without one. It stays unread input.
+    ///
+    /// # Errors
+    ///
+    /// `In` where the host fails to read; `Full` where the page is longer than `LIMIT`;
+    /// `Memory` where memory is refused.
+    ///
+    /// # Examples
+    ///
+    /// ```
+    /// let mut host = MemHost::new(alloc);
+    /// host.put(b"in", b"first\x0csecond")?;
+    /// let mut pages = Pages::new(alloc);
+    /// pages.open_in(b"in", &mut host)?;
+    /// pages.next_page(&mut host)?;
+    /// Ok(matches!(pages.page(), Some((b"first", true))))
+    /// ```
     pub fn next_page<H: Host>(&mut self, host: &mut H) -> Result<(), Fault>
         ensures answer { OkOrCannotRead result (H.failures host.old) (H.failures host.new) }
         ensures page { Told (MakesReady result self.old self.new)
@@ -275,6 +307,21 @@ impl Pages {
 
     /// Writes a page in two parts to the output, and a form feed behind it if `ff` says so; with a
     /// fault some of that from its front.
+    ///
+    /// # Errors
+    ///
+    /// `Out` where the host fails to write.
+    ///
+    /// # Examples
+    ///
+    /// ```
+    /// let mut host = MemHost::new(alloc);
+    /// let mut pages = Pages::new(alloc);
+    /// pages.open_out(b"out", &mut host)?;
+    /// pages.write_page(b"one ", b"two", false, &mut host)?;
+    /// pages.close_out(&mut host)?;
+    /// Ok(matches!(host.file(b"out"), Some(b"one two")))
+    /// ```
     pub fn write_page<H: Host>(
         &self,
         first: &[u8],
@@ -295,6 +342,11 @@ impl Pages {
 
     /// Writes all unread input to the output, piece by piece; with a fault some of it from its
     /// front.
+    ///
+    /// # Errors
+    ///
+    /// `In` where the host fails to read, `Out` where it fails to write, `Memory` where memory
+    /// is refused.
     pub fn write_rest<H: Host>(&mut self, host: &mut H) -> Result<(), Fault>
         ensures answer { OkOrInOut result (H.failures host.old) (H.failures host.new) }
         ensures copied { Told (CopiesRest result self.old self.new)

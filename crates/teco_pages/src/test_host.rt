@@ -1,4 +1,4 @@
-// A host for tests.
+//! A host for tests.
 ghost use Rattle.std.specs.Prelude.{◌≡◌, ◌≤◌, ◌<◌, ◌+◌, length, IfOk, OnOk, OnErr};
 ghost use Rattle.teco_base.specs.declared.TheConstants.{LIMIT};
 ghost use Rattle.teco_pages.specs.HostCalls.{Counts, OpensIn, ReadsSome, OpensOut, WritesSome, Closes, Measures};

@@ -1,4 +1,4 @@
-// Writing all of some bytes, and all that is unread.
+//! Writing all of some bytes, and all that is unread.
 ghost use Rattle.std.specs.Prelude.{◌≡◌, ◌++◌, [], Bool, false, OnOk, is_ok};
 ghost use Rattle.teco_pages.specs.HostFiles.{Told};
 ghost use Rattle.teco_pages.specs.Noting.{Touches};

@@ -1,27 +1,18 @@
 -- What always holds of a state.
-use Rattle.std.proofs.Common.{◌≡◌, ℕ, zero, suc, ◌+◌, ◌-◌, ◌/◌, ◌%◌, ◌≤◌, refl, sym, ap, subst, arith, List, [], ◌∷◌}
-use Rattle.std.proofs.Common.{length, Bool, true, false, Option, Some, None, nat_lt, slice_get, ◌==◌, if◌then◌else◌}
-use Rattle.std.specs.Prelude.{pos, ◌+ℤ◌, ◌-ℤ◌, ◌≤ℤ◌, option_map, option_and_then, unwrap_or}
-use Rattle.std.proofs.lemmas.Bool.{ltb-true}
-use Rattle.std.proofs.lemmas.Int.{ints}
-use Rattle.std.specs.List.{All, AllByRecursion}
-use Rattle.teco_base.specs.declared.TheConstants.{LIMIT}
-use Rattle.teco_linear.specs.declared.term.Term.{Term}
-use Rattle.teco_linear.specs.declared.difference.Difference.{Difference}
+use Rattle.teco_paths.proofs.Prelude.{◌≡◌, ℕ, zero, suc, ◌+◌, ◌-◌, ◌/◌, ◌%◌, ◌≤◌, refl, sym, ap, subst, arith, List, []}
+use Rattle.teco_paths.proofs.Prelude.{◌∷◌, length, Bool, true, false, Option, Some, None, nat_lt, slice_get, ◌==◌}
+use Rattle.teco_paths.proofs.Prelude.{if◌then◌else◌, pos, ◌+ℤ◌, ◌-ℤ◌, ◌≤ℤ◌, option_and_then, unwrap_or, ltb-true, ints}
+use Rattle.teco_paths.proofs.Prelude.{All, LIMIT, Term, Difference, Valuation, value, Loop, Pair, Number, Length, Turns}
+use Rattle.teco_paths.proofs.Prelude.{PushedNumber, PushedLength, One, Each, from_end, number_of, length_of, line_end}
+use Rattle.teco_paths.proofs.Prelude.{ORDER, MOST_BELOW, MOST_NUMBER, IsFact, family_of, measure_of, numbers_of}
+use Rattle.teco_paths.proofs.Prelude.{single_of, Polynomial}
+use Rattle.std.specs.Prelude.{option_map}
+use Rattle.std.specs.List.{AllByRecursion}
 use Rattle.teco_linear.specs.DifferenceBounds.{slack}
-use Rattle.teco_linear.specs.Form.{Valuation, value}
-use Rattle.teco_model.specs.declared.flow.Loop.{Loop}
 use Rattle.teco_model.specs.laws.Whole.{IsWholePair}
-use Rattle.teco_model.specs.Registers.{Pair}
-use Rattle.teco_rows.specs.declared.measure.Family.TheVariants.{Number, Length, Turns, PushedNumber, PushedLength}
-use Rattle.teco_rows.specs.declared.measure.Measure.TheVariants.{One, Each}
-use Rattle.teco_rows.specs.States.{from_end, number_of, length_of}
-use Rattle.teco_rows.proofs.Lines.{line_begin, line_end}
-use Rattle.teco_paths.specs.declared.facts.TheConstants.{ORDER, MOST_BELOW, MOST_NUMBER}
-use Rattle.teco_paths.specs.Facts.{IsBound, IsFact, IsLeast, IsMost}
-use Rattle.teco_paths.specs.Symbols.{family_of, measure_of, numbers_of, single_of}
+use Rattle.teco_rows.proofs.Lines.{line_begin}
+use Rattle.teco_paths.specs.Facts.{IsBound, IsLeast, IsMost}
 use Rattle.teco_poly.specs.Polynomial as poly
-use Rattle.teco_poly.specs.Polynomial.{Polynomial}
 
 -- ---- the order of places
 pub in_order : All IsBound ORDER

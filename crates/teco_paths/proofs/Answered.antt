@@ -1,7 +1,5 @@
 -- What is answered, where nothing is refused.
-use Rattle.std.proofs.Common.{Result, Ok, Err, IfOk, Bool, true, false}
-use Rattle.std.specs.Prelude.{OnOk}
-use Rattle.std.specs.Bool.{OnTrue}
+use Rattle.teco_paths.proofs.Prelude.{Result, Ok, Err, IfOk, Bool, true, false, OnOk, OnTrue}
 
 pub on_ok : {X E P Q : Type 0} (r : Result X E) → (P → Q) → OnOk r P → OnOk r Q
 on_ok (Ok x) f h = f h

@@ -1,35 +1,25 @@
 -- The state at the entry is as the cut point there says.
-use Rattle.std.proofs.Common.{◌≡◌, ℕ, zero, suc, ◌+◌, ◌-◌, ◌*◌, ◌/◌, ◌%◌, ◌<◌, ◌≤◌, refl, sym, ap, ◌∙◌, arith, List}
-use Rattle.std.proofs.Common.{[], ◌∷◌, length}
-use Rattle.std.proofs.Common.{eqb-true, Bool, true, false, Option, Some, None, nat_lt, slice_get, ◌==◌, if◌then◌else◌}
-use Rattle.std.specs.Prelude.{ℤ, pos, unwrap_or, ◌+ℤ◌, ◌-ℤ◌, ◌≤ℤ◌, is_some, option_map, option_and_then}
+use Rattle.teco_paths.proofs.Prelude.{◌≡◌, ℕ, zero, suc, ◌+◌, ◌-◌, ◌*◌, ◌/◌, ◌%◌, ◌<◌, ◌≤◌, refl, sym, ap, ◌∙◌, arith}
+use Rattle.teco_paths.proofs.Prelude.{List, [], ◌∷◌, length, Bool, true, false, Option, Some, None, nat_lt, slice_get}
+use Rattle.teco_paths.proofs.Prelude.{◌==◌, if◌then◌else◌, ℤ, pos, unwrap_or, ◌+ℤ◌, ◌-ℤ◌, ◌≤ℤ◌, is_some}
+use Rattle.teco_paths.proofs.Prelude.{option_and_then, ltb-true, ltb-false, ints, All, REGISTERS, Term, Valuation}
+use Rattle.teco_paths.proofs.Prelude.{value, ArgumentRange, IsAsked, Pair, text_in, Family, Number, Length, Turns}
+use Rattle.teco_paths.proofs.Prelude.{PushedNumber, PushedLength, First, Value, Measure, One, Each, place, Point}
+use Rattle.teco_paths.proofs.Prelude.{from_end, measures_of, number_of, length_of, CutState, AreThere, IsEntered}
+use Rattle.teco_paths.proofs.Prelude.{IsEntryClaim, IsEntryCut, is_there, used_lengths, family_of, measure_of}
+use Rattle.teco_paths.proofs.Prelude.{numbers_of, single_of, arguments_given, steps_before}
+use Rattle.std.proofs.Common.{eqb-true}
+use Rattle.std.specs.Prelude.{option_map}
 use Rattle.std.specs.Prelude.{slice_index_or, ◌&&◌}
-use Rattle.std.proofs.lemmas.Bool.{ltb-true, ltb-false}
-use Rattle.std.proofs.lemmas.Int.{ints}
 use Rattle.std.proofs.lemmas.List.Sums.{sum_by-cons}
-use Rattle.std.specs.List.{All, sum_by}
-use Rattle.teco_base.specs.declared.TheConstants.{REGISTERS}
-use Rattle.teco_linear.specs.declared.term.Term.{Term}
-use Rattle.teco_linear.specs.Form.{Valuation, value}
+use Rattle.std.specs.List.{sum_by}
 use Rattle.teco_model.specs.Arguments.{Arguments}
-use Rattle.teco_model.specs.Macros.{ArgumentRange, IsAsked}
-use Rattle.teco_model.specs.Registers.{Pair, empty_pair, held_length_of_pair}
-use Rattle.teco_model.specs.Storage.{text_in}
+use Rattle.teco_model.specs.Registers.{empty_pair, held_length_of_pair}
 use Rattle.teco_model.specs.declared.arguments.Level.{Level}
-use Rattle.teco_rows.specs.declared.measure.Family.{Family}
-use Rattle.teco_rows.specs.declared.measure.Family.TheVariants.{Number, Length, Turns, PushedNumber, PushedLength}
-use Rattle.teco_rows.specs.declared.measure.Family.TheVariants.{First, Value}
-use Rattle.teco_rows.specs.declared.measure.Measure.{Measure}
-use Rattle.teco_rows.specs.declared.measure.Measure.TheVariants.{One, Each}
-use Rattle.teco_rows.specs.Measures.{place}
-use Rattle.teco_rows.specs.States.{Point, from_end, levels, measures_of, number_of, length_of, operators_of}
-use Rattle.teco_paths.specs.declared.cut.CutState.{CutState}
-use Rattle.teco_paths.specs.Entry.{AreThere, IsEntered, IsEntryClaim, IsEntryCut, family_is_there, is_there}
-use Rattle.teco_paths.specs.Entry.{length_if, used_lengths}
-use Rattle.teco_paths.specs.Symbols.{family_of, measure_of, numbers_of, single_of}
+use Rattle.teco_rows.specs.States.{levels, operators_of}
+use Rattle.teco_paths.specs.Entry.{family_is_there}
+use Rattle.teco_paths.specs.Entry.{length_if}
 use Rattle.teco_paths.proofs.Symbols.{measure_again}
-use Rattle.teco_verifier.specs.facts.Argument.{arguments_given}
-use Rattle.teco_verifier.specs.table.Printed.{steps_before}
 
 -- ---- which measures are there
 is_got : {X : Type 0} (xs : List X) (i : ℕ) → i < length xs → is_some (slice_get xs i) ≡ true

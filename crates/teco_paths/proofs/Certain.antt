@@ -1,43 +1,31 @@
 -- Every run of a macro whose claims hang together ends in time.
-use Rattle.std.proofs.Common.{◌≡◌, ℕ, zero, suc, ◌+◌, ◌≤◌, ◌<◌, ◌^◌, refl, sym, ap, ◌∙◌, subst, arith, length, false}
-use Rattle.std.proofs.Common.{Option, Some, None, option_map, List, [], ◌∷◌, map}
+use Rattle.teco_paths.proofs.Prelude.{◌≡◌, ℕ, zero, suc, ◌+◌, ◌≤◌, ◌<◌, ◌^◌, refl, sym, ap, ◌∙◌, subst, arith, length}
+use Rattle.teco_paths.proofs.Prelude.{false, Option, Some, None, option_map, List, [], ◌∷◌, map, ints, All}
+use Rattle.teco_paths.proofs.Prelude.{option_map_or, REGISTERS, AreLinked, AreOpen, is_of_files, changes_files}
+use Rattle.teco_paths.proofs.Prelude.{NoFileCommands, Element, Library, ArgumentRange, IsAsked, IsLoaded, Needs}
+use Rattle.teco_paths.proofs.Prelude.{Reaches, State, Outcome, Next, End, Case, point_of, CutState, IsCaseOf, IsEntered}
+use Rattle.teco_paths.proofs.Prelude.{IsEntryCut, Course, IsFollowed, Leads, Ground, IsAt, EndsBy, held_in, IsCertain}
+use Rattle.teco_paths.proofs.Prelude.{numbers_of, Polynomial, most_typed, Node, arguments_given, steps_before}
 use Rattle.std.specs.Prelude.{slice_index_or}
-use Rattle.std.proofs.lemmas.Int.{ints}
-use Rattle.std.specs.List.{All}
-use Rattle.std.specs.Option.{option_map_or}
-use Rattle.teco_base.specs.declared.TheConstants.{REGISTERS}
 use Rattle.teco_law_expansion.specs.Alike.{AreAlike, AreOutcomesAlike, StepsAreAlike, RunsAreAlike, ReadingsAreAlike}
 use Rattle.teco_law_expansion.specs.Alike.{kind_of}
 use Rattle.teco_law_expansion.specs.Given.{call_given, start_pending, BeginsPending, NumbersArePending}
-use Rattle.teco_law_expansion.specs.Linked.{AreLinked}
-use Rattle.teco_law_facts.specs.SoundSteps.{AreOpen}
 use Rattle.teco_law_facts.specs.Wholeness.{AreWholeArguments}
 use Rattle.teco_law_tables.specs.Ending.{start_given}
-use Rattle.teco_law_tables.specs.Staying.{is_of_files, changes_files, NoFileCommands}
 use Rattle.teco_law_tables.specs.Verified.{IsReady, n_of}
-use Rattle.teco_model.specs.Element.{Element}
 use Rattle.teco_model.specs.Files.{Input}
-use Rattle.teco_model.specs.Macros.{Library, ArgumentRange, IsAsked, IsLoaded, Needs, macro}
-use Rattle.teco_model.specs.Run.{Reaches, Ends}
-use Rattle.teco_model.specs.State.{Kept, World, State, Outcome, Next, End, start}
-use Rattle.teco_rows.specs.declared.case.Case.{Case}
-use Rattle.teco_flow_outcomes.specs.Law.{point_of, unread_in}
-use Rattle.teco_paths.specs.declared.cut.CutState.{CutState}
-use Rattle.teco_paths.specs.Claims.{IsCaseOf}
-use Rattle.teco_paths.specs.Entry.{HaveLengths, IsEntered, IsEntryCut}
+use Rattle.teco_model.specs.Macros.{macro}
+use Rattle.teco_model.specs.Run.{Ends}
+use Rattle.teco_model.specs.State.{Kept, World, start}
+use Rattle.teco_flow_outcomes.specs.Law.{unread_in}
+use Rattle.teco_paths.specs.Entry.{HaveLengths}
 use Rattle.teco_paths.specs.Paths as paths
-use Rattle.teco_paths.specs.Paths.{Course, IsFollowed, Leads}
-use Rattle.teco_paths.specs.Runs.{Ground, IsAt, EndsBy, held_in}
-use Rattle.teco_paths.specs.Sure.{AreLengths, CertainEnd, IsCertain}
-use Rattle.teco_paths.specs.Symbols.{numbers_of}
+use Rattle.teco_paths.specs.Sure.{AreLengths, CertainEnd}
 use Rattle.teco_paths.proofs.Ending.{run_ends}
 use Rattle.teco_paths.proofs.Walking.{none_more, none_on, none_yet, one_step, reached_none, reaches_here, reaches_on}
 use Rattle.teco_paths.proofs.Walking.{reads_none, run_on}
-use Rattle.teco_poly.specs.Polynomial.{Polynomial, value}
-use Rattle.teco_promise.specs.Promise.{most_typed}
-use Rattle.teco_verifier.specs.expansion.Node.{Node, beginning}
-use Rattle.teco_verifier.specs.facts.Argument.{arguments_given}
-use Rattle.teco_verifier.specs.table.Printed.{steps_before}
+use Rattle.teco_poly.specs.Polynomial.{value}
+use Rattle.teco_verifier.specs.expansion.Node.{beginning}
 
 -- ---- the state at the entry
 same_unread : (input : Option Input) → unread_in input ≡ length (option_map_or (λ (i : Input). i.unread) input [])

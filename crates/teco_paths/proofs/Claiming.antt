@@ -1,29 +1,17 @@
 -- Cut points and cases.
-use Rattle.std.proofs.Common.{◌≡◌, ℕ, refl, sym, ap, ◌∙◌, subst, arith, List, ◌++◌, Bool, Option, Some, None}
-use Rattle.std.specs.Prelude.{pos, ◌≤ℤ◌, ◌-ℤ◌, ◌+◌, ◌≤◌, is_some, unwrap_or, slice_index_or}
-use Rattle.std.proofs.lemmas.Int.{ints}
-use Rattle.std.specs.List.{All}
-use Rattle.teco_linear.specs.declared.term.Term.{Term}
-use Rattle.teco_linear.specs.Form.{Valuation, value, values}
-use Rattle.teco_linear.specs.Implied.{Holds, Implies}
-use Rattle.teco_rows.specs.declared.case.Case.{Case}
+use Rattle.teco_paths.proofs.Prelude.{◌≡◌, ℕ, refl, sym, ap, ◌∙◌, subst, arith, List, ◌++◌, Bool, Option, Some, None}
+use Rattle.teco_paths.proofs.Prelude.{pos, ◌≤ℤ◌, ◌-ℤ◌, is_some, unwrap_or, ints, All, Term, Valuation, value, values}
+use Rattle.teco_paths.proofs.Prelude.{Holds, Implies, Case, value_if, place, Point, IsShape, IsTrueOf, Describes}
+use Rattle.teco_paths.proofs.Prelude.{single, Typed, CutState, AreFilled, ArePresent, AreSymbols, ComesTo, filled_by}
+use Rattle.teco_paths.proofs.Prelude.{IsFact, Course, IsTypedWithin, most_typed, TypesNoMore, measure_of, numbers_of}
+use Rattle.teco_paths.proofs.Prelude.{Polynomial}
+use Rattle.std.specs.Prelude.{◌+◌, ◌≤◌, slice_index_or}
 use Rattle.teco_rows.specs.declared.case.Shape.{Shape}
-use Rattle.teco_rows.specs.Cases.{value_if}
-use Rattle.teco_rows.specs.Measures.{place}
-use Rattle.teco_rows.specs.States.{Point, IsShape, IsTrueOf, Describes, single}
-use Rattle.teco_rows.specs.declared.measure.Single.TheVariants.{Typed}
-use Rattle.teco_paths.specs.declared.cut.CutState.{CutState}
-use Rattle.teco_paths.specs.Claims.{AreClaimed, AreFilled, AreKnown, ArePresent, AreSymbols, ClaimHolds, ComesTo}
-use Rattle.teco_paths.specs.Claims.{HasPresent, filled_by}
-use Rattle.teco_paths.specs.Facts.{IsFact}
-use Rattle.teco_paths.specs.Paths.{Course}
-use Rattle.teco_promise.specs.Promise.{IsTypedWithin, most_typed}
-use Rattle.teco_paths.specs.Steps.{TypesNoMore}
-use Rattle.teco_paths.specs.Symbols.{measure_of, numbers_of}
+use Rattle.teco_paths.specs.Claims.{AreClaimed, AreKnown, ClaimHolds}
+use Rattle.teco_paths.specs.Claims.{HasPresent}
 use Rattle.teco_paths.proofs.Lists.{all_joined}
 use Rattle.teco_paths.proofs.Symbols.{marked, place_again, value_same}
 use Rattle.teco_poly.specs.Polynomial as poly
-use Rattle.teco_poly.specs.Polynomial.{Polynomial}
 
 -- a case of symbols is true of a state that is as a cut point says
 pub case_holds : (cut : CutState) (case : Case) (n : ℕ) (s : Point)

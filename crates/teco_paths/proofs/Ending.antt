@@ -1,17 +1,9 @@
 -- Runs end from cut points.
-use Rattle.std.proofs.Common.{◌≡◌, ◌⊎◌, inl, inr, ℕ, zero, suc, ◌+◌, ◌-◌, ◌<◌, ◌≤◌, Option, sym, ◌∙◌, subst, arith}
-use Rattle.std.proofs.lemmas.Bool.{cases_order}
-use Rattle.std.specs.List.{All, Any}
-use Rattle.teco_law_tables.specs.Staying.{NoFileCommands}
-use Rattle.teco_model.specs.Run.{Reaches}
-use Rattle.teco_model.specs.State.{State, End}
-use Rattle.teco_model.specs.Step.{step}
-use Rattle.teco_rows.specs.declared.case.Case.{Case}
-use Rattle.teco_flow_outcomes.specs.Law.{point_of}
-use Rattle.teco_rows.specs.States.{Describes}
-use Rattle.teco_paths.specs.Paths.{Course, Ends, IsAtCut, IsOf, CutsEnd, IsFollowed, Leads}
-use Rattle.teco_paths.specs.Runs.{Ground, IsAt, EndsBy, held_in}
-use Rattle.teco_promise.specs.Promise.{IsTypedWithin}
+use Rattle.teco_paths.proofs.Prelude.{◌≡◌, ◌⊎◌, inl, inr, ℕ, zero, suc, ◌+◌, ◌-◌, ◌<◌, ◌≤◌, Option, sym, ◌∙◌, subst}
+use Rattle.teco_paths.proofs.Prelude.{arith, cases_order, All, Any, NoFileCommands, Reaches, State, End, step, Case}
+use Rattle.teco_paths.proofs.Prelude.{point_of, Describes, Course, Ends, IsFollowed, Leads, Ground, IsAt, EndsBy}
+use Rattle.teco_paths.proofs.Prelude.{held_in, IsTypedWithin}
+use Rattle.teco_paths.specs.Paths.{IsAtCut, IsOf, CutsEnd}
 use Rattle.teco_paths.proofs.Walking.{none_on, none_yet, reached_none, reaches_here, reaches_on, run_on}
 use Rattle.teco_poly.specs.Polynomial.{value}
 

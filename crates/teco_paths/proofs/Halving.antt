@@ -1,15 +1,7 @@
 -- A path goes on where it does so with either of two constraints of which one holds.
-use Rattle.std.proofs.Common.{◌≡◌, List, [], ◌∷◌, subst, sym, refl, arith}
-use Rattle.std.specs.List.{All}
-use Rattle.std.specs.Prelude.{ℤ, pos, negsuc}
-use Rattle.std.proofs.lemmas.Int.{ints}
-use Rattle.teco_flow_outcomes.specs.Law.{point_of}
-use Rattle.teco_linear.specs.declared.term.Term.{Term}
-use Rattle.teco_linear.specs.Form.{value}
-use Rattle.teco_paths.specs.Paths.{Course, Ends, LeadsOn}
-use Rattle.teco_paths.specs.Runs.{IsAt}
-use Rattle.teco_paths.specs.Steps.{AreHalves, IsWith}
-use Rattle.teco_paths.specs.declared.spot.NodeCase.{NodeCase}
+use Rattle.teco_paths.proofs.Prelude.{◌≡◌, List, [], ◌∷◌, subst, sym, refl, arith, All, ℤ, pos, negsuc, ints, point_of}
+use Rattle.teco_paths.proofs.Prelude.{Term, value, Course, Ends, LeadsOn, IsAt, IsWith, NodeCase}
+use Rattle.teco_paths.specs.Steps.{AreHalves}
 
 pub halves_lead : (spot one other : NodeCase) (ahead end : List Term) → AreHalves ahead end
     → one.number ≡ spot.number → IsWith spot.case ahead one.case

@@ -1,15 +1,9 @@
 -- The cases behind a node, one by one.
-use Rattle.std.proofs.Common.{◌≡◌, ◌⊎◌, inl, inr, ℕ, zero, suc, refl, sym, subst, arith, List, [], ◌∷◌}
-use Rattle.std.proofs.Common.{◌++◌, length, Bool, true, false}
-use Rattle.std.specs.List.{Any}
-use Rattle.teco_rows.specs.declared.case.Case.{Case}
-use Rattle.teco_paths.specs.declared.spot.NodeCase.{NodeCase}
-use Rattle.teco_rows.specs.declared.outcomes.Outcomes.{Outcomes}
-use Rattle.teco_flow_outcomes.specs.Law.{point_of}
-use Rattle.teco_rows.specs.States.{Describes}
-use Rattle.teco_paths.specs.Steps.{AreKept, AreLeft, ArePossible, AreSpots, IsTarget, IsThere, Steps, cases_by}
+use Rattle.teco_paths.proofs.Prelude.{◌≡◌, ◌⊎◌, inl, inr, ℕ, zero, suc, refl, sym, subst, arith, List, [], ◌∷◌, ◌++◌}
+use Rattle.teco_paths.proofs.Prelude.{length, Bool, true, false, Any, Case, NodeCase, Outcomes, point_of, Describes}
+use Rattle.teco_paths.proofs.Prelude.{AreLeft, ArePossible, AreSpots, IsTarget, IsThere, Steps, cases_by, Node}
+use Rattle.teco_paths.specs.Steps.{AreKept}
 use Rattle.teco_paths.proofs.Lists.{any_back, any_front}
-use Rattle.teco_verifier.specs.expansion.Node.{Node}
 
 -- one of the first, or the last
 pub any_split : {X : Type 0} (P : X → Type 0) (xs : List X) (y : X) → Any P (xs ++ y ∷ []) → Any P xs ⊎ P y

@@ -1,44 +1,32 @@
 -- The law of an element, where a run stands at its node.
-use Rattle.std.proofs.Common.{◌≡◌, ℕ, ◌+◌, ◌<◌, ◌≤◌, refl, sym, ap, ◌∙◌, subst, arith, List, [], ◌∷◌}
-use Rattle.std.proofs.Common.{map, length, Bool, true, false, Some, Ok, ok_or, nat_lt}
-use Rattle.std.proofs.lemmas.Bool.{ltb-true}
-use Rattle.std.specs.Prelude.{⊤, is_some}
-use Rattle.teco_law_expansion.specs.Linked.{AreLinked, NodesAreSound}
-use Rattle.teco_law_facts.specs.SoundSteps.{AreOpen}
-use Rattle.teco_model.specs.Ahead.{Whole}
-use Rattle.teco_model.specs.declared.flow.Loop.{Loop}
+use Rattle.teco_paths.proofs.Prelude.{◌≡◌, ℕ, ◌+◌, ◌<◌, ◌≤◌, refl, sym, ap, ◌∙◌, subst, arith, List, [], ◌∷◌, map}
+use Rattle.teco_paths.proofs.Prelude.{length, Bool, true, false, Some, Ok, nat_lt, ltb-true, ⊤, is_some, AreLinked}
+use Rattle.teco_paths.proofs.Prelude.{NodesAreSound, AreOpen, Whole, Loop, Kind, Element, element_at, Files, Library}
+use Rattle.teco_paths.proofs.Prelude.{Needs, skip_of, route_of, State, step, Case, Outcomes, Goes, StepsTo, Comes}
+use Rattle.teco_paths.proofs.Prelude.{Ground, IsAt, IsMet, IsRead, LawAt, Node, numbered, Position, start_of}
+use Rattle.teco_paths.proofs.Prelude.{position_of, ways_at}
+use Rattle.std.proofs.Common.{ok_or}
 use Rattle.teco_model.specs.declared.kind.Flow.{Flow}
 use Rattle.teco_model.specs.declared.kind.Flow.TheVariants as flow
 use Rattle.teco_model.specs.declared.kind.Goal.TheVariants as goal
-use Rattle.teco_model.specs.declared.kind.Kind.{Kind}
 use Rattle.teco_model.specs.declared.kind.Kind.TheVariants as kind
 use Rattle.teco_model.specs.declared.kind.Page.{Page}
 use Rattle.teco_model.specs.declared.kind.Page.TheVariants as page
 use Rattle.teco_model.specs.declared.kind.Search.{Search}
-use Rattle.teco_model.specs.Element.{Element, element_at}
-use Rattle.teco_model.specs.Files.{Files}
-use Rattle.teco_model.specs.Macros.{Library, Needs}
 use Rattle.teco_model.specs.Searching.{has_colon}
-use Rattle.teco_model.specs.Skip.{skip_of, route_of}
-use Rattle.teco_model.specs.State.{State, frame_of}
-use Rattle.teco_model.specs.Step.{step}
+use Rattle.teco_model.specs.State.{frame_of}
 use Rattle.teco_model.proofs.Chains.{bound, some_of}
-use Rattle.teco_rows.specs.declared.case.Case.{Case}
-use Rattle.teco_rows.specs.declared.outcomes.Outcomes.{Outcomes}
 use Rattle.teco_rows.specs.States.{Origin}
-use Rattle.teco_flow_outcomes.specs.Law.{Goes, IsOfIteration, Law, LeadsOn, StandsAt, StepsTo}
-use Rattle.teco_search_outcomes.specs.PageSearches.{Comes, LongLaw}
+use Rattle.teco_flow_outcomes.specs.Law.{IsOfIteration, Law, LeadsOn, StandsAt}
+use Rattle.teco_search_outcomes.specs.PageSearches.{LongLaw}
 use Rattle.teco_search_outcomes.specs.Pages.{IsOpenFor, PageLaw}
 use Rattle.teco_search_outcomes.specs.Searches.{IsAsked, SearchLaw}
-use Rattle.teco_paths.specs.Runs.{Ground, IsAt}
-use Rattle.teco_paths.specs.Steps.{HasPair, IsMet, IsRead, LawAt}
+use Rattle.teco_paths.specs.Steps.{HasPair}
 use Rattle.teco_paths.proofs.Lists.{node_of}
 use Rattle.teco_paths.proofs.Standing.{linked_here, mapped, position_here, reads_here}
-use Rattle.teco_verifier.specs.expansion.Node.{Node, numbered}
-use Rattle.teco_verifier.specs.expansion.Position.{Position, start_of, position_of}
 use Rattle.teco_verifier.specs.expansion.Refusal.{Unpaired}
 use Rattle.teco_verifier.specs.expansion.Ways.{past, jumped, jump_way, way_or_jump, end_ways, leave_ways, ahead_ways}
-use Rattle.teco_verifier.specs.expansion.Ways.{flow_ways, search_ways, element_ways, ways_at}
+use Rattle.teco_verifier.specs.expansion.Ways.{flow_ways, search_ways, element_ways}
 
 -- ---- an element has its pair
 abbrev JumpPlace : Element → Position → Type 0

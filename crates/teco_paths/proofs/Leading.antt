@@ -1,27 +1,18 @@
 -- To which node a step leads.
-use Rattle.std.proofs.Common.{◌≡◌, ◌⊎◌, inl, inr, ℕ, zero, suc, ◌≤◌, refl, sym, ap, ◌∙◌, subst, arith, List, ◌++◌}
-use Rattle.std.proofs.Common.{length}
-use Rattle.std.proofs.Common.{Bool, true, false, Option, Some, None, slice_get}
-use Rattle.teco_law_expansion.specs.Iterations.{IterationsAreOpen}
-use Rattle.teco_law_expansion.specs.Run.{GoesTo, StepsGoAlongNodes}
+use Rattle.teco_paths.proofs.Prelude.{◌≡◌, ◌⊎◌, inl, inr, ℕ, zero, suc, ◌≤◌, refl, sym, ap, ◌∙◌, subst, arith, List}
+use Rattle.teco_paths.proofs.Prelude.{◌++◌, length, Bool, true, false, Option, Some, None, slice_get, IterationsAreOpen}
+use Rattle.teco_paths.proofs.Prelude.{GoesTo, StepsGoAlongNodes, Whole, Test, Element, skip_of, Frames, State, Case}
+use Rattle.teco_paths.proofs.Prelude.{loops_in, point_of, IsShape, Ground, StandsBy, GoesBy, IsTarget, IsTold, Steps}
+use Rattle.teco_paths.proofs.Prelude.{Node, stands, numbered}
 use Rattle.teco_law_expansion.specs.Was.{Turns, ElementWas, StepWas}
-use Rattle.teco_model.specs.Ahead.{Whole}
 use Rattle.teco_model.specs.declared.kind.Flow.TheVariants as flow
 use Rattle.teco_model.specs.declared.kind.Kind.TheVariants as kind
-use Rattle.teco_model.specs.declared.kind.Test.{Test}
-use Rattle.teco_model.specs.Element.{Element}
 use Rattle.teco_model.specs.Flow.{Turn}
-use Rattle.teco_model.specs.Skip.{skip_of}
-use Rattle.teco_model.specs.State.{Frames, State}
-use Rattle.teco_rows.specs.declared.case.Case.{Case}
-use Rattle.teco_flow_outcomes.specs.Law.{loops_in, place_away, point_of}
-use Rattle.teco_rows.specs.States.{IsShape}
-use Rattle.teco_paths.specs.Runs.{Ground, StandsBy}
-use Rattle.teco_paths.specs.Steps.{AreApart, GoesBy, IsTarget, IsTest, IsTold, IsToldApart, Steps}
+use Rattle.teco_flow_outcomes.specs.Law.{place_away}
+use Rattle.teco_paths.specs.Steps.{AreApart, IsTest, IsToldApart}
 use Rattle.teco_paths.proofs.Lists.{node_of, none_behind, none_third}
 use Rattle.teco_paths.proofs.Skipping.{test_skips}
 use Rattle.teco_paths.proofs.Standing.{as_many, went, stands_there}
-use Rattle.teco_verifier.specs.expansion.Node.{Node, stands, numbered}
 
 -- the place where the text goes on
 away_at : (t : Test) (e : Element) (s : State) (place : ℕ) → e.kind ≡ kind.Flow (flow.Test t)

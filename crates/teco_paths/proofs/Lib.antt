@@ -1,4 +1,5 @@
 -- Lemmas of paths.
+mod Prelude
 pub mod Walking
 pub mod Ending
 pub mod Symbols

@@ -1,11 +1,11 @@
 -- Lists by place.
-use Rattle.std.proofs.Common.{◌≡◌, ◌⊎◌, inl, inr, ℕ, zero, suc, ◌+◌, ◌<◌, ◌≤◌, refl, sym, ap, ◌∙◌, subst, arith}
-use Rattle.std.proofs.Common.{Bool, true, false, List, [], ◌∷◌, ◌++◌, map, length, Some, None, slice_get}
+use Rattle.teco_paths.proofs.Prelude.{◌≡◌, ◌⊎◌, inl, inr, ℕ, zero, suc, ◌+◌, ◌<◌, ◌≤◌, refl, sym, ap, ◌∙◌, subst, arith}
+use Rattle.teco_paths.proofs.Prelude.{Bool, true, false, List, [], ◌∷◌, ◌++◌, map, length, Some, None, slice_get}
+use Rattle.teco_paths.proofs.Prelude.{cases_order, All, Any, Stand, Node, stands, numbered}
 use Rattle.std.specs.Prelude.{slice_index_or}
-use Rattle.std.proofs.lemmas.Bool.{cases_order}
 use Rattle.std.proofs.lemmas.List.Elements.{All-nil, All-cons}
-use Rattle.std.specs.List.{All, Any, items_where_true}
-use Rattle.teco_verifier.specs.expansion.Node.{Stand, Node, over, stand_of_node, stands, numbered}
+use Rattle.std.specs.List.{items_where_true}
+use Rattle.teco_verifier.specs.expansion.Node.{over, stand_of_node}
 
 pub got : {X : Type 0} (xs : List X) (k : ℕ) → k < length xs → (x : X) × (slice_get xs k ≡ Some x)
 got [] k l = absurd (omega arith)

@@ -1,24 +1,14 @@
 -- Paths from spot to spot.
-use Rattle.std.proofs.lemmas.Bool.{cases_order}
-use Rattle.std.proofs.Common.{◌≡◌, ◌⊎◌, inl, inr, ℕ, zero, suc, ◌+◌, ◌-◌, ◌<◌, ◌≤◌, refl, sym, ap, ◌∙◌, subst, arith}
-use Rattle.std.proofs.Common.{List, [], ◌∷◌, ◌++◌, length}
+use Rattle.teco_paths.proofs.Prelude.{cases_order, ◌≡◌, ◌⊎◌, inl, inr, ℕ, zero, suc, ◌+◌, ◌-◌, ◌<◌, ◌≤◌, refl, sym, ap}
+use Rattle.teco_paths.proofs.Prelude.{◌∙◌, subst, arith, List, [], ◌∷◌, ◌++◌, length, All, Case, point_of, CutState}
+use Rattle.teco_paths.proofs.Prelude.{NodeCase, ComesTo, IsCaseOf, Arrives, Course, IsFollowed, Leads, LeadsOn, IsAt}
+use Rattle.teco_paths.proofs.Prelude.{held_in, most_typed, GoOn, IsInTime, IsSharper, IsSmall, IsThere, TypesNoMore}
+use Rattle.teco_paths.proofs.Prelude.{numbers_of, Stand, stands, numbered}
 use Rattle.std.specs.Prelude.{slice_index_or}
-use Rattle.std.specs.List.{All}
 use Rattle.teco_law_expansion.specs.Run.{RunsEnd}
-use Rattle.teco_rows.specs.declared.case.Case.{Case}
-use Rattle.teco_flow_outcomes.specs.Law.{point_of}
-use Rattle.teco_paths.specs.declared.cut.CutState.{CutState}
-use Rattle.teco_paths.specs.declared.spot.NodeCase.{NodeCase}
-use Rattle.teco_paths.specs.Claims.{ComesTo, IsCaseOf}
-use Rattle.teco_paths.specs.Paths.{Arrives, Course, IsFollowed, Leads, LeadsOn}
-use Rattle.teco_paths.specs.Runs.{IsAt, held_in}
-use Rattle.teco_promise.specs.Promise.{most_typed}
-use Rattle.teco_paths.specs.Steps.{GoOn, IsInTime, IsSharper, IsSmall, IsThere, TypesNoMore}
 use Rattle.teco_paths.proofs.Ending.{cut_here, cuts_later, cuts_on, ends_here, ends_on}
 use Rattle.teco_paths.proofs.Lists.{all_both, over_behind}
-use Rattle.teco_paths.specs.Symbols.{numbers_of}
 use Rattle.teco_poly.specs.Polynomial.{value}
-use Rattle.teco_verifier.specs.expansion.Node.{Stand, stands, numbered}
 
 -- from the spots behind one
 pub leads_by : (course : Course) (number : ℕ) (case : Case) (spots : List NodeCase) → IsSmall course case

@@ -1,19 +1,13 @@
 -- A step that changes nothing but the text that is executed.
-use Rattle.std.proofs.Common.{◌⊎◌, inl, inr, refl, sym, subst, List, [], ◌++◌, false, Result, Ok, Err, IfOk}
-use Rattle.std.specs.List.{Any}
+use Rattle.teco_paths.proofs.Prelude.{◌⊎◌, inl, inr, refl, sym, subst, List, [], ◌++◌, false, Result, Ok, Err, IfOk}
+use Rattle.teco_paths.proofs.Prelude.{Any, Element, Frame, Case, Outcomes, turned, Point, Describes, Passes}
 use Rattle.std.proofs.lemmas.List.{append-nil}
 use Rattle.teco_model.specs.declared.kind.Flow.TheVariants as flow
 use Rattle.teco_model.specs.declared.kind.Kind.TheVariants as kind
-use Rattle.teco_model.specs.Element.{Element}
 use Rattle.teco_model.specs.Flow.{turn_past}
-use Rattle.teco_model.specs.State.{Frame}
-use Rattle.teco_rows.specs.declared.case.Case.{Case}
-use Rattle.teco_rows.specs.declared.fault.Fault.{Fault}
-use Rattle.teco_rows.specs.declared.outcomes.Outcomes.{Outcomes}
-use Rattle.teco_flow_outcomes.specs.Flow.{IsTurnOf, Turns, turned}
+use Rattle.teco_rows.specs.declared.fault.RowFault.{RowFault}
+use Rattle.teco_flow_outcomes.specs.Flow.{IsTurnOf, Turns}
 use Rattle.teco_flow_outcomes.specs.Law.{IsMatched}
-use Rattle.teco_rows.specs.States.{Point, Describes}
-use Rattle.teco_paths.specs.Steps.{Passes}
 
 abbrev here : Element
 here = record { kind = kind.Flow flow.EndTest; colons = 0; at = false; text = []; second = []; place = 0; next = 0 }
@@ -38,7 +32,7 @@ passes case all turns n v s begins =
     by (inl t) = inl (same all.cases.items t.described)
     by (inr a) = inr (same all.away.items a.2.described)
 
-pub passes_if : (case : Case) (r : Result Outcomes Fault) → IfOk r (λ all. Turns flow.EndTest 0 case all)
+pub passes_if : (case : Case) (r : Result Outcomes RowFault) → IfOk r (λ all. Turns flow.EndTest 0 case all)
     → IfOk r (λ all. Passes case all)
 passes_if case (Ok all) h = passes case all h
 passes_if case (Err e) h = tt

@@ -1,10 +1,7 @@
 -- Polynomials, term by term.
-use Rattle.std.proofs.Common.{◌≡◌, ℕ, zero, suc, ◌+◌, ◌*◌, ◌^◌, ◌<◌, ◌≤◌, refl, sym, ap, ◌∙◌, arith, List, [], ◌∷◌}
-use Rattle.std.proofs.Common.{◌++◌, length, take}
-use Rattle.std.proofs.Common.{get_or}
+use Rattle.teco_paths.proofs.Prelude.{◌≡◌, ℕ, zero, suc, ◌+◌, ◌*◌, ◌^◌, ◌<◌, ◌≤◌, refl, sym, ap, ◌∙◌, arith, List, []}
+use Rattle.teco_paths.proofs.Prelude.{◌∷◌, ◌++◌, length, take, get_or, ints, pos, ◌*ℤ◌}
 use Rattle.std.proofs.Math.Nat.{pow-zero, pow-suc}
-use Rattle.std.proofs.lemmas.Int.{ints}
-use Rattle.std.specs.Prelude.{pos, ◌*ℤ◌}
 use Rattle.teco_poly.specs.Polynomial.{value, value_from}
 
 more_from : (p : List ℕ) (k from n d : ℕ) → k < length p

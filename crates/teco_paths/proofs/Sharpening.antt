@@ -1,18 +1,10 @@
 -- What is known of a case besides.
-use Rattle.std.proofs.Common.{◌≡◌, ◌⊎◌, inl, inr, ℕ, ◌+◌, ◌<◌, ◌≤◌, arith, List, length}
-use Rattle.std.specs.Prelude.{ℤ, pos, ◌+ℤ◌, ◌-ℤ◌, ◌≤ℤ◌}
-use Rattle.std.proofs.lemmas.Bool.{cases_order}
-use Rattle.std.proofs.lemmas.Int.{ints}
+use Rattle.teco_paths.proofs.Prelude.{◌≡◌, ◌⊎◌, inl, inr, ℕ, ◌+◌, ◌<◌, ◌≤◌, arith, List, length, ℤ, pos, ◌+ℤ◌, ◌-ℤ◌}
+use Rattle.teco_paths.proofs.Prelude.{◌≤ℤ◌, cases_order, ints, Term, Valuation, value, Implies, Case, Pointer, Size}
+use Rattle.teco_paths.proofs.Prelude.{LineEnd, Point, IsTrueOf, single, line_end, IsSharper, IsWith}
 use Rattle.teco_base.specs.Lines.{line_place}
-use Rattle.teco_linear.specs.declared.term.Term.{Term}
-use Rattle.teco_linear.specs.Form.{Valuation, value}
-use Rattle.teco_linear.specs.Implied.{Implies}
-use Rattle.teco_rows.specs.declared.case.Case.{Case}
 use Rattle.teco_rows.specs.declared.measure.Single.{Single}
-use Rattle.teco_rows.specs.declared.measure.Single.TheVariants.{Pointer, Size, LineEnd}
-use Rattle.teco_rows.specs.States.{Point, IsTrueOf, single}
-use Rattle.teco_rows.proofs.Lines.{IsEnd, line_end}
-use Rattle.teco_paths.specs.Steps.{IsSharper, IsWith}
+use Rattle.teco_rows.proofs.Lines.{IsEnd}
 
 -- a form is the measure that a state has once
 abbrev Measures : Case → Single → List Term → Type 0

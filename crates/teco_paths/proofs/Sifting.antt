@@ -1,9 +1,6 @@
 -- Of cases those that may be.
-use Rattle.std.proofs.Common.{◌≡◌, ◌⊎◌, inl, inr, arith, List, [], ◌∷◌, ◌++◌, length}
-use Rattle.std.specs.List.{Any}
-use Rattle.teco_rows.specs.declared.case.Case.{Case}
-use Rattle.teco_rows.specs.States.{Describes}
-use Rattle.teco_paths.specs.Steps.{ArePossible, AreSifted, IsImpossible}
+use Rattle.teco_paths.proofs.Prelude.{◌≡◌, ◌⊎◌, inl, inr, arith, List, [], ◌∷◌, ◌++◌, length, Any, Case, Describes}
+use Rattle.teco_paths.proofs.Prelude.{ArePossible, AreSifted, IsImpossible}
 use Rattle.teco_paths.proofs.Keeping.{any_one, any_split}
 use Rattle.teco_paths.proofs.Lists.{any_back, any_front}
 

@@ -1,12 +1,10 @@
 -- A test that does not hold leads further than one that does.
-use Rattle.std.proofs.Common.{◌≡◌, ℕ, zero, suc, ◌<◌, refl, subst, arith, List, [], ◌∷◌, length}
-use Rattle.std.proofs.Common.{Option, Some, None, option_map}
-use Rattle.teco_model.specs.Ahead.{Reading, Whole, Faulty, next_of, reading_at, first_readings, readings}
-use Rattle.teco_model.specs.Element.{Element}
-use Rattle.teco_model.specs.Skip.{bracket, inner_behind, pair_end, route_of, skip_on, skip_of}
+use Rattle.teco_paths.proofs.Prelude.{◌≡◌, ℕ, zero, suc, ◌<◌, refl, subst, arith, List, [], ◌∷◌, length, Option, Some}
+use Rattle.teco_paths.proofs.Prelude.{None, option_map, Whole, Element, route_of, skip_of, Test}
+use Rattle.teco_model.specs.Ahead.{Reading, Faulty, next_of, reading_at, first_readings, readings}
+use Rattle.teco_model.specs.Skip.{bracket, inner_behind, pair_end, skip_on}
 use Rattle.teco_model.specs.declared.kind.Flow.TheVariants as flow
 use Rattle.teco_model.specs.declared.kind.Kind.TheVariants as kind
-use Rattle.teco_model.specs.declared.kind.Test.{Test}
 use Rattle.teco_model.specs.declared.skip.Pairs.{Pairs}
 use Rattle.teco_model.specs.declared.skip.Pairs.TheVariants.{Branches}
 use Rattle.teco_model.proofs.Ahead.{reading_at-advances}

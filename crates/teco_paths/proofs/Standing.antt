@@ -1,21 +1,16 @@
 -- Where a run stands, and what is read there.
-use Rattle.std.proofs.Common.{◌≡◌, ℕ, suc, ◌+◌, refl, sym, ap, ◌∙◌, subst, arith, List, [], ◌∷◌, ◌++◌, map, length}
-use Rattle.std.proofs.Common.{Some, None, Ok, length-append}
-use Rattle.teco_law_expansion.specs.Iterations.{AreOpenIn, AreOpen, IterationsAreOpen}
-use Rattle.teco_law_expansion.specs.Linked.{AreLinked, IsLinked, NodesAreSound}
-use Rattle.teco_law_expansion.specs.Run.{GoesTo, MovesFrom, Went, Stayed, StepsGoAlongNodes}
-use Rattle.teco_law_expansion.specs.Steps.{IsLeftAt}
-use Rattle.teco_model.specs.declared.flow.Loop.{Loop}
-use Rattle.teco_model.specs.Element.{element_at}
-use Rattle.teco_model.specs.Macros.{IsLoaded}
-use Rattle.teco_model.specs.State.{Frame, State, Next}
-use Rattle.teco_model.specs.Step.{step}
+use Rattle.teco_paths.proofs.Prelude.{◌≡◌, ℕ, suc, ◌+◌, refl, sym, ap, ◌∙◌, subst, arith, List, [], ◌∷◌, ◌++◌, map}
+use Rattle.teco_paths.proofs.Prelude.{length, Some, None, Ok, IterationsAreOpen, AreLinked, NodesAreSound, GoesTo}
+use Rattle.teco_paths.proofs.Prelude.{StepsGoAlongNodes, IsLeftAt, Loop, element_at, IsLoaded, Frame, State, Next, step}
+use Rattle.teco_paths.proofs.Prelude.{loops_in, Ground, StandsBy, Node, Stand, stands, numbered, Position, start_of}
+use Rattle.teco_paths.proofs.Prelude.{spot_of, position_of}
+use Rattle.std.proofs.Common.{length-append}
+use Rattle.teco_law_expansion.specs.Iterations.{AreOpenIn, AreOpen}
+use Rattle.teco_law_expansion.specs.Linked.{IsLinked}
+use Rattle.teco_law_expansion.specs.Run.{MovesFrom, Went, Stayed}
 use Rattle.teco_model.proofs.Ahead.{element_at-again}
-use Rattle.teco_flow_outcomes.specs.Law.{loops_in}
-use Rattle.teco_paths.specs.Runs.{Ground, StandsBy}
 use Rattle.teco_paths.proofs.Lists.{same_stand}
-use Rattle.teco_verifier.specs.expansion.Node.{Node, Stand, stands, numbered}
-use Rattle.teco_verifier.specs.expansion.Position.{Spot, Position, starts_in, start_of, spot_of, position_of}
+use Rattle.teco_verifier.specs.expansion.Position.{Spot, starts_in}
 use Rattle.teco_verifier.specs.expansion.Ways.{read_at}
 
 -- as many iterations are open as a node has numbers

@@ -1,56 +1,38 @@
 -- One step of a path.
-use Rattle.std.proofs.lemmas.Bool.{cases_order}
-use Rattle.std.proofs.Common.{◌≡◌, ◌⊎◌, inl, inr, ℕ, zero, suc, ◌+◌, ◌<◌, ◌≤◌, refl, sym, ap, ◌∙◌, subst, arith}
-use Rattle.std.proofs.Common.{List, [], ◌∷◌, ◌++◌, map, length, Bool, true, false, Option, Some, None, Ok}
-use Rattle.std.specs.List.{All, Any}
-use Rattle.std.specs.Prelude.{is_some}
-use Rattle.std.specs.Option.{option_map_or}
-use Rattle.teco_law_expansion.specs.Linked.{AreLinked, Lead, NodesAreSound}
+use Rattle.teco_paths.proofs.Prelude.{cases_order, ◌≡◌, ◌⊎◌, inl, inr, ℕ, zero, suc, ◌+◌, ◌<◌, ◌≤◌, refl, sym, ap, ◌∙◌}
+use Rattle.teco_paths.proofs.Prelude.{subst, arith, List, [], ◌∷◌, ◌++◌, map, length, Bool, true, false, Option, Some}
+use Rattle.teco_paths.proofs.Prelude.{None, Ok, All, Any, is_some, option_map_or, AreLinked, NodesAreSound}
+use Rattle.teco_paths.proofs.Prelude.{StepsGoAlongNodes, AreOpen, IsLeftAt, NoFileCommands, changes_files, is_of_files}
+use Rattle.teco_paths.proofs.Prelude.{Term, Valuation, Holds, Implies, Loop, Kind, Element, element_at, Files, IsLoaded}
+use Rattle.teco_paths.proofs.Prelude.{Library, Needs, Reaches, run, Frame, Frames, State, Outcome, Next, step, text_in}
+use Rattle.teco_paths.proofs.Prelude.{Case, Guarded, Outcomes, turned, Goes, StepsTo, loops_in, point_of, Describes}
+use Rattle.teco_paths.proofs.Prelude.{IsTrueOf, NodeCase, Comes, Ground, IsAt, held_in, AreSpots, GoOn, GoesBy, AreMet}
+use Rattle.teco_paths.proofs.Prelude.{IsKept, IsPlain, IsRead, IsTold, LawAt, Passes, cases_by, Node, Stand, numbered}
+use Rattle.teco_paths.proofs.Prelude.{Position, start_of, spot_of, ways_at}
+use Rattle.teco_law_expansion.specs.Linked.{Lead}
 use Rattle.teco_law_expansion.specs.Loaded.{StaysLoaded}
-use Rattle.teco_law_expansion.specs.Run.{StepsGoAlongNodes}
 use Rattle.teco_law_facts.specs.Wholeness.{IsWholeState, IsWholeOutcome, WholeIsKept}
-use Rattle.teco_law_facts.specs.SoundSteps.{AreOpen}
-use Rattle.teco_law_expansion.specs.Steps.{IsLeftAt}
-use Rattle.teco_law_tables.specs.Staying.{AreAsOpen, FilesStayOpen, NoFileCommands, changes_files, is_of_files}
-use Rattle.teco_linear.specs.declared.term.Term.{Term}
-use Rattle.teco_linear.specs.Form.{Valuation}
-use Rattle.teco_linear.specs.Implied.{Holds, Implies}
-use Rattle.teco_model.specs.declared.flow.Loop.{Loop}
+use Rattle.teco_law_tables.specs.Staying.{AreAsOpen, FilesStayOpen}
 use Rattle.teco_model.specs.declared.kind.Call.{Call}
 use Rattle.teco_model.specs.declared.kind.Command.TheVariants as command
-use Rattle.teco_model.specs.declared.kind.Kind.{Kind}
 use Rattle.teco_model.specs.declared.kind.Kind.TheVariants as kind
 use Rattle.teco_model.specs.declared.kind.Stack.TheVariants as stack
 use Rattle.teco_model.specs.declared.kind.Storage.TheVariants as storage
-use Rattle.teco_model.specs.Element.{Element, element_at}
-use Rattle.teco_model.specs.Files.{Files}
-use Rattle.teco_model.specs.Macros.{IsLoaded, Library, Needs, is_macro}
-use Rattle.teco_model.specs.Run.{Reaches, run}
-use Rattle.teco_model.specs.State.{Frame, Frames, State, Outcome, Next}
-use Rattle.teco_model.specs.Step.{step, end_outcome, end_of_text, outcome_at, outcome_of, reply_of}
-use Rattle.teco_model.specs.Storage.{text_in}
+use Rattle.teco_model.specs.Macros.{is_macro}
+use Rattle.teco_model.specs.Step.{end_outcome, end_of_text, outcome_at, outcome_of, reply_of}
 use Rattle.teco_model.specs.Going.{frames_in}
 use Rattle.teco_model.proofs.Chains.{ok}
-use Rattle.teco_rows.specs.declared.case.Case.{Case}
-use Rattle.teco_rows.specs.declared.outcomes.Guarded.{Guarded}
-use Rattle.teco_rows.specs.declared.outcomes.Outcomes.{Outcomes}
-use Rattle.teco_flow_outcomes.specs.Flow.{turned}
 use Rattle.teco_rows.specs.Foretold.{Begins, IsGuarded}
-use Rattle.teco_flow_outcomes.specs.Law.{Goes, StepsTo, loops_in, point_of}
-use Rattle.teco_rows.specs.States.{Describes, IsTrueOf}
-use Rattle.teco_paths.specs.declared.spot.NodeCase.{NodeCase}
-use Rattle.teco_search_outcomes.specs.PageSearches.{Comes, IsStill}
-use Rattle.teco_paths.specs.Runs.{Ground, IsAt, held_in}
-use Rattle.teco_paths.specs.Steps.{AreSpots, GoOn, GoesBy, GoesByFrames, GoesOn, IsCall, IsDuring, IsEndOrCall}
-use Rattle.teco_paths.specs.Steps.{AreMet, IsKept, IsPlain, IsRead, IsTextEnd, IsTold, LawAt, Passes, cases_by}
+use Rattle.teco_search_outcomes.specs.PageSearches.{IsStill}
+use Rattle.teco_paths.specs.Steps.{GoesByFrames, GoesOn, IsCall, IsDuring, IsEndOrCall}
+use Rattle.teco_paths.specs.Steps.{IsTextEnd}
 use Rattle.teco_paths.proofs.Lists.{node_of}
 use Rattle.teco_paths.proofs.Standing.{left_behind, position_here, linked_here, reads_here, reads_there}
 use Rattle.teco_paths.proofs.Walking.{none_more, none_yet, one_step, reached_none, reaches_here, reaches_on, reads_none}
 use Rattle.teco_paths.proofs.Walking.{same_next}
 use Rattle.teco_verifier.specs.expansion.Names.{named_by, written_by, names_macro, writes_macro}
-use Rattle.teco_verifier.specs.expansion.Node.{Node, Stand, numbered}
-use Rattle.teco_verifier.specs.expansion.Position.{Position, position_of_frames, start_of, spot_of}
-use Rattle.teco_verifier.specs.expansion.Ways.{return_ways, ways_at}
+use Rattle.teco_verifier.specs.expansion.Position.{position_of_frames}
+use Rattle.teco_verifier.specs.expansion.Ways.{return_ways}
 
 -- ---- what comes of a step
 steps_to : (P : State → Type 0) (o : Outcome) → StepsTo P o → (t : State) × (o ≡ Next t) × P t

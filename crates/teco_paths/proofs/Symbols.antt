@@ -1,20 +1,15 @@
 -- Places and their measures.
-use Rattle.std.proofs.Common.{◌≡◌, ℕ, zero, suc, ◌+◌, ◌-◌, ◌*◌, ◌/◌, ◌%◌, ◌<◌, ◌≤◌, refl, ap, ◌∙◌, arith, List, [], ◌∷◌}
-use Rattle.std.proofs.Common.{Bool, true, false, Option, Some, None, nat_lt, if◌then◌else◌}
-use Rattle.std.specs.Prelude.{ℤ, pos, ◌+ℤ◌, ◌*ℤ◌, ◌^◌, is_some, unwrap_or, slice_index_or}
-use Rattle.std.proofs.lemmas.Bool.{ltb-true, ltb-false}
-use Rattle.teco_linear.specs.declared.term.Term.{Term}
-use Rattle.teco_linear.specs.Form.{Valuation, symbol_value, term_value, value}
-use Rattle.teco_rows.specs.declared.measure.Single.TheVariants.{Steps, Pointer, Size, Held, LineEnd, LineStart}
-use Rattle.teco_rows.specs.declared.measure.Single.TheVariants.{LastLength, CodeHere, CodeBefore, Typed}
-use Rattle.teco_rows.specs.declared.measure.Family.{Family}
-use Rattle.teco_rows.specs.declared.measure.Family.TheVariants.{Number, Length, Turns, PushedNumber, PushedLength}
-use Rattle.teco_rows.specs.declared.measure.Family.TheVariants.{First, Value}
-use Rattle.teco_rows.specs.declared.measure.Measure.{Measure}
-use Rattle.teco_rows.specs.declared.measure.Measure.TheVariants.{One, Each}
-use Rattle.teco_rows.specs.Measures.{single_code, family_code, place}
-use Rattle.teco_rows.specs.States.{Point, measures_of}
-use Rattle.teco_paths.specs.Symbols.{single_of, family_of, measure_of, numbers_of}
+use Rattle.teco_paths.proofs.Prelude.{◌≡◌, ℕ, zero, suc, ◌+◌, ◌-◌, ◌*◌, ◌/◌, ◌%◌, ◌<◌, ◌≤◌, refl, ap, ◌∙◌, arith, List}
+use Rattle.teco_paths.proofs.Prelude.{[], ◌∷◌, Bool, true, false, Option, Some, None, nat_lt, if◌then◌else◌, ℤ, pos}
+use Rattle.teco_paths.proofs.Prelude.{◌+ℤ◌, ◌*ℤ◌, is_some, unwrap_or, ltb-true, ltb-false, Term, Valuation, value}
+use Rattle.teco_paths.proofs.Prelude.{Pointer, Size, LineEnd, Typed, Family, Number, Length, Turns, PushedNumber}
+use Rattle.teco_paths.proofs.Prelude.{PushedLength, First, Value, Measure, One, Each, place, Point, measures_of}
+use Rattle.teco_paths.proofs.Prelude.{single_of, family_of, measure_of, numbers_of}
+use Rattle.std.specs.Prelude.{◌^◌, slice_index_or}
+use Rattle.teco_linear.specs.Form.{symbol_value, term_value}
+use Rattle.teco_rows.specs.declared.measure.Single.TheVariants.{Steps, Held, LineStart}
+use Rattle.teco_rows.specs.declared.measure.Single.TheVariants.{LastLength, CodeHere, CodeBefore}
+use Rattle.teco_rows.specs.Measures.{single_code, family_code}
 
 single_again : (k : ℕ) → k < 10 → single_code (single_of k) ≡ k
 single_again zero l = refl

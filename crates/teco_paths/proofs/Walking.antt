@@ -1,13 +1,10 @@
 -- Runs, step by step.
-use Rattle.std.proofs.Common.{◌≡◌, ◌⊎◌, inl, inr, ℕ, zero, suc, ◌+◌, ◌-◌, ◌<◌, refl, sym, ap, ◌∙◌, subst, arith}
-use Rattle.std.proofs.Common.{false, Option, Result, Ok}
-use Rattle.std.proofs.lemmas.Bool.{cases_order}
+use Rattle.teco_paths.proofs.Prelude.{◌≡◌, ◌⊎◌, inl, inr, ℕ, zero, suc, ◌+◌, ◌-◌, ◌<◌, refl, sym, ap, ◌∙◌, subst, arith}
+use Rattle.teco_paths.proofs.Prelude.{false, Option, Result, Ok, cases_order, changes_files, NoFileCommands, Element}
+use Rattle.teco_paths.proofs.Prelude.{element_at, Reaches, run, State, Next, step}
 use Rattle.teco_base.specs.declared.code.Code.{Code}
-use Rattle.teco_law_tables.specs.Staying.{changes_files, ReadsNoFileCommand, NoFileCommands}
-use Rattle.teco_model.specs.Element.{Element, element_at}
-use Rattle.teco_model.specs.Run.{Reaches, run, go_on}
-use Rattle.teco_model.specs.State.{State, Next}
-use Rattle.teco_model.specs.Step.{step}
+use Rattle.teco_law_tables.specs.Staying.{ReadsNoFileCommand}
+use Rattle.teco_model.specs.Run.{go_on}
 
 -- steps behind steps
 pub run_on : (k : ℕ) (s u : State) → Reaches k s u → (m : ℕ) → run (k + m) s ≡ run m u

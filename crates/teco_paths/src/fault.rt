@@ -4,7 +4,7 @@ ghost use Rattle.teco_paths.specs.declared.fault.PathFault.TheVariants.{Memory, 
 
 use std::alloc::{AllocError, AllocFailed};
 use teco_linear::LinearFault;
-use teco_rows::fault::Fault;
+use teco_rows::fault::RowFault;
 use teco_simplex::SimplexFault;
 use thiserror::Error;
 
@@ -74,10 +74,10 @@ impl From<LinearFault> for PathFault {
     }
 }
 
-impl From<Fault> for PathFault {
-    fn from(refused: Fault) -> PathFault {
+impl From<RowFault> for PathFault {
+    fn from(refused: RowFault) -> PathFault {
         match refused {
-            Fault::Linear(refused) => PathFault::from(refused),
+            RowFault::Linear(refused) => PathFault::from(refused),
             _ => PathFault::Unknown,
         }
     }

@@ -15,14 +15,14 @@ use teco_model::kind::{Flow, Page, Search};
 use teco_model::{Element, Kind, Needs};
 use teco_outcomes::elements::outcomes_of;
 use teco_rows::case::Case;
-use teco_rows::fault::Fault;
+use teco_rows::fault::RowFault;
 use teco_rows::outcomes::Outcomes;
 use teco_search_outcomes::page_searches::search_pages;
 use teco_search_outcomes::pages::{read_pages, write_pages};
 use teco_search_outcomes::searches::search;
 
 /// The outcomes of a step that changes nothing but the text that is executed.
-pub fn passing(case: &Case, alloc: Global) -> Result<Outcomes, Fault>
+pub fn passing(case: &Case, alloc: Global) -> Result<Outcomes, RowFault>
     ensures { IfOk result (λ all. Passes case.now all) }
 {
     turn(case, Flow::EndTest, 0, alloc)
@@ -46,7 +46,7 @@ fn is_told(answers: bool, is_inside: bool) -> bool
 }
 
 // The outcomes of a command on pages.
-fn told_of(case: &Case, page: Page, alloc: Global) -> Result<Outcomes, Fault>
+fn told_of(case: &Case, page: Page, alloc: Global) -> Result<Outcomes, RowFault>
     ensures { IfOk result (λ all. (e : model.Element) → e.kind ≡ kinds.Page page → PageLaw page e case.now all) }
 {
     match page {

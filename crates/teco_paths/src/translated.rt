@@ -10,16 +10,16 @@ use teco_linear::{Form, Term};
 use teco_rows::measure::{Family, Measure, Single};
 
 // The measure that a state has once.
-fn single_of(single: teco_claims::Single) -> Single {
+fn single_of(single: teco_claims::ClaimSingle) -> Single {
     match single {
-        teco_claims::Single::Steps => Single::Steps,
-        teco_claims::Single::Pointer => Single::Pointer,
-        teco_claims::Single::Size => Single::Size,
-        teco_claims::Single::Held => Single::Held,
-        teco_claims::Single::LineEnd => Single::LineEnd,
-        teco_claims::Single::LineStart => Single::LineStart,
-        teco_claims::Single::LastLength => Single::LastLength,
-        teco_claims::Single::Typed => Single::Typed,
+        teco_claims::ClaimSingle::Steps => Single::Steps,
+        teco_claims::ClaimSingle::Pointer => Single::Pointer,
+        teco_claims::ClaimSingle::Size => Single::Size,
+        teco_claims::ClaimSingle::Held => Single::Held,
+        teco_claims::ClaimSingle::LineEnd => Single::LineEnd,
+        teco_claims::ClaimSingle::LineStart => Single::LineStart,
+        teco_claims::ClaimSingle::LastLength => Single::LastLength,
+        teco_claims::ClaimSingle::Typed => Single::Typed,
     }
 }
 
@@ -38,24 +38,34 @@ fn iteration_of(nodes: &Nodes<'_>, number: usize, begin: u32) -> Option<u32>
 }
 
 // The measure of which is claimed at a node.
-fn measure_of(nodes: &Nodes<'_>, number: usize, measure: teco_claims::Measure) -> Option<Measure>
+fn measure_of(
+    nodes: &Nodes<'_>,
+    number: usize,
+    measure: teco_claims::ClaimMeasure,
+) -> Option<Measure>
     requires one { 0 < number }
     requires last { number ≤ length nodes.now }
 {
     match measure {
-        teco_claims::Measure::One(single) => Some(Measure::One(single_of(single))),
-        teco_claims::Measure::Number(register) => {
+        teco_claims::ClaimMeasure::One(single) => Some(Measure::One(single_of(single))),
+        teco_claims::ClaimMeasure::Number(register) => {
             Some(Measure::Each(Family::Number, register.index() as u32))
         }
-        teco_claims::Measure::Length(register) => {
+        teco_claims::ClaimMeasure::Length(register) => {
             Some(Measure::Each(Family::Length, register.index() as u32))
         }
-        teco_claims::Measure::Turns(begin) => {
+        teco_claims::ClaimMeasure::Turns(begin) => {
             let at = iteration_of(nodes, number, begin)?;
             Some(Measure::Each(Family::Turns, at))
         }
-        teco_claims::Measure::PushedNumber(pair) => Some(Measure::Each(Family::PushedNumber, pair)),
-        teco_claims::Measure::PushedLength(pair) => Some(Measure::Each(Family::PushedLength, pair)),
+        teco_claims::ClaimMeasure::PushedNumber(pair) => Some(Measure::Each(
+            Family::PushedNumber,
+            pair,
+        )),
+        teco_claims::ClaimMeasure::PushedLength(pair) => Some(Measure::Each(
+            Family::PushedLength,
+            pair,
+        )),
     }
 }
 
@@ -86,7 +96,7 @@ fn whole(claim: &teco_claims::Claim) -> Option<u128> {
 }
 
 // The coefficient of a term that is taken so many times.
-fn coefficient_of(term: &teco_claims::Term, times: u128) -> Option<i128> {
+fn coefficient_of(term: &teco_claims::ClaimTerm, times: u128) -> Option<i128> {
     let divisor = term.coefficient.divisor;
     if divisor == 0 {
         return None;
@@ -101,7 +111,12 @@ fn coefficient_of(term: &teco_claims::Term, times: u128) -> Option<i128> {
 }
 
 // A term as one of a form.
-fn term_of(nodes: &Nodes<'_>, number: usize, term: &teco_claims::Term, times: u128) -> Option<Term>
+fn term_of(
+    nodes: &Nodes<'_>,
+    number: usize,
+    term: &teco_claims::ClaimTerm,
+    times: u128,
+) -> Option<Term>
     requires one { 0 < number }
     requires last { number ≤ length nodes.now }
 {

@@ -5,7 +5,7 @@ use crate::entry::PLACES;
 use crate::fault::PathFault;
 use std::alloc::Global;
 use teco_base::REGISTERS;
-use teco_claims::{Claims, Measure};
+use teco_claims::{ClaimMeasure, Claims};
 use teco_expansion::Nodes;
 use teco_model::Kind;
 use teco_model::kind::{Command, Query, Stack, Storage};
@@ -55,16 +55,16 @@ fn mark_named(used: &mut [bool], nodes: &Nodes<'_>) {
 }
 
 // The register that a claim speaks of.
-fn claimed_of(measure: Measure) -> Option<usize> {
+fn claimed_of(measure: ClaimMeasure) -> Option<usize> {
     match measure {
-        Measure::Number(register) => Some(register.index()),
-        Measure::Length(register) => Some(register.index()),
+        ClaimMeasure::Number(register) => Some(register.index()),
+        ClaimMeasure::Length(register) => Some(register.index()),
         _ => None,
     }
 }
 
 // Marks the register that a term speaks of.
-fn mark_claimed(used: &mut [bool], measure: Option<Measure>) {
+fn mark_claimed(used: &mut [bool], measure: Option<ClaimMeasure>) {
     if let Some(measure) = measure {
         if let Some(register) = claimed_of(measure) {
             mark(used, register);

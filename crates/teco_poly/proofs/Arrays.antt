@@ -1,9 +1,8 @@
 -- What arrays of nine coefficients come to be, place by place.
-use Rattle.std.proofs.Common.{◌≡◌, ℕ, ◌+◌, ◌-◌, ◌*◌, ◌^◌, ◌<◌, ◌≤◌, max, List, length, get_or, Some, None, Bool, true}
-use Rattle.std.proofs.Common.{false, sym, ap, ◌∙◌, refl, arith, ltb, mul_comm}
-use Rattle.std.proofs.lemmas.List.{get_or_past, ext_get_or}
-use Rattle.std.proofs.lemmas.Bool.{ltb-true, ltb-false}
-use Rattle.teco_poly.specs.Polynomial.{Polynomial, sum, scaled, greater, differences, is_at_most, sub, fitted}
+use Rattle.teco_poly.proofs.Prelude.{◌≡◌, ℕ, ◌+◌, ◌-◌, ◌*◌, ◌^◌, ◌<◌, ◌≤◌, max, List, length, get_or, Some, None, Bool}
+use Rattle.teco_poly.proofs.Prelude.{true, false, sym, ap, ◌∙◌, refl, arith, ltb, get_or_past, ext_get_or, ltb-true}
+use Rattle.teco_poly.proofs.Prelude.{ltb-false, Polynomial, sum, scaled, greater, differences, is_at_most, sub, fitted}
+use Rattle.std.proofs.Common.{mul_comm}
 use Rattle.teco_poly.proofs.Fitting.{Fits, get_or-sum, get_or-scaled, get_or-greater, get_or-differences}
 use Rattle.teco_poly.proofs.Fitting.{length-differences, at_most_means, at_most_by, fits_nine, fitted_is, fitted_none}
 

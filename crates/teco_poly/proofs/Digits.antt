@@ -1,18 +1,16 @@
 -- Texts of digits, and the numbers that they are the texts of.
-use Rattle.std.proofs.Common.{◌≡◌, ℕ, zero, suc, ◌+◌, ◌-◌, ◌*◌, ◌^◌, ◌<◌, ◌≤◌, Bool, true, false, List, [], ◌∷◌}
-use Rattle.std.proofs.Common.{length, get_or, drop, sym, ap, ◌∙◌, refl, arith, rules, ltb, subst, Option, Some, None}
+use Rattle.teco_poly.proofs.Prelude.{◌≡◌, ℕ, zero, suc, ◌+◌, ◌-◌, ◌*◌, ◌^◌, ◌<◌, ◌≤◌, Bool, true, false, List, [], ◌∷◌}
+use Rattle.teco_poly.proofs.Prelude.{length, get_or, drop, sym, ap, ◌∙◌, refl, arith, ltb, subst, Option, Some, None}
+use Rattle.teco_poly.proofs.Prelude.{ltb-true, ltb-false, ◌==◌, drop_more, decimal_nonempty, decimal_digit, decimal}
+use Rattle.teco_poly.proofs.Prelude.{all_ascii_digits}
+use Rattle.std.proofs.Common.{rules}
 use Rattle.std.proofs.Common.{IfSome, IfNone}
-use Rattle.std.proofs.lemmas.Bool.{ltb-true, ltb-false}
 use Rattle.std.specs.Option.{SomeIff}
-use Rattle.std.specs.Prelude.{◌==◌}
-use Rattle.std.proofs.lemmas.List.{drop_more}
-use Rattle.std.proofs.lemmas.Fmt.{digits_decimal, digits_value-decimal, decimal-digits_value, decimal_nonempty}
-use Rattle.std.proofs.lemmas.Fmt.{first_decimal, decimal_digit}
+use Rattle.std.proofs.lemmas.Fmt.{digits_decimal, digits_value-decimal, decimal-digits_value}
+use Rattle.std.proofs.lemmas.Fmt.{first_decimal}
 use Rattle.std.proofs.lemmas.Str.Parse.{IsNumeralModel, numerals_by_fold, numerals_by_value, digit_at}
 use Rattle.std.specs.Int.{IsInRange}
 use Rattle.std.specs.Str.Parse.{digits_value}
-use Rattle.std.specs.Fmt.{decimal}
-use Rattle.std.specs.Str.{all_ascii_digits}
 
 -- a number and then more digits
 abbrev pub read_on : ℕ → List ℕ → ℕ

@@ -1,19 +1,13 @@
 -- What stands at the front of a text: digits, a prefix, a number, the coefficient of a term.
-use Rattle.std.proofs.Common.{◌≡◌, ℕ, zero, suc, ◌+◌, ◌^◌, ◌<◌, Bool, true, false, List, [], ◌∷◌, ◌++◌, length, take}
-use Rattle.std.proofs.Common.{drop, sym, ap, ◌∙◌, refl, subst, arith, append_assoc}
+use Rattle.teco_poly.proofs.Prelude.{◌≡◌, ℕ, zero, suc, ◌+◌, ◌^◌, ◌<◌, Bool, true, false, List, [], ◌∷◌, ◌++◌, length}
+use Rattle.teco_poly.proofs.Prelude.{take, drop, sym, ap, ◌∙◌, refl, subst, arith, append_assoc, eq-eqb, ne_eqb}
+use Rattle.teco_poly.proofs.Prelude.{eqb-false, Decides-eqb, decimal_injective, decimal_nonempty, is_ascii_digit}
+use Rattle.teco_poly.proofs.Prelude.{pointwise, decimal, ◌==◌, ◌&&◌, nat_eq, all_ascii_digits, EndsNumber, IsNumberAt}
+use Rattle.teco_poly.proofs.Prelude.{IsCoefficientAt, coefficient_text}
 use Rattle.std.proofs.lemmas.List.{take-append-drop}
-use Rattle.std.proofs.lemmas.Bool.{eq-eqb, ne_eqb, eqb-false}
-use Rattle.std.proofs.lemmas.Bool.Decides.{Decides-eqb}
-use Rattle.std.proofs.lemmas.Fmt.{decimal_injective, decimal_nonempty}
 use Rattle.std.proofs.Math.Seq.{take-append_seam}
-use Rattle.std.specs.Char.{is_ascii_digit}
-use Rattle.std.specs.Cmp.Lexicographic.{pointwise, same_text, other_text}
-use Rattle.std.specs.Fmt.{decimal}
+use Rattle.std.specs.Cmp.Lexicographic.{same_text, other_text}
 use Rattle.std.specs.List.{prefix_len}
-use Rattle.std.specs.Prelude.{◌==◌, ◌&&◌, nat_eq}
-use Rattle.std.specs.Str.{all_ascii_digits}
-use Rattle.teco_poly.specs.Reading.{EndsNumber, IsNumberAt, IsCoefficientAt}
-use Rattle.teco_poly.specs.Text.{coefficient_text}
 use Rattle.teco_poly.proofs.Digits.{decimal_digits}
 
 both : (a b : Bool) → (a && b) ≡ true → (a ≡ true) × (b ≡ true)

@@ -1,14 +1,13 @@
 -- The laws of polynomials.
-use Rattle.std.proofs.Common.{◌≡◌, ℕ, zero, suc, ◌+◌, ◌-◌, ◌*◌, ◌^◌, ◌<◌, ◌≤◌, max, Bool, true, false, [], ◌∷◌}
-use Rattle.std.proofs.Common.{length, get_or, Some, None, sym, ap, ◌∙◌, refl, arith}
-use Rattle.std.proofs.Math.Nat.{pow-zero, pow-suc}
-use Rattle.std.proofs.lemmas.List.{ext_get_or}
-use Rattle.teco_poly.specs.Reading.{IsPoly}
+use Rattle.teco_poly.proofs.Prelude.{◌≡◌, ℕ, zero, suc, ◌+◌, ◌-◌, ◌*◌, ◌^◌, ◌<◌, ◌≤◌, max, Bool, true, false, [], ◌∷◌}
+use Rattle.teco_poly.proofs.Prelude.{length, get_or, Some, None, sym, ap, ◌∙◌, refl, arith, pow-zero, pow-suc}
+use Rattle.teco_poly.proofs.Prelude.{ext_get_or, IsPoly, Polynomial, value, sum, product, greater, differences, first}
+use Rattle.teco_poly.proofs.Prelude.{fitted, one_less, sub, at, in_64_bits, is_at_most}
 use Rattle.teco_poly.specs.Laws.{AnswersArePolys, ValuesOfConstants, ValueOfSum, ValueOfDifference, ValueOfProduct}
 use Rattle.teco_poly.specs.Laws.{ValueOfJoin, ValueOfOneLess, ValueAt, ValuesCompare, ValuesGrow, ComparisonOrders}
 use Rattle.teco_poly.specs.Laws.{JoinIsLeast, OneText}
-use Rattle.teco_poly.specs.Polynomial.{Polynomial, value, sum, product, greater, differences, first, fitted, number}
-use Rattle.teco_poly.specs.Polynomial.{variable, one_less, sub, join, at, in_64_bits, is_at_most}
+use Rattle.teco_poly.specs.Polynomial.{number}
+use Rattle.teco_poly.specs.Polynomial.{variable, join}
 use Rattle.teco_poly.proofs.Fitting.{at_most_means, at_most_by, fitted_like, get_or-greater, get_or-differences}
 use Rattle.teco_poly.proofs.Fitting.{length-differences}
 use Rattle.teco_poly.proofs.Values.{value-cons, value-sum, value-product, value-differences, value-one_less}

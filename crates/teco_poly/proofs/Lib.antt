@@ -1,3 +1,4 @@
+mod Prelude
 pub mod Fitting
 pub mod Arrays
 pub mod Values

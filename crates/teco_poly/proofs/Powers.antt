@@ -1,8 +1,6 @@
 -- The texts of the powers of N.
-use Rattle.std.proofs.Common.{◌≡◌, ℕ, suc, ◌+◌, ◌<◌, [], ◌∷◌, ◌++◌, sym, ap, ◌∙◌}
-use Rattle.std.specs.Prelude.{codes}
-use Rattle.std.proofs.lemmas.Fmt.{decimal_digit}
-use Rattle.teco_poly.specs.Text.{power_text}
+use Rattle.teco_poly.proofs.Prelude.{◌≡◌, ℕ, suc, ◌+◌, ◌<◌, [], ◌∷◌, ◌++◌, sym, ap, ◌∙◌, codes, decimal_digit}
+use Rattle.teco_poly.proofs.Prelude.{power_text}
 
 -- a power of one digit
 one_digit : (k : ℕ) → suc (suc k) < 10 → codes "N^" ++ (48 + suc (suc k)) ∷ [] ≡ power_text (suc (suc k))

@@ -1,9 +1,8 @@
 -- How a product and a value come about from the highest power down.
-use Rattle.std.proofs.Common.{◌≡◌, ℕ, zero, suc, ◌+◌, ◌*◌, ◌^◌, ◌<◌, ◌≤◌, [], ◌∷◌, length, get_or, drop, Option, Some}
-use Rattle.std.proofs.Common.{None, true, false, sym, ap, ◌∙◌, refl, arith}
-use Rattle.std.proofs.lemmas.List.{drop_more}
-use Rattle.std.proofs.lemmas.Bool.{lt-ltb, le-ltb}
-use Rattle.teco_poly.specs.Polynomial.{Polynomial, sum, scaled, raised, product, first, fitted, value, at, in_64_bits}
+use Rattle.teco_poly.proofs.Prelude.{◌≡◌, ℕ, zero, suc, ◌+◌, ◌*◌, ◌^◌, ◌<◌, ◌≤◌, [], ◌∷◌, length, get_or, drop, Option}
+use Rattle.teco_poly.proofs.Prelude.{Some, None, true, false, sym, ap, ◌∙◌, refl, arith, drop_more, lt-ltb, Polynomial}
+use Rattle.teco_poly.proofs.Prelude.{sum, scaled, raised, product, first, fitted, value, at, in_64_bits}
+use Rattle.std.proofs.lemmas.Bool.{le-ltb}
 use Rattle.teco_poly.proofs.Fitting.{Fits, get_or-sum, fitted_none, fitted_like, unfitted, fitted_alike}
 use Rattle.teco_poly.proofs.Values.{value-cons, value-drop}
 

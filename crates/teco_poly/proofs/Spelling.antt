@@ -1,17 +1,14 @@
 -- The terms of a polynomial, joined: as they are written and as they are read.
-use Rattle.std.proofs.Common.{◌≡◌, ℕ, zero, suc, ◌+◌, ◌^◌, ◌<◌, ◌≤◌, Bool, true, false, List, [], ◌∷◌, ◌++◌, length}
-use Rattle.std.proofs.Common.{get_or, set, drop, sym, ap, ◌∙◌, refl, subst, arith, append_assoc, lit<}
-use Rattle.std.proofs.lemmas.Bool.{eq-eqb, ne_eqb, eqb-false}
+use Rattle.teco_poly.proofs.Prelude.{◌≡◌, ℕ, zero, suc, ◌+◌, ◌^◌, ◌<◌, ◌≤◌, Bool, true, false, List, [], ◌∷◌, ◌++◌}
+use Rattle.teco_poly.proofs.Prelude.{length, get_or, drop, sym, ap, ◌∙◌, refl, subst, arith, append_assoc, lit<, eq-eqb}
+use Rattle.teco_poly.proofs.Prelude.{ne_eqb, eqb-false, decimal_nonempty, decimal_digit, Decides-eqb, drop-append_seam}
+use Rattle.teco_poly.proofs.Prelude.{decimal, codes, ◌==◌, Polynomial, EndsTerm, IsNumberAt, IsTermAt, IsLedTermAt}
+use Rattle.teco_poly.proofs.Prelude.{IsNextAt, IsPoly, power_text, coefficient_text, terms_from, joined, lead_behind}
+use Rattle.std.proofs.Common.{set}
 use Rattle.std.proofs.lemmas.List.{length-append, length-drop, length-set, append-nil}
 use Rattle.std.proofs.lemmas.Grind.{drop-set_at}
-use Rattle.std.proofs.lemmas.Fmt.{decimal_nonempty, decimal_digit}
-use Rattle.std.proofs.lemmas.Bool.Decides.{Decides-eqb}
-use Rattle.std.proofs.Math.Seq.{drop-append_seam}
-use Rattle.std.specs.Fmt.{decimal}
-use Rattle.std.specs.Prelude.{codes, ◌==◌}
-use Rattle.teco_poly.specs.Polynomial.{Polynomial}
-use Rattle.teco_poly.specs.Reading.{EndsTerm, IsNumberAt, IsTermAt, IsLedTermAt, IsNextAt, AreSmall, IsPoly}
-use Rattle.teco_poly.specs.Text.{power_text, coefficient_text, term_text, terms_from, joined, lead_behind}
+use Rattle.teco_poly.specs.Reading.{AreSmall}
+use Rattle.teco_poly.specs.Text.{term_text}
 use Rattle.teco_poly.specs.Text.{joined_or_zero, text}
 use Rattle.teco_poly.proofs.Front.{one_number, constant, read_written}
 use Rattle.teco_poly.proofs.Terms.{one_term, term_coefficient}

@@ -1,14 +1,9 @@
 -- What stands at the front of a text: a term, and no other.
-use Rattle.std.proofs.Common.{◌≡◌, ℕ, zero, suc, ◌<◌, true, false, List, [], ◌∷◌, ◌++◌, length, take, drop, sym, ap}
-use Rattle.std.proofs.Common.{◌∙◌, refl, subst, arith, append_assoc, lit<}
-use Rattle.std.proofs.lemmas.Fmt.{decimal_injective}
-use Rattle.std.proofs.Math.Seq.{drop-append_seam}
-use Rattle.std.specs.Char.{is_ascii_digit}
-use Rattle.std.specs.Cmp.Lexicographic.{pointwise}
-use Rattle.std.specs.Fmt.{decimal}
-use Rattle.std.specs.Prelude.{nat_eq, codes}
-use Rattle.teco_poly.specs.Reading.{EndsNumber, EndsTerm, IsCoefficientAt, IsTermAt, IsLedTermAt, IsNextAt}
-use Rattle.teco_poly.specs.Text.{power_text, coefficient_text}
+use Rattle.teco_poly.proofs.Prelude.{◌≡◌, ℕ, zero, suc, ◌<◌, true, false, List, [], ◌∷◌, ◌++◌, length, take, drop, sym}
+use Rattle.teco_poly.proofs.Prelude.{ap, ◌∙◌, refl, subst, arith, append_assoc, lit<, decimal_injective}
+use Rattle.teco_poly.proofs.Prelude.{drop-append_seam, is_ascii_digit, pointwise, decimal, nat_eq, codes, EndsNumber}
+use Rattle.teco_poly.proofs.Prelude.{EndsTerm, IsCoefficientAt, IsTermAt, IsLedTermAt, IsNextAt, power_text}
+use Rattle.teco_poly.proofs.Prelude.{coefficient_text}
 use Rattle.teco_poly.proofs.Digits.{decimal_digits}
 use Rattle.teco_poly.proofs.Front.{digits_front, stripped, no_prefix, one_coefficient, one_factor, constant}
 use Rattle.teco_poly.proofs.Front.{read_written}

@@ -1,9 +1,9 @@
 -- The values of polynomials: of sums, products and the like, and of those that are at most others.
-use Rattle.std.proofs.Common.{◌≡◌, ℕ, zero, suc, ◌+◌, ◌-◌, ◌*◌, ◌≤◌, [], ◌∷◌, get_or, drop, Some, sym, ap, ◌∙◌, refl}
-use Rattle.std.proofs.Common.{arith}
-use Rattle.std.proofs.Math.Nat.{pow-suc, pow-zero, mul-le-mul, mul-le-mul_left}
-use Rattle.teco_poly.specs.Polynomial.{Polynomial, value_from, value, sum, scaled, raised, product, differences}
-use Rattle.teco_poly.specs.Polynomial.{one_less, fitted}
+use Rattle.teco_poly.proofs.Prelude.{◌≡◌, ℕ, zero, suc, ◌+◌, ◌-◌, ◌*◌, ◌≤◌, [], ◌∷◌, get_or, drop, Some, sym, ap, ◌∙◌}
+use Rattle.teco_poly.proofs.Prelude.{refl, arith, pow-suc, pow-zero, Polynomial, value, sum, scaled, raised, product}
+use Rattle.teco_poly.proofs.Prelude.{differences, one_less, fitted}
+use Rattle.std.proofs.Math.Nat.{mul-le-mul, mul-le-mul_left}
+use Rattle.teco_poly.specs.Polynomial.{value_from}
 use Rattle.teco_poly.proofs.Fitting.{fitted_like}
 
 -- with one power more each term is n times as large

@@ -1,4 +1,4 @@
-// Arithmetic on the coefficients of polynomials.
+//! Arithmetic on the coefficients of polynomials.
 ghost use Rattle.std.specs.Prelude.{◌≡◌, Some};
 ghost use Rattle.teco_poly.specs.Polynomial as poly;
 

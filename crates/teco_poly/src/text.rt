@@ -1,4 +1,4 @@
-// Texts of polynomials.
+//! Texts of polynomials.
 ghost use Rattle.std.specs.Prelude.{◌≡◌, ℕ, List, ◌+◌, ◌-◌, ◌<◌, ◌≤◌, ◌^◌, [], ◌∷◌, ◌++◌, length, drop, true, IfOk};
 ghost use Rattle.std.specs.Prelude.{OnOk, IfSome, IfNone, IsTrue, ◌↔◌, slice_index};
 ghost use Rattle.std.specs.Option.{SomeIff};

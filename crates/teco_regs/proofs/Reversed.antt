@@ -1,4 +1,4 @@
--- What holds of a list in the other direction.
+-- Facts of a list in the other direction.
 use Rattle.std.proofs.Common.{◌≡◌, ℕ, List, reverse}
 use Rattle.std.proofs.lemmas.List.{reverse-reverse}
 use Rattle.std.proofs.lemmas.List.Elements.{All-from_recursion, recursion_from_All}

@@ -1,6 +1,6 @@
 -- When a call on the registers answers what. Each word takes the call's answer first, and has for each answer the
 -- fact that holds where it comes. The facts of two answers exclude each other, but for those of `Ok` and `Memory`.
--- So `Empty` and `Full` come exactly where their facts hold, and `Memory` nowhere but where its fact holds.
+-- `Empty` and `Full` come exactly where their facts hold, and `Memory` nowhere but where its fact holds.
 use Rattle.std.specs.Prelude.{ℕ, ◌≡◌, ◌≢◌, ◌<◌, ◌≤◌, ⊤, List, [], Result, Ok, Err}
 use Rattle.teco_base.specs.declared.TheConstants.{LIMIT}
 use Rattle.teco_regs.specs.declared.fault.RegFault.{RegFault}

@@ -1,4 +1,4 @@
-// Why a call on the registers is refused.
+//! Why a call on the registers is refused.
 ghost use Rattle.std.specs.Prelude.{◌≡◌};
 ghost use Rattle.teco_regs.specs.declared.fault.RegFault.TheVariants.{Memory};
 

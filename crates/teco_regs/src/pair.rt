@@ -1,4 +1,4 @@
-// What a register holds.
+//! The number and the text of a register.
 ghost use Rattle.std.specs.Prelude.{◌≡◌, ◌+◌, ◌<◌, ◌^◌, ◌++◌, length, OnOk, OnErr, vec_len};
 ghost use Rattle.teco_model.specs.Registers.{IsWithinLimit, empty_pair};
 ghost use Rattle.teco_model.specs.laws.Whole.{IsWholePair};
@@ -34,7 +34,7 @@ impl Pair {
         }
     }
 
-    // What always holds of a pair whose text is not too long.
+    // A pair whose text is not too long has a number of 32 bits and a text of bytes.
     pub fn is_whole(&self)
         requires { IsWithinLimit self.now }
         ensures { IsWholePair self.now }

@@ -1,4 +1,4 @@
-// The registers.
+//! The registers.
 ghost use Rattle.std.specs.Prelude.{◌≡◌, ◌≤◌, ◌<◌, ◌*◌, ◌^◌, ◌++◌, length, map, zip, sum_by, All, OnOk, OnErr, IfOk};
 ghost use Rattle.std.specs.Prelude.{Some, vec_len};
 ghost use Rattle.std.specs.List.{AllByRecursion};
@@ -52,7 +52,7 @@ impl Regs {
         }
     }
 
-    // What the register holds.
+    // The number and the text of the register.
     fn pair(&self, reg: Reg) -> &Pair
         ensures value { result.now ≡ pair_of reg self.now }
         ensures within_limit { IsWithinLimit result.now }
@@ -61,7 +61,7 @@ impl Regs {
         &self.pairs[reg.index()]
     }
 
-    /// What always holds: there are 36 registers, numbers fit 32 bits, and texts are of bytes and
+    /// These always hold: there are 36 registers, numbers fit 32 bits, and texts are of bytes and
     /// not too long.
     pub fn is_whole(&self)
         ensures { AreWholePairs self.now }
@@ -250,7 +250,7 @@ fn put_texts(pairs: &mut [Pair], texts: Vec<Option<Vec<u8>>>)
     }
 }
 
-// What always holds of pairs whose texts are not too long.
+// Pairs whose texts are not too long have numbers of 32 bits and texts of bytes.
 fn are_whole(pairs: &[Pair])
     requires { All IsWithinLimit pairs.now }
     ensures { AllByRecursion IsWholePair pairs.now }

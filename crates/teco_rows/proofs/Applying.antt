@@ -1,27 +1,17 @@
 -- How all clauses of a row take a case to the one behind it.
-use Rattle.std.proofs.Common.{◌≡◌, ℕ, zero, suc, ◌+◌, ◌-◌, ◌<◌, ℤ, pos, ◌+ℤ◌, ◌*ℤ◌, ◌≤ℤ◌, List, [], ◌∷◌, ◌++◌, true}
-use Rattle.std.proofs.Common.{false, Option, Some, None, MatchOption, slice_index_or, if◌then◌else◌, nat_lt, unwrap_or}
-use Rattle.std.proofs.Common.{◌^◌, length, take, get_or, refl, sym, ap, subst, ◌∙◌, arith}
-use Rattle.std.proofs.lemmas.Bool.Decides.{nat_tests}
-use Rattle.std.proofs.lemmas.List.{take_more}
+use Rattle.teco_rows.proofs.Prelude.{◌≡◌, ℕ, zero, suc, ◌+◌, ◌-◌, ◌<◌, ℤ, pos, ◌+ℤ◌, ◌*ℤ◌, ◌≤ℤ◌, List, [], ◌∷◌, ◌++◌}
+use Rattle.teco_rows.proofs.Prelude.{true, false, Option, Some, None, slice_index_or, if◌then◌else◌, nat_lt, unwrap_or}
+use Rattle.teco_rows.proofs.Prelude.{◌^◌, length, take, get_or, refl, sym, ap, subst, ◌∙◌, arith, nat_tests, take_more}
+use Rattle.teco_rows.proofs.Prelude.{All, Term, Valuation, value, Draft, Case, Measure, Mark, Of, Was, Given, Unknown}
+use Rattle.teco_rows.proofs.Prelude.{Clause, Sets, Drops, Wants, RowStep, place, Before, measure_at, is_at, weight}
+use Rattle.teco_rows.proofs.Prelude.{sum_of, total, changed, AreMet, Holds, Adds, IsAbout, IsWhole, measures_by}
+use Rattle.teco_rows.proofs.Prelude.{read_by, read_with, value_if}
+use Rattle.std.proofs.Common.{MatchOption}
 use Rattle.std.proofs.lemmas.List.Elements.{All-head, All-tail}
-use Rattle.std.specs.List.{All}
-use Rattle.teco_linear.specs.declared.term.Term.{Term}
-use Rattle.teco_linear.specs.Form.{Valuation, symbol_value, term_value, value}
+use Rattle.teco_linear.specs.Form.{symbol_value, term_value}
 use Rattle.teco_linear.specs.Implied as implied
-use Rattle.teco_rows.specs.declared.applied.Draft.{Draft}
-use Rattle.teco_rows.specs.declared.case.Case.{Case}
-use Rattle.teco_rows.specs.declared.measure.Measure.{Measure}
-use Rattle.teco_rows.specs.declared.row.Mark.{Mark}
-use Rattle.teco_rows.specs.declared.row.Of.{Of}
-use Rattle.teco_rows.specs.declared.row.Of.TheVariants.{Was, Given, Unknown}
-use Rattle.teco_rows.specs.declared.row.Clause.{Clause}
-use Rattle.teco_rows.specs.declared.row.Clause.TheVariants.{Sets, Drops, Wants}
-use Rattle.teco_rows.specs.declared.row.Step.{Step}
-use Rattle.teco_rows.specs.Measures.{place}
-use Rattle.teco_rows.specs.Rows.{Measures, Before, measure_at, is_at, weight, sum_of, total, changed, AreMet, Holds}
-use Rattle.teco_rows.specs.Cases.{Adds, Agree, Fits, IsAbout, IsBelow, IsOptionallyAbout, IsWhole, measures_by}
-use Rattle.teco_rows.specs.Cases.{read_by, read_with, value_if}
+use Rattle.teco_rows.specs.Rows.{Measures}
+use Rattle.teco_rows.specs.Cases.{Agree, Fits, IsBelow, IsOptionallyAbout}
 
 -- ---- rows one behind the other
 pub changed-append : (r s : List Clause) (b : Before) (m : Measure) (x : Option ℤ)
@@ -38,10 +28,10 @@ met-append (Sets mark constant parts ∷ r) s b h = met-append r s b h
 met-append (Drops mark ∷ r) s b h = met-append r s b h
 met-append (Wants constant parts ∷ r) s b h = let k = met-append r s b h.1 in ((h.0, k.0), k.1)
 
-pub adds_none : (case : Case) (step : Step) (draft : Draft) → Adds case step [] draft draft
+pub adds_none : (case : Case) (step : RowStep) (draft : Draft) → Adds case step [] draft draft
 adds_none case step draft = record { measures = λ n v m. refl; constraints = λ n v holds met. holds }
 
-adds_both : (case : Case) (step : Step) (r s : List Clause) (old mid new : Draft) → Adds case step r old mid
+adds_both : (case : Case) (step : RowStep) (r s : List Clause) (old mid new : Draft) → Adds case step r old mid
     → Adds case step s mid new → Adds case step (r ++ s) old new
 adds_both case step r s old mid new one two = record {
   measures = λ n v m.
@@ -52,7 +42,7 @@ adds_both case step r s old mid new one two = record {
       two.constraints n v (one.constraints n v holds k.0) k.1;
 }
 
-pub adds_more : (case : Case) (step : Step) (row : List Clause) (i : ℕ) (d : Clause) (old mid new : Draft)
+pub adds_more : (case : Case) (step : RowStep) (row : List Clause) (i : ℕ) (d : Clause) (old mid new : Draft)
     → i < length row → Adds case step (take i row) old mid → Adds case step (get_or row i d ∷ []) mid new
     → Adds case step (take (i + 1) row) old new
 adds_more case step row i d old mid new h one two =
@@ -165,7 +155,7 @@ pub record IsCopy (case : Case) (draft : Draft) : Type 0 where
   pub constraints : (n : ℕ) (v : Valuation)
       → All (implied.Holds n v) case.constraints.items → All (implied.Holds n v) draft.constraints.items
 
-module _ (case : Case) (step : Step) (whole : IsWhole case) (about : All (IsAbout case.symbols) step.given.now) where
+module _ (case : Case) (step : RowStep) (whole : IsWhole case) (about : All (IsAbout case.symbols) step.given.now) where
   module _ (n : ℕ) (v : Valuation) (old new : Measures) (unknown : ℕ → ℤ) (fits : Fits n v case old) where
     w : Valuation
     w = extended case.symbols v unknown

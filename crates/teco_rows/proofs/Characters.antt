@@ -1,8 +1,7 @@
 -- The codes of the characters at a place and before it.
-use Rattle.std.proofs.Common.{◌≡◌, ℕ, zero, suc, ◌+◌, ◌≤◌, ◌<◌, ◌==◌, ◌⊎◌, inl, inr, ◌∙◌, arith, refl, ap, List}
-use Rattle.std.proofs.Common.{ℤ, pos, [], ◌∷◌, length, get_or, Bool, true, false, if◌then◌else◌}
-use Rattle.std.proofs.lemmas.Bool.Decides.{nat_tests}
-use Rattle.teco_base.specs.Bytes.{is_line_end}
+use Rattle.teco_rows.proofs.Prelude.{◌≡◌, ℕ, zero, suc, ◌+◌, ◌≤◌, ◌<◌, ◌==◌, ◌⊎◌, inl, inr, ◌∙◌, arith, refl, ap, List}
+use Rattle.teco_rows.proofs.Prelude.{ℤ, pos, [], ◌∷◌, length, get_or, Bool, true, false, if◌then◌else◌, nat_tests}
+use Rattle.teco_rows.proofs.Prelude.{is_line_end}
 use Rattle.teco_model.specs.laws.Whole.{AreBytes}
 use Rattle.teco_rows.specs.States.{code_here, code_before}
 use Rattle.teco_rows.proofs.Lines.{ends}

@@ -1,28 +1,14 @@
 -- Cases without some levels of pending arguments.
-use Rattle.std.proofs.Common.{◌≡◌, ℕ, ◌+◌, ◌<◌, ◌≤◌, ◌==◌, List, [], ◌∷◌, length, Bool, true, false, Option, Some}
-use Rattle.std.proofs.Common.{None, ℤ, if◌then◌else◌, option_and_then, slice_index_or, refl, sym, ap, subst, ◌∙◌, arith}
-use Rattle.std.proofs.lemmas.Bool.Decides.{nat_tests}
-use Rattle.std.specs.List.{All}
-use Rattle.teco_linear.specs.declared.term.Term.{Term}
-use Rattle.teco_linear.specs.Form.{Valuation}
+use Rattle.teco_rows.proofs.Prelude.{◌≡◌, ℕ, ◌+◌, ◌<◌, ◌≤◌, ◌==◌, List, [], ◌∷◌, length, Bool, true, false, Option}
+use Rattle.teco_rows.proofs.Prelude.{Some, None, ℤ, if◌then◌else◌, option_and_then, slice_index_or, refl, sym, ap}
+use Rattle.teco_rows.proofs.Prelude.{subst, ◌∙◌, arith, nat_tests, All, Term, Valuation, Arguments, Level, Case, VALUE}
+use Rattle.teco_rows.proofs.Prelude.{Number, Length, Turns, PushedNumber, PushedLength, First, Value, Measure, One}
+use Rattle.teco_rows.proofs.Prelude.{Each, Steps, Pointer, Size, Held, LineEnd, LineStart, LastLength, CodeHere}
+use Rattle.teco_rows.proofs.Prelude.{CodeBefore, Typed, Places, IsAtLevel, value_if, place, is_at, measure_at, Point}
+use Rattle.teco_rows.proofs.Prelude.{IsTrueOf, from_end, levels, measures_of, operators_of}
 use Rattle.teco_linear.specs.Implied as linear
-use Rattle.teco_model.specs.Arguments.{Arguments}
-use Rattle.teco_model.specs.declared.arguments.Level.{Level}
-use Rattle.teco_rows.specs.declared.case.Case.{Case}
-use Rattle.teco_rows.specs.declared.levels.TheConstants.{FIRST, VALUE}
-use Rattle.teco_rows.specs.declared.measure.Family.TheVariants.{Number, Length, Turns, PushedNumber, PushedLength}
-use Rattle.teco_rows.specs.declared.measure.Family.TheVariants.{First, Value}
-use Rattle.teco_rows.specs.declared.measure.Measure.{Measure}
-use Rattle.teco_rows.specs.declared.measure.Measure.TheVariants.{One, Each}
-use Rattle.teco_rows.specs.declared.measure.Single.TheVariants.{Steps, Pointer, Size, Held, LineEnd, LineStart}
-use Rattle.teco_rows.specs.declared.measure.Single.TheVariants.{LastLength, CodeHere, CodeBefore, Typed}
-use Rattle.teco_rows.specs.declared.row.Places.{Places}
-use Rattle.teco_rows.specs.Commands.{IsAtLevel}
-use Rattle.teco_rows.specs.Cases.{value_if}
+use Rattle.teco_rows.specs.declared.levels.TheConstants.{FIRST}
 use Rattle.teco_rows.specs.Levels.{Empties, IsCopyOf, IsFront, IsOutermost, IsOutside, with_arguments}
-use Rattle.teco_rows.specs.Measures.{place}
-use Rattle.teco_rows.specs.Rows.{is_at, measure_at}
-use Rattle.teco_rows.specs.States.{Point, IsTrueOf, from_end, levels, measures_of, operators_of}
 use Rattle.teco_rows.proofs.Following.{put_is}
 use Rattle.teco_rows.proofs.Pending.{depth}
 

@@ -1,30 +1,15 @@
 -- How the arguments of a command are taken.
-use Rattle.std.proofs.Common.{◌≡◌, ℕ, ℤ, List, [], ◌++◌, length, Option, Some, None, is_some, is_none, ◌&&◌, false, Ok}
-use Rattle.std.proofs.Common.{slice_index_or, refl, sym, ap, subst, ◌∙◌, arith}
-use Rattle.std.proofs.lemmas.Int.{ints}
-use Rattle.teco_linear.specs.declared.term.Term.{Term}
-use Rattle.teco_linear.specs.Form.{Valuation, value}
-use Rattle.teco_model.specs.Arguments.{Arguments, levels_after_taking, levels_after_answer, final_value, value_at_end}
+use Rattle.teco_rows.proofs.Prelude.{◌≡◌, ℕ, ℤ, List, [], ◌++◌, length, Option, Some, None, is_some, is_none, ◌&&◌}
+use Rattle.teco_rows.proofs.Prelude.{false, Ok, slice_index_or, refl, sym, ap, subst, ◌∙◌, arith, ints, Term, Valuation}
+use Rattle.teco_rows.proofs.Prelude.{value, Arguments, ◌>>=◌, Operator, Level, Case, Steps, Pointer, Size, Held}
+use Rattle.teco_rows.proofs.Prelude.{LineEnd, LineStart, LastLength, CodeHere, CodeBefore, Typed, Number, Length, Turns}
+use Rattle.teco_rows.proofs.Prelude.{PushedNumber, PushedLength, First, Value, Measure, One, Each, Clause, Places}
+use Rattle.teco_rows.proofs.Prelude.{RowStep, Before, Holds, changed, value_if, Point, IsLed, Describes, behind}
+use Rattle.teco_rows.proofs.Prelude.{measures_of, IsAtLevel, IsCommanded, commanded}
+use Rattle.teco_model.specs.Arguments.{levels_after_taking, levels_after_answer, final_value, value_at_end}
 use Rattle.teco_model.specs.Arguments.{arguments_of, arguments_from}
-use Rattle.teco_model.specs.Checked.{◌>>=◌}
-use Rattle.teco_model.specs.declared.arguments.Operator.{Operator}
 use Rattle.teco_model.specs.Going as going
-use Rattle.teco_model.specs.declared.arguments.Level.{Level}
-use Rattle.teco_rows.specs.declared.case.Case.{Case}
 use Rattle.teco_rows.specs.declared.commands.TheConstants.{TAKES}
-use Rattle.teco_rows.specs.declared.measure.Single.TheVariants.{Steps, Pointer, Size, Held, LineEnd, LineStart}
-use Rattle.teco_rows.specs.declared.measure.Single.TheVariants.{LastLength, CodeHere, CodeBefore, Typed}
-use Rattle.teco_rows.specs.declared.measure.Family.TheVariants.{Number, Length, Turns, PushedNumber, PushedLength}
-use Rattle.teco_rows.specs.declared.measure.Family.TheVariants.{First, Value}
-use Rattle.teco_rows.specs.declared.measure.Measure.{Measure}
-use Rattle.teco_rows.specs.declared.measure.Measure.TheVariants.{One, Each}
-use Rattle.teco_rows.specs.declared.row.Clause.{Clause}
-use Rattle.teco_rows.specs.declared.row.Places.{Places}
-use Rattle.teco_rows.specs.declared.row.Step.{Step}
-use Rattle.teco_rows.specs.Rows.{Before, Holds, changed}
-use Rattle.teco_rows.specs.Cases.{value_if}
-use Rattle.teco_rows.specs.States.{Point, IsLed, Describes, behind, measures_of}
-use Rattle.teco_rows.specs.Commands.{IsAtLevel, IsCommanded, commanded}
 use Rattle.teco_rows.proofs.Pending.{level_at}
 use Rattle.teco_rows.proofs.Describing.{led_on}
 
@@ -65,7 +50,7 @@ takes s here given unknown at (Each First i) =
 takes s here given unknown at (Each Value i) =
     level_at s.arguments.level (answered None) s.arguments.outer here.level i (λ l. l.value) None at refl
 
-pub is_commanded : (case after : Case) (step : Step) (row : List Clause) → step.clauses.now ≡ TAKES ++ row
+pub is_commanded : (case after : Case) (step : RowStep) (row : List Clause) → step.clauses.now ≡ TAKES ++ row
     → IsAtLevel step.here case → IsLed case step None after
     → IsCommanded case row step.given.now step.here after
 is_commanded case after step row clauses at led n v s kept answer unknown true_of leads =

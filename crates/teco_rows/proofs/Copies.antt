@@ -1,8 +1,5 @@
 -- Copies of forms.
-use Rattle.std.proofs.Common.{◌≡◌, ℕ, ◌<◌, List, Option, None, length, get_or}
-use Rattle.teco_linear.specs.declared.term.Term.{Term}
-use Rattle.teco_linear.specs.Form.{Valuation}
-use Rattle.teco_rows.specs.Cases.{value_if}
+use Rattle.teco_rows.proofs.Prelude.{◌≡◌, ℕ, ◌<◌, List, Option, None, length, get_or, Term, Valuation, value_if}
 
 pub record AreCopied (forms : List (Option (List Term))) (i : ℕ) (copies : List (Option (List Term))) : Type 0 where
   pub count : length copies ≡ i

@@ -1,18 +1,11 @@
 -- How a case that a row leads to describes the state behind.
-use Rattle.std.proofs.Common.{◌≡◌, ℕ, ◌+◌, ◌<◌, ℤ, List, [], ◌∷◌, ◌++◌, length, refl, sym, ap, subst, ◌∙◌, arith}
-use Rattle.std.proofs.Math.Seq.{get_or-append_seam}
+use Rattle.teco_rows.proofs.Prelude.{◌≡◌, ℕ, ◌+◌, ◌<◌, ℤ, List, [], ◌∷◌, ◌++◌, length, refl, sym, ap, subst, ◌∙◌, arith}
+use Rattle.teco_rows.proofs.Prelude.{get_or-append_seam, Valuation, Kept, Level, Case, Outcomes, RowStep, Holds}
+use Rattle.teco_rows.proofs.Prelude.{read_with, Point, IsShape, IsLed, IsTrueOf, Describes, operators_of, behind}
+use Rattle.teco_rows.proofs.Prelude.{measures_of, Describe, with_level}
 use Rattle.std.specs.List.{Any}
-use Rattle.teco_linear.specs.Form.{Valuation}
 use Rattle.teco_model.specs.Going as going
-use Rattle.teco_model.specs.State.{Kept}
-use Rattle.teco_model.specs.declared.arguments.Level.{Level}
-use Rattle.teco_rows.specs.declared.case.Case.{Case}
-use Rattle.teco_rows.specs.declared.outcomes.Outcomes.{Outcomes}
-use Rattle.teco_rows.specs.declared.row.Step.{Step}
-use Rattle.teco_rows.specs.Rows.{Holds}
-use Rattle.teco_rows.specs.Cases.{Carries, read_with}
-use Rattle.teco_rows.specs.States.{Point, IsShape, IsLed, IsTrueOf, Describes, operators_of, behind, measures_of}
-use Rattle.teco_rows.specs.Foretold.{Describe, with_level}
+use Rattle.teco_rows.specs.Cases.{Carries}
 
 any_at : {X : Type 0} (P : X → Type 0) (xs front back : List X) (x : X) → xs ≡ front ++ x ∷ back → P x → Any P xs
 any_at P xs front back x e p =
@@ -22,7 +15,7 @@ any_at P xs front back x e p =
       inside (y ∷ front) = let h = inside front in omega arith
 
 -- a row holds of two states, and a case is true of the first
-pub described : (n : ℕ) (v : Valuation) (case after : Case) (step : Step) (s t : Point) (unknown : ℕ → ℤ)
+pub described : (n : ℕ) (v : Valuation) (case after : Case) (step : RowStep) (s t : Point) (unknown : ℕ → ℤ)
     → Carries case step after → IsTrueOf n v case s
     → Holds step.clauses.now (read_with step n v (measures_of s) unknown) (measures_of t)
     → IsShape after.shape t → Describes n after t
@@ -36,7 +29,7 @@ pub among : (n : ℕ) (outcomes : Outcomes) (after : Case) (front back : List Ca
 among n outcomes after front back t e d = any_at (λ c. Describes n c t) outcomes.cases.items front back after e d
 
 -- so is the case behind a row, where the innermost level is another one and as much is pushed
-pub led_on : (n : ℕ) (v : Valuation) (case after : Case) (step : Step) (s : Point) (kept : Kept) (level : Level)
+pub led_on : (n : ℕ) (v : Valuation) (case after : Case) (step : RowStep) (s : Point) (kept : Kept) (level : Level)
     (unknown : ℕ → ℤ) → IsLed case step level.operator after → IsTrueOf n v case s
     → length kept.registers.stack ≡ length s.kept.registers.stack
     → Holds step.clauses.now (read_with step n v (measures_of s) unknown)
@@ -51,7 +44,7 @@ led_on n v case after step s kept level unknown led true_of same holds =
       pushes = ap (λ k. s.origin.pushes + k) led.pushes ∙ h.pushes ∙ sym same;
     })
 
-pub led_to : (n : ℕ) (v : Valuation) (case after : Case) (step : Step) (s : Point) (level : Level) (unknown : ℕ → ℤ)
+pub led_to : (n : ℕ) (v : Valuation) (case after : Case) (step : RowStep) (s : Point) (level : Level) (unknown : ℕ → ℤ)
     → IsLed case step level.operator after → IsTrueOf n v case s
     → Holds step.clauses.now (read_with step n v (measures_of s) unknown) (measures_of (behind s (with_level s level)))
     → Describes n after (behind s (with_level s level))

@@ -1,31 +1,15 @@
 -- What a clause makes of a case that is being made.
-use Rattle.std.proofs.Common.{◌≡◌, ℕ, ◌+◌, ◌*◌, ◌<◌, ◌==◌, ◌&&◌, ℤ, List, [], ◌∷◌, Bool, true, false, Option, Some}
-use Rattle.std.proofs.Common.{None, slice_index_or, if◌then◌else◌, refl, sym, ap, subst, ◌∙◌, arith}
-use Rattle.std.proofs.lemmas.Bool.Decides.{nat_tests}
-use Rattle.std.specs.List.{All}
-use Rattle.teco_linear.specs.declared.term.Term.{Term}
-use Rattle.teco_linear.specs.Form.{Valuation, value}
+use Rattle.teco_rows.proofs.Prelude.{◌≡◌, ℕ, ◌+◌, ◌*◌, ◌<◌, ◌==◌, ◌&&◌, ℤ, List, [], ◌∷◌, Bool, true, false, Option}
+use Rattle.teco_rows.proofs.Prelude.{Some, None, slice_index_or, if◌then◌else◌, refl, sym, ap, subst, ◌∙◌, arith}
+use Rattle.teco_rows.proofs.Prelude.{nat_tests, All, Term, Valuation, value, Draft, Case, Single, Steps, Pointer, Size}
+use Rattle.teco_rows.proofs.Prelude.{Held, LineEnd, LineStart, LastLength, CodeHere, CodeBefore, Typed, Family, Number}
+use Rattle.teco_rows.proofs.Prelude.{Length, Turns, PushedNumber, PushedLength, First, Value, Measure, Mark, Of, Clause}
+use Rattle.teco_rows.proofs.Prelude.{Sets, Drops, Places, RowStep, family_code, place, index_at, measure_at, is_at}
+use Rattle.teco_rows.proofs.Prelude.{total, Adds, measures_by, read_by, value_if}
 use Rattle.teco_linear.specs.Implied as implied
-use Rattle.teco_rows.specs.declared.applied.Draft.{Draft}
-use Rattle.teco_rows.specs.declared.case.Case.{Case}
-use Rattle.teco_rows.specs.declared.measure.Single.{Single}
-use Rattle.teco_rows.specs.declared.measure.Single.TheVariants.{Steps, Pointer, Size, Held, LineEnd, LineStart}
-use Rattle.teco_rows.specs.declared.measure.Single.TheVariants.{LastLength, CodeHere, CodeBefore, Typed}
-use Rattle.teco_rows.specs.declared.measure.Family.{Family}
-use Rattle.teco_rows.specs.declared.measure.Family.TheVariants.{Number, Length, Turns, PushedNumber, PushedLength}
-use Rattle.teco_rows.specs.declared.measure.Family.TheVariants.{First, Value}
-use Rattle.teco_rows.specs.declared.measure.Measure.{Measure}
 use Rattle.teco_rows.specs.declared.measure.Measure.TheVariants as measure
-use Rattle.teco_rows.specs.declared.row.Mark.{Mark}
 use Rattle.teco_rows.specs.declared.row.Mark.TheVariants.{One, Here}
-use Rattle.teco_rows.specs.declared.row.Of.{Of}
-use Rattle.teco_rows.specs.declared.row.Clause.{Clause}
-use Rattle.teco_rows.specs.declared.row.Clause.TheVariants.{Sets, Drops}
-use Rattle.teco_rows.specs.declared.row.Places.{Places}
-use Rattle.teco_rows.specs.declared.row.Step.{Step}
-use Rattle.teco_rows.specs.Measures.{single_code, family_code, place}
-use Rattle.teco_rows.specs.Rows.{index_at, measure_at, is_at, total}
-use Rattle.teco_rows.specs.Cases.{Adds, measures_by, read_by, value_if}
+use Rattle.teco_rows.specs.Measures.{single_code}
 
 single_below : (s : Single) → single_code s < 10
 single_below Steps = omega arith
@@ -84,7 +68,7 @@ put_is forms old form here mark at x e put n v h m =
     ∙ picked (at == place m) (is_at here mark m) form (slice_index_or old (place m) None) x n v
     (ap (λ k. k == place m) e ∙ placed here mark m) h
 
-pub adds_set : (case : Case) (step : Step) (clause : Clause) (old new : Draft) (mark : Mark) (constant : ℤ)
+pub adds_set : (case : Case) (step : RowStep) (clause : Clause) (old new : Draft) (mark : Mark) (constant : ℤ)
     (parts : List (ℤ × Of)) (form : List Term) (at : ℕ) (k : ℤ) → Sets mark constant parts ≡ clause → k ≡ constant
     → ((n : ℕ) (v : Valuation) → value form n v ≡ total (read_by case step n v) k parts)
     → at ≡ place (measure_at step.here mark)
@@ -101,7 +85,7 @@ adds_set case step clause old new mark constant parts form at k e k_is value_is 
       constraints = λ n v holds met. subst (All (implied.Holds n v)) (sym same) holds;
     })
 
-pub adds_drop : (case : Case) (step : Step) (clause : Clause) (old new : Draft) (mark : Mark) (at : ℕ)
+pub adds_drop : (case : Case) (step : RowStep) (clause : Clause) (old new : Draft) (mark : Mark) (at : ℕ)
     → Drops mark ≡ clause → at ≡ place (measure_at step.here mark)
     → ((k : ℕ) → slice_index_or new.forms.items k None
     ≡ (if at == k then None else slice_index_or old.forms.items k None))

@@ -1,47 +1,33 @@
 -- What giving a value does to the measures.
-use Rattle.std.proofs.Common.{◌≡◌, ℕ, ℤ, pos, ◌+ℤ◌, ◌*ℤ◌, List, [], ◌∷◌, length, Some, None, Result, Ok, Err, unwrap_or}
-use Rattle.std.proofs.Common.{Option, false, ◌≤ℤ◌, ◌<◌, ◌≤◌, ◌+◌, ◌*◌, ◌/◌, neg_ℤ}
-use Rattle.std.proofs.Common.{slice_index_or, zero, suc, negsuc, ◌-ℤ◌, subst, refl, sym, ap, ◌∙◌, arith, FitsSigned}
-use Rattle.std.proofs.lemmas.Int.{ints, SFits-int_wrap, int_wrap_fits, quot_fits}
+use Rattle.teco_rows.proofs.Prelude.{◌≡◌, ℕ, ℤ, pos, ◌+ℤ◌, ◌*ℤ◌, List, [], ◌∷◌, length, Some, None, Result, Ok}
+use Rattle.teco_rows.proofs.Prelude.{unwrap_or, Option, false, ◌≤ℤ◌, ◌<◌, ◌≤◌, ◌+◌, ◌*◌, slice_index_or, zero, suc}
+use Rattle.teco_rows.proofs.Prelude.{negsuc, subst, refl, sym, ap, ◌∙◌, arith, ints, Code, All, cast_unsigned, Term}
+use Rattle.teco_rows.proofs.Prelude.{Valuation, value, Level, Operator, Case, VALUE, Of, Given, Unknown, Clause, Sets}
+use Rattle.teco_rows.proofs.Prelude.{Wants, Steps, Pointer, Size, Held, LineEnd, LineStart, LastLength, CodeHere}
+use Rattle.teco_rows.proofs.Prelude.{CodeBefore, Typed, Number, Length, Turns, PushedNumber, PushedLength, First, Value}
+use Rattle.teco_rows.proofs.Prelude.{Measure, One, Each, Outcomes, Places, RowStep, Before, Holds, changed, weight}
+use Rattle.teco_rows.proofs.Prelude.{read_with, Point, IsShape, IsLed, IsTrueOf, Describes, behind, measures_of}
+use Rattle.teco_rows.proofs.Prelude.{Describe, Succeeds, with_level, is_over, IsBelowZero, IsDivided, IsFromZero}
+use Rattle.teco_rows.proofs.Prelude.{Quotients, ◌>>=◌}
+use Rattle.std.proofs.Common.{Err}
+use Rattle.std.proofs.Common.{◌/◌, neg_ℤ}
+use Rattle.std.proofs.Common.{◌-ℤ◌, FitsSigned}
+use Rattle.std.proofs.lemmas.Int.{SFits-int_wrap, int_wrap_fits, quot_fits}
 use Rattle.std.proofs.lemmas.Nat.{and_le_r}
 use Rattle.std.specs.Prelude.{int_div, IfOk}
 use Rattle.teco_base.specs.Arithmetic.{and, or, in_32_bits}
-use Rattle.teco_base.specs.declared.code.Code.{Code}
 use Rattle.teco_model.specs.declared.arguments.Operator.TheVariants.{Plus, Minus, Times, Over, And, Or}
 use Rattle.teco_linear.specs.Implied as linear
-use Rattle.std.specs.List.{All}
-use Rattle.std.specs.Int.{w32, cast_unsigned}
-use Rattle.teco_linear.specs.declared.term.Term.{Term}
-use Rattle.teco_linear.specs.Form.{Valuation, value}
+use Rattle.std.specs.Int.{w32}
 use Rattle.teco_model.specs.Arguments.{level_with, value_with, result_of}
-use Rattle.teco_model.specs.declared.arguments.Level.{Level}
-use Rattle.teco_model.specs.declared.arguments.Operator.{Operator}
-use Rattle.teco_rows.specs.declared.case.Case.{Case}
-use Rattle.teco_rows.specs.declared.levels.TheConstants.{GIVES, MASKS, WRAPS, STEP, VALUE, NO}
-use Rattle.teco_rows.specs.declared.row.Of.{Of}
-use Rattle.teco_rows.specs.declared.row.Of.TheVariants.{Given, Unknown}
-use Rattle.teco_rows.specs.declared.row.Clause.{Clause}
-use Rattle.teco_rows.specs.declared.row.Clause.TheVariants.{Sets, Wants}
-use Rattle.teco_rows.specs.declared.measure.Single.TheVariants.{Steps, Pointer, Size, Held, LineEnd, LineStart}
-use Rattle.teco_rows.specs.declared.measure.Single.TheVariants.{LastLength, CodeHere, CodeBefore, Typed}
-use Rattle.teco_rows.specs.declared.measure.Family.TheVariants.{Number, Length, Turns, PushedNumber, PushedLength}
-use Rattle.teco_rows.specs.declared.measure.Family.TheVariants.{First, Value}
-use Rattle.teco_rows.specs.declared.measure.Measure.{Measure}
-use Rattle.teco_rows.specs.declared.measure.Measure.TheVariants.{One, Each}
-use Rattle.teco_rows.specs.declared.outcomes.Outcomes.{Outcomes}
-use Rattle.teco_rows.specs.declared.row.Places.{Places}
-use Rattle.teco_rows.specs.declared.row.Step.{Step}
-use Rattle.teco_rows.specs.Rows.{Before, Holds, changed, weight}
-use Rattle.teco_rows.specs.Cases.{read_with}
-use Rattle.teco_rows.specs.States.{Point, IsShape, IsLed, IsTrueOf, Describes, WaitsFor, behind, measures_of}
-use Rattle.teco_rows.specs.Foretold.{Describe, Gives, IsAllowed, IsMaskOf, IsMasked, IsOne, IsValued, IsWrapped, Makes}
-use Rattle.teco_rows.specs.Foretold.{Succeeds}
-use Rattle.teco_rows.specs.Foretold.{Values, Wraps, with_level, level_of, valued_at}
-use Rattle.teco_rows.specs.Foretold.{GivesAny, is_over}
-use Rattle.teco_rows.specs.Foretold.{AreTwo, Divides, IsBelowZero, IsDivided, IsDivisor, IsFromZero, Quotients}
+use Rattle.teco_rows.specs.declared.levels.TheConstants.{GIVES, MASKS, WRAPS, STEP, NO}
+use Rattle.teco_rows.specs.States.{WaitsFor}
+use Rattle.teco_rows.specs.Foretold.{Gives, IsAllowed, IsMaskOf, IsMasked, IsOne, IsValued, IsWrapped, Makes}
+use Rattle.teco_rows.specs.Foretold.{Values, Wraps, level_of, valued_at}
+use Rattle.teco_rows.specs.Foretold.{GivesAny}
+use Rattle.teco_rows.specs.Foretold.{AreTwo, Divides, IsDivisor}
 use Rattle.teco_rows.proofs.Pending.{level_at, level_same}
 use Rattle.teco_rows.proofs.Describing.{led_to, among}
-use Rattle.teco_model.specs.Checked.{◌>>=◌}
 
 -- The clauses where a number from 0 on is divided by another, and where one below 0 is. They have the divisor, what it
 -- is below 0, and one less than it.
@@ -188,7 +174,7 @@ module _ (s : Point) (level : Level) (here : Places) (given unknown : ℕ
         becomes = becomes (unknown 0) (Unknown 0) worth refl;
       }
 
-pub is_valued : (case after : Case) (step : Step) → step.clauses.now ≡ GIVES
+pub is_valued : (case after : Case) (step : RowStep) → step.clauses.now ≡ GIVES
     → ((s : Point) → IsShape case.shape s → step.here.level ≡ length s.arguments.outer) → IsLed case step None after
     → IsValued case (slice_index_or step.given.now 0 []) after
 is_valued case after step row at led n v s true_of =
@@ -198,7 +184,7 @@ is_valued case after step row at led n v s true_of =
     led_to n v case after step s (level_of s x) b.unknown led true_of
     (subst (λ r. Holds r b (measures_of (valued_at s x))) (sym row) holds)
 
-pub is_wrapped : (case after : Case) (step : Step) → step.clauses.now ≡ WRAPS
+pub is_wrapped : (case after : Case) (step : RowStep) → step.clauses.now ≡ WRAPS
     → ((s : Point) → IsShape case.shape s → step.here.level ≡ length s.arguments.outer) → IsLed case step None after
     → IsWrapped case after
 is_wrapped case after step row at led n v s x true_of fits =
@@ -207,7 +193,7 @@ is_wrapped case after step row at led n v s x true_of fits =
     led_to n v case after step s (level_of s x) b.unknown led true_of
     (subst (λ r. Holds r b (measures_of (valued_at s x))) (sym row) holds)
 
-pub is_masked : (case after : Case) (step : Step) → step.clauses.now ≡ MASKS
+pub is_masked : (case after : Case) (step : RowStep) → step.clauses.now ≡ MASKS
     → ((s : Point) → IsShape case.shape s → step.here.level ≡ length s.arguments.outer) → IsLed case step None after
     → IsMasked case (slice_index_or step.given.now 0 []) after
 is_masked case after step row at led n v s x true_of least most =
@@ -217,7 +203,7 @@ is_masked case after step row at led n v s x true_of least most =
     led_to n v case after step s (level_of s x) b.unknown led true_of
     (subst (λ r. Holds r b (measures_of (valued_at s x))) (sym row) holds)
 
-pub is_from_zero : (case after : Case) (step : Step) (by times minus less : ℤ) → IsLed case step None after
+pub is_from_zero : (case after : Case) (step : RowStep) (by times minus less : ℤ) → IsLed case step None after
     → step.clauses.now ≡ from_zero times minus less → times ≡ by → minus ≡ neg_ℤ by → less ≡ by -ℤ pos 1 → IsDivisor by
     → ((s : Point) → IsShape case.shape s → step.here.level ≡ length s.arguments.outer)
     → IsDivided IsFromZero by case (slice_index_or step.given.now 0 []) after
@@ -232,7 +218,7 @@ is_from_zero case after step by times minus less led row same negated below divi
     led_to n v case after step s (level_of s x) b.unknown led true_of
     (subst (λ r. Holds r b (measures_of (valued_at s x))) (sym numbers) holds)
 
-pub is_below_zero : (case after : Case) (step : Step) (by times minus less : ℤ) → IsLed case step None after
+pub is_below_zero : (case after : Case) (step : RowStep) (by times minus less : ℤ) → IsLed case step None after
     → step.clauses.now ≡ below_zero times minus less → times ≡ by → minus ≡ neg_ℤ by → less ≡ by -ℤ pos 1 → IsDivisor by
     → ((s : Point) → IsShape case.shape s → step.here.level ≡ length s.arguments.outer)
     → IsDivided IsBelowZero by case (slice_index_or step.given.now 0 []) after

@@ -1,30 +1,15 @@
 -- How a row leads to the state behind a command.
-use Rattle.std.proofs.Common.{◌≡◌, ℕ, ◌+◌, ◌==◌, ◌&&◌, ℤ, List, [], ◌∷◌, ◌++◌, length, Result, Ok, slice_index_or}
-use Rattle.std.proofs.Common.{Bool, true, false, not, Option, Some, None, if◌then◌else◌, slice_get, refl, sym, ap}
-use Rattle.std.proofs.Common.{subst, ◌∙◌}
-use Rattle.teco_base.specs.declared.code.Code.{Code}
-use Rattle.teco_linear.specs.declared.term.Term.{Term}
-use Rattle.teco_linear.specs.Form.{Valuation, value}
+use Rattle.teco_rows.proofs.Prelude.{◌≡◌, ℕ, ◌+◌, ◌==◌, ◌&&◌, ℤ, List, [], ◌∷◌, ◌++◌, length, Result, Ok}
+use Rattle.teco_rows.proofs.Prelude.{slice_index_or, Bool, true, false, Option, Some, None, if◌then◌else◌, slice_get}
+use Rattle.teco_rows.proofs.Prelude.{refl, sym, ap, subst, ◌∙◌, Code, Term, Valuation, value, Kept, Case, Outcomes}
+use Rattle.teco_rows.proofs.Prelude.{Single, Family, Number, Length, Turns, PushedNumber, PushedLength, First, Value}
+use Rattle.teco_rows.proofs.Prelude.{Measure, One, Each, Mark, Clause, Sets, Drops, Wants, Places, family_code, Before}
+use Rattle.teco_rows.proofs.Prelude.{AreMet, changed, is_at, index_at, total, Point, IsTrueOf, each, single, number_of}
+use Rattle.teco_rows.proofs.Prelude.{length_of, from_end, measures_of, IsCommanded, Leads, commanded, Describe}
+use Rattle.teco_rows.proofs.Prelude.{Succeeds}
+use Rattle.std.proofs.Common.{not}
 use Rattle.teco_model.specs.Effect.{Effect}
-use Rattle.teco_model.specs.State.{Kept}
-use Rattle.teco_rows.specs.declared.case.Case.{Case}
-use Rattle.teco_rows.specs.declared.outcomes.Outcomes.{Outcomes}
-use Rattle.teco_rows.specs.declared.measure.Single.{Single}
-use Rattle.teco_rows.specs.declared.measure.Family.{Family}
-use Rattle.teco_rows.specs.declared.measure.Family.TheVariants.{Number, Length, Turns, PushedNumber, PushedLength}
-use Rattle.teco_rows.specs.declared.measure.Family.TheVariants.{First, Value}
-use Rattle.teco_rows.specs.declared.measure.Measure.{Measure}
-use Rattle.teco_rows.specs.declared.measure.Measure.TheVariants.{One, Each}
-use Rattle.teco_rows.specs.declared.row.Mark.{Mark}
 use Rattle.teco_rows.specs.declared.row.Mark.TheVariants as mark
-use Rattle.teco_rows.specs.declared.row.Clause.{Clause}
-use Rattle.teco_rows.specs.declared.row.Clause.TheVariants.{Sets, Drops, Wants}
-use Rattle.teco_rows.specs.declared.row.Places.{Places}
-use Rattle.teco_rows.specs.Measures.{family_code}
-use Rattle.teco_rows.specs.Rows.{Before, AreMet, changed, is_at, index_at, total}
-use Rattle.teco_rows.specs.States.{Point, IsTrueOf, each, single, number_of, length_of, from_end, measures_of}
-use Rattle.teco_rows.specs.Commands.{IsCommanded, Leads, commanded}
-use Rattle.teco_rows.specs.Foretold.{Describe, Succeeds}
 use Rattle.teco_rows.proofs.Describing.{among}
 use Rattle.teco_rows.proofs.Commanding.{answered, read_at}
 use Rattle.teco_rows.proofs.Pending.{level_at, level_same}

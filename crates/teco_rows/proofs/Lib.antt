@@ -1,4 +1,5 @@
 -- Lemmas of cases and rows.
+mod Prelude
 pub mod Sums
 pub mod Copies
 pub mod Following

@@ -1,11 +1,10 @@
 -- Where the line places of 1 and of 0 lie, character by character.
-use Rattle.std.proofs.Common.{◌≡◌, ℕ, zero, suc, ◌+◌, ◌≤◌, ◌<◌, ◌⊎◌, inl, inr, ◌∙◌, arith, refl, sym, ap, subst, List}
-use Rattle.std.proofs.Common.{[], ◌∷◌, ◌++◌, ◌-◌, length, get_or, filter, reverse, Bool, true, false, cond, pos, negsuc}
-use Rattle.std.proofs.Common.{nat_lt}
+use Rattle.teco_rows.proofs.Prelude.{◌≡◌, ℕ, zero, suc, ◌+◌, ◌≤◌, ◌<◌, ◌⊎◌, inl, inr, ◌∙◌, arith, refl, sym, ap, subst}
+use Rattle.teco_rows.proofs.Prelude.{List, [], ◌∷◌, ◌++◌, ◌-◌, length, get_or, Bool, true, false, pos, negsuc, nat_lt}
+use Rattle.teco_rows.proofs.Prelude.{nat_tests, is_line_end}
+use Rattle.std.proofs.Common.{filter, reverse, cond}
 use Rattle.std.proofs.Common.{nat_le}
-use Rattle.std.proofs.lemmas.Bool.Decides.{nat_tests}
 use Rattle.std.proofs.lemmas.List.{reverse-append}
-use Rattle.teco_base.specs.Bytes.{is_line_end}
 use Rattle.teco_base.specs.Lines.{line_places_from, line_places, line_place, places_back}
 
 -- does a line end stand at a place?

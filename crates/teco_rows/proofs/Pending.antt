@@ -1,10 +1,8 @@
 -- Levels of pending arguments.
-use Rattle.std.proofs.Common.{◌≡◌, ℕ, ◌+◌, ◌==◌, ℤ, List, [], ◌∷◌, length, Bool, true, false, Option, Some}
-use Rattle.std.proofs.Common.{if◌then◌else◌, option_and_then, refl, sym, ap, ◌∙◌, arith, length-append}
-use Rattle.std.proofs.lemmas.Bool.Decides.{nat_tests}
-use Rattle.teco_model.specs.declared.arguments.Level.{Level}
-use Rattle.teco_rows.specs.declared.measure.Family.TheVariants.{First, Value}
-use Rattle.teco_rows.specs.States.{each, operators_of, from_end, levels, Point, IsShape}
+use Rattle.teco_rows.proofs.Prelude.{◌≡◌, ℕ, ◌+◌, ◌==◌, ℤ, List, [], ◌∷◌, length, Bool, true, false, Option, Some}
+use Rattle.teco_rows.proofs.Prelude.{if◌then◌else◌, option_and_then, refl, sym, ap, ◌∙◌, arith, length-append}
+use Rattle.teco_rows.proofs.Prelude.{nat_tests, Level, First, Value, each, operators_of, from_end, levels, Point}
+use Rattle.teco_rows.proofs.Prelude.{IsShape}
 use Rattle.teco_rows.specs.declared.case.Shape.{Shape}
 
 pub length_operators : (ls : List Level) → length (operators_of ls) ≡ length ls

@@ -1,12 +1,10 @@
 -- Registers, as a state has them.
-use Rattle.std.proofs.Common.{◌≡◌, ℕ, zero, suc, ◌<◌, ◌==◌, ℤ, pos, List, [], ◌∷◌, length, Bool, true, false, Option}
-use Rattle.std.proofs.Common.{Some, if◌then◌else◌, slice_get, slice_set, slice_index_or, refl, ap, ◌∙◌, arith}
-use Rattle.std.proofs.lemmas.Bool.Decides.{nat_tests}
-use Rattle.teco_base.specs.declared.TheConstants.{REGISTERS}
+use Rattle.teco_rows.proofs.Prelude.{◌≡◌, ℕ, zero, suc, ◌<◌, ◌==◌, ℤ, pos, List, [], ◌∷◌, length, Bool, true, false}
+use Rattle.teco_rows.proofs.Prelude.{Option, Some, if◌then◌else◌, slice_get, slice_index_or, refl, ap, ◌∙◌, arith}
+use Rattle.teco_rows.proofs.Prelude.{nat_tests, REGISTERS, Kept, number_of, length_of}
+use Rattle.std.proofs.Common.{slice_set}
 use Rattle.teco_model.specs.Registers.{Pair, pair_of, empty_pair}
-use Rattle.teco_model.specs.State.{Kept}
 use Rattle.teco_model.specs.laws.Whole.{IsWhole}
-use Rattle.teco_rows.specs.States.{number_of, length_of}
 
 -- one that is there
 there : (pairs : List Pair) (r : ℕ) → r < length pairs → slice_get pairs r ≡ Some (slice_index_or pairs r empty_pair)

@@ -1,13 +1,10 @@
 -- What the loop over the multiples of a sum keeps.
-use Rattle.std.proofs.Common.{◌≡◌, ℕ, ◌+◌, ◌^◌, ◌<◌, ◌≤◌, ℤ, pos, ◌+ℤ◌, ◌*ℤ◌, List, length, drop, get_or, ap, ◌∙◌}
+use Rattle.teco_rows.proofs.Prelude.{◌≡◌, ℕ, ◌+◌, ◌^◌, ◌<◌, ◌≤◌, ℤ, pos, ◌+ℤ◌, ◌*ℤ◌, List, length, drop, get_or, ap}
+use Rattle.teco_rows.proofs.Prelude.{◌∙◌, Steps, Of, Was, Before, weight, sum_of}
 use Rattle.std.proofs.lemmas.List.{drop_more, drop_all}
 use Rattle.std.proofs.Math.IntN.{one, *ℤ-one}
 use Rattle.std.proofs.Math.Nat.{pow-zero}
-use Rattle.teco_rows.specs.declared.measure.Single.TheVariants.{Steps}
 use Rattle.teco_rows.specs.declared.row.Mark.TheVariants.{One}
-use Rattle.teco_rows.specs.declared.row.Of.{Of}
-use Rattle.teco_rows.specs.declared.row.Of.TheVariants.{Was}
-use Rattle.teco_rows.specs.Rows.{Before, weight, sum_of}
 
 pub *ℤ-1 : (z : ℤ) → z *ℤ pos 1 ≡ z
 unfolding one

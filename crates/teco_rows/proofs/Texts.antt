@@ -1,8 +1,8 @@
 -- The line ends of a text in which other characters stand for some.
-use Rattle.std.proofs.Common.{◌≡◌, ℕ, ◌+◌, ◌-◌, ◌≤◌, ◌<◌, inl, inr, ◌∙◌, arith, refl, ap, List, ◌++◌, length, take}
-use Rattle.std.proofs.Common.{drop, get_or, false, length-append, length-take, length-drop}
-use Rattle.std.proofs.lemmas.List.{get_or_append_left, get_or-append_right, get_or-take, get_or-drop}
-use Rattle.teco_base.specs.Bytes.{is_line_end}
+use Rattle.teco_rows.proofs.Prelude.{◌≡◌, ℕ, ◌+◌, ◌-◌, ◌≤◌, ◌<◌, inl, inr, ◌∙◌, arith, refl, ap, List, ◌++◌, length}
+use Rattle.teco_rows.proofs.Prelude.{take, drop, get_or, false, length-append, get_or_append_left, is_line_end}
+use Rattle.std.proofs.Common.{length-take, length-drop}
+use Rattle.std.proofs.lemmas.List.{get_or-append_right, get_or-take, get_or-drop}
 use Rattle.teco_rows.proofs.Lines.{ends, IsEnd, IsBegin, above_or}
 
 module _ (text new : List ℕ) (a b : ℕ) (ordered : a ≤ b) (inside : b ≤ length text) where

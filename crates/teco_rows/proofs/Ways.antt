@@ -1,31 +1,15 @@
 -- The ways of a command.
-use Rattle.std.proofs.Common.{◌≡◌, ℕ, zero, suc, ◌+◌, ◌<◌, ◌≤◌, ℤ, Option, List, [], ◌∷◌, ◌++◌, length, take, get_or}
-use Rattle.std.proofs.Common.{slice_get, slice_index_or, Some, None, Bool, true, false, ◌&&◌, if◌then◌else◌, refl}
-use Rattle.std.proofs.Common.{sym, ap, subst, ◌∙◌, arith, length-append, ◌⊎◌, inl, inr}
-use Rattle.std.proofs.lemmas.List.{take_more, take_all, get_or_append_left}
-use Rattle.std.proofs.Math.Seq.{get_or-append_seam}
-use Rattle.teco_linear.specs.declared.term.Term.{Term}
-use Rattle.teco_linear.specs.Form.{Valuation, value}
-use Rattle.teco_model.specs.State.{Kept}
-use Rattle.teco_rows.specs.declared.case.Case.{Case}
+use Rattle.teco_rows.proofs.Prelude.{◌≡◌, ℕ, zero, suc, ◌+◌, ◌<◌, ◌≤◌, ℤ, Option, List, [], ◌∷◌, ◌++◌, length, take}
+use Rattle.teco_rows.proofs.Prelude.{get_or, slice_get, slice_index_or, Some, None, Bool, true, false, ◌&&◌}
+use Rattle.teco_rows.proofs.Prelude.{if◌then◌else◌, refl, sym, ap, subst, ◌∙◌, arith, length-append, ◌⊎◌, inl, inr}
+use Rattle.teco_rows.proofs.Prelude.{take_more, take_all, get_or_append_left, get_or-append_seam, Term, Valuation}
+use Rattle.teco_rows.proofs.Prelude.{value, Kept, Case, Outcomes, Places, Single, Steps, Pointer, Size, Held, LineEnd}
+use Rattle.teco_rows.proofs.Prelude.{LineStart, LastLength, CodeHere, CodeBefore, Typed, Number, Length, Turns}
+use Rattle.teco_rows.proofs.Prelude.{PushedNumber, PushedLength, First, Value, Measure, One, Each, Mark, Clause, Sets}
+use Rattle.teco_rows.proofs.Prelude.{Drops, Wants, Before, AreMet, changed, is_at, total, Point, IsTrueOf, each, single}
+use Rattle.teco_rows.proofs.Prelude.{measures_of, Describe, AreCommanded, IsCommanded, Leads, commanded, row_of}
 use Rattle.teco_rows.specs.declared.commands.Way.{Way}
-use Rattle.teco_rows.specs.declared.outcomes.Outcomes.{Outcomes}
-use Rattle.teco_rows.specs.declared.row.Places.{Places}
-use Rattle.teco_rows.specs.declared.measure.Single.{Single}
-use Rattle.teco_rows.specs.declared.measure.Single.TheVariants.{Steps, Pointer, Size, Held, LineEnd, LineStart}
-use Rattle.teco_rows.specs.declared.measure.Single.TheVariants.{LastLength, CodeHere, CodeBefore, Typed}
-use Rattle.teco_rows.specs.declared.measure.Family.TheVariants.{Number, Length, Turns, PushedNumber, PushedLength}
-use Rattle.teco_rows.specs.declared.measure.Family.TheVariants.{First, Value}
-use Rattle.teco_rows.specs.declared.measure.Measure.{Measure}
-use Rattle.teco_rows.specs.declared.measure.Measure.TheVariants.{One, Each}
-use Rattle.teco_rows.specs.declared.row.Mark.{Mark}
 use Rattle.teco_rows.specs.declared.row.Mark.TheVariants as mark
-use Rattle.teco_rows.specs.declared.row.Clause.{Clause}
-use Rattle.teco_rows.specs.declared.row.Clause.TheVariants.{Sets, Drops, Wants}
-use Rattle.teco_rows.specs.Rows.{Before, AreMet, changed, is_at, total}
-use Rattle.teco_rows.specs.States.{Point, IsTrueOf, each, single, measures_of}
-use Rattle.teco_rows.specs.Foretold.{Describe}
-use Rattle.teco_rows.specs.Commands.{AreCommanded, IsCommanded, Leads, commanded, row_of}
 use Rattle.teco_rows.proofs.Applying.{changed-append}
 use Rattle.teco_rows.proofs.Commanding.{answered, read_at}
 use Rattle.teco_rows.proofs.Leading.{leaves, left_alone, left_of, right_of}

@@ -9,7 +9,7 @@ use Rattle.teco_linear.specs.Implied as implied
 use Rattle.teco_rows.specs.declared.measure.Measure.{Measure}
 use Rattle.teco_rows.specs.declared.applied.Draft.{Draft}
 use Rattle.teco_rows.specs.declared.case.Case.{Case}
-use Rattle.teco_rows.specs.declared.row.Step.{Step}
+use Rattle.teco_rows.specs.declared.row.RowStep.{RowStep}
 use Rattle.teco_rows.specs.Measures.{place}
 use Rattle.teco_rows.specs.declared.row.Clause.{Clause}
 use Rattle.teco_rows.specs.Rows.{Measures, Before, Holds, changed, AreMet}
@@ -32,7 +32,7 @@ abbrev pub Agree : ℕ → Valuation → Valuation → Type 0
 Agree symbols v w = (symbol : ℕ) → symbol < symbols → v symbol ≡ w symbol
 
 -- a row at a state is read with the measures before, the values of what is given, and some unknown numbers
-abbrev pub read_with : Step → ℕ → Valuation → Measures → (ℕ → ℤ) → Before
+abbrev pub read_with : RowStep → ℕ → Valuation → Measures → (ℕ → ℤ) → Before
 read_with step n v measures unknown = record {
   here = step.here;
   measures = measures;
@@ -42,7 +42,7 @@ read_with step n v measures unknown = record {
 
 -- Where a case fits the measures before and a row holds, the other case fits the measures behind, with values that
 -- differ at most at new symbols.
-abbrev pub Carries : Case → Step → Case → Type 0
+abbrev pub Carries : Case → RowStep → Case → Type 0
 Carries case step after =
     (n : ℕ) (v : Valuation) (old new : Measures) (unknown : ℕ → ℤ)
     → Fits n v case old
@@ -50,7 +50,7 @@ Carries case step after =
     → (w : Valuation) × Agree case.symbols v w × Fits n w after new
 
 -- what a row is read with where the case's own forms are the measures, and its next symbols the unknown numbers
-abbrev pub read_by : Case → Step → ℕ → Valuation → Before
+abbrev pub read_by : Case → RowStep → ℕ → Valuation → Before
 read_by case step n v = read_with step n v (measures_by case.forms.items n v) (λ i. v (case.symbols + i))
 
 -- a term has no symbol, or one below a number
@@ -70,7 +70,7 @@ pub record IsWhole (case : Case) : Type 0 where
   pub constraints : All (IsAbout case.symbols) case.constraints.items
 
 -- A case that is being made of another has what clauses make of the measures, and what they want.
-pub record Adds (case : Case) (step : Step) (clauses : List Clause) (old new : Draft) : Type 0 where
+pub record Adds (case : Case) (step : RowStep) (clauses : List Clause) (old new : Draft) : Type 0 where
   pub measures : (n : ℕ) (v : Valuation) (m : Measure)
       → measures_by new.forms.items n v m
       ≡ changed clauses (read_by case step n v) m (measures_by old.forms.items n v m)

@@ -9,7 +9,7 @@ use Rattle.teco_model.specs.Going.{after}
 use Rattle.teco_model.specs.State.{Kept}
 use Rattle.teco_model.specs.declared.arguments.Taken as model
 use Rattle.teco_rows.specs.declared.case.Case.{Case}
-use Rattle.teco_rows.specs.declared.commands.Taken.{Taken}
+use Rattle.teco_rows.specs.declared.commands.TakenForms.{TakenForms}
 use Rattle.teco_rows.specs.declared.commands.Way.{Way}
 use Rattle.teco_rows.specs.declared.measure.Measure.{Measure}
 use Rattle.teco_rows.specs.declared.outcomes.Outcomes.{Outcomes}
@@ -27,11 +27,11 @@ EndsWith case form =
     → IsTrueOf n v case s → final_value s.arguments.level ≡ Ok (value_if form n v)
 
 -- the arguments that forms are
-abbrev pub taken_by : Taken → ℕ → Valuation → model.Taken
+abbrev pub taken_by : TakenForms → ℕ → Valuation → model.Taken
 taken_by taken n v = record { first = value_if taken.first n v; value = value_if taken.value n v }
 
 -- a command takes no code, but the arguments that forms are
-abbrev pub IsTaken : Case → Taken → Type 0
+abbrev pub IsTaken : Case → TakenForms → Type 0
 IsTaken case taken =
     (n : ℕ) (v : Valuation) (s : Point)
     → IsTrueOf n v case s → arguments_of s.arguments.level ≡ Ok (taken_by taken n v)
@@ -81,7 +81,7 @@ pub record AreCommanded
 
 -- Where it begins so, what is done with the arguments that forms are comes to no code, and one of the cases describes
 -- the state behind.
-abbrev pub Performs : (model.Taken → Kept → Result Effect Code) → Taken → Case → Outcomes → Type 0
+abbrev pub Performs : (model.Taken → Kept → Result Effect Code) → TakenForms → Case → Outcomes → Type 0
 Performs execute taken case all =
     (n : ℕ) (v : Valuation) (s : Point)
     → Begins n v case all s

@@ -13,7 +13,7 @@ use Rattle.teco_rows.specs.declared.case.Case.{Case}
 use Rattle.teco_rows.specs.declared.levels.TheConstants.{FIRST, VALUE}
 use Rattle.teco_rows.specs.declared.measure.Measure.{Measure}
 use Rattle.teco_rows.specs.declared.row.Places.{Places}
-use Rattle.teco_rows.specs.declared.row.Step.{Step}
+use Rattle.teco_rows.specs.declared.row.RowStep.{RowStep}
 use Rattle.teco_rows.specs.Cases.{Carries, measures_by}
 use Rattle.teco_rows.specs.declared.outcomes.Outcomes.{Outcomes}
 use Rattle.teco_rows.specs.Foretold.{Begins, Describe, Succeeds, level_of, with_level}
@@ -56,7 +56,7 @@ IsOutermost case outermost =
     → (level : Level) × IsTrueOf n v outermost (with_arguments s (record { level = level; outer = [] }))
 
 -- a case is behind a row, with one level more, at which nothing waits
-pub record IsDeeper (case : Case) (step : Step) (after : Case) : Type 0 where
+pub record IsDeeper (case : Case) (step : RowStep) (after : Case) : Type 0 where
   pub carries : Carries case step after
   pub operators : after.shape.operators.items ≡ case.shape.operators.items ++ None ∷ []
   pub iterations : after.shape.iterations ≡ case.shape.iterations

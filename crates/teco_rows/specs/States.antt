@@ -21,7 +21,7 @@ use Rattle.teco_rows.specs.declared.measure.Measure.TheVariants.{One, Each}
 use Rattle.teco_rows.specs.declared.case.Case.{Case}
 use Rattle.teco_rows.specs.declared.case.Shape.{Shape}
 use Rattle.teco_rows.specs.Rows.{Measures}
-use Rattle.teco_rows.specs.declared.row.Step.{Step}
+use Rattle.teco_rows.specs.declared.row.RowStep.{RowStep}
 use Rattle.teco_rows.specs.Cases.{Fits, Carries}
 
 -- What there was at the entry: how many pairs were on the push-down list, and how many bytes were typed.
@@ -130,7 +130,7 @@ abbrev pub WaitsFor : Option Operator → Case → Type 0
 WaitsFor operator case = (s : Point) → IsShape case.shape s → s.arguments.level.operator ≡ operator
 
 -- a case is behind a row, and another operator waits
-pub record IsLed (case : Case) (step : Step) (operator : Option Operator) (after : Case) : Type 0 where
+pub record IsLed (case : Case) (step : RowStep) (operator : Option Operator) (after : Case) : Type 0 where
   pub carries : Carries case step after
   pub last : IsLast operator case.shape.operators.items after.shape.operators.items
   pub iterations : after.shape.iterations ≡ case.shape.iterations

@@ -10,8 +10,8 @@ ghost use Rattle.teco_rows.specs.Cases.{Adds, Carries, IsAbout, IsBelow, IsOptio
 ghost use Rattle.teco_rows.specs.Cases.{read_by, value_if};
 
 use crate::case::{Case, Shape};
-use crate::fault::Fault;
-use crate::row::{Clause, Of, Part, Step};
+use crate::fault::RowFault;
+use crate::row::{Clause, MultipleOf, Of, RowStep};
 use std::alloc::Global;
 use teco_linear::{Form, LinearFault, Scale, Term};
 
@@ -52,7 +52,7 @@ pub fn form_at(
 }
 
 // The form of what a row takes a multiple of.
-fn form_of(case: &Case, step: &Step, of: Of, alloc: Global) -> Result<Form, Fault>
+fn form_of(case: &Case, step: &RowStep, of: Of, alloc: Global) -> Result<Form, RowFault>
     ensures { IfOk result (λ form. (n : ℕ) (v : Valuation)
         → value form n v ≡ weight (read_by case.now step.now n v) of) }
 {
@@ -76,7 +76,7 @@ fn form_of(case: &Case, step: &Step, of: Of, alloc: Global) -> Result<Form, Faul
                 let form = Form::symbol(symbol, alloc)?;
                 Ok(form)
             }
-            None => Err(Fault::TooMany),
+            None => Err(RowFault::TooMany),
         },
     }
 }
@@ -84,11 +84,11 @@ fn form_of(case: &Case, step: &Step, of: Of, alloc: Global) -> Result<Form, Faul
 // The form of a constant and multiples.
 fn sum(
     case: &Case,
-    step: &Step,
+    step: &RowStep,
     constant: i64,
-    parts: &[Part],
+    parts: &[MultipleOf],
     alloc: Global,
-) -> Result<Form, Fault>
+) -> Result<Form, RowFault>
     ensures { IfOk result (λ form. (n : ℕ) (v : Valuation)
         → value form n v ≡ total (read_by case.now step.now n v) constant parts.now) }
 {
@@ -149,13 +149,13 @@ fn are_about(forms: &[Form], symbols: u32) -> bool
 }
 
 // Makes the forms reach a place.
-fn reach(forms: &mut Vec<Option<Form>>, place: usize) -> Result<(), Fault>
+fn reach(forms: &mut Vec<Option<Form>>, place: usize) -> Result<(), RowFault>
     ensures kept { OnOk result ((k : ℕ)
         → slice_index_or forms.new.items k None ≡ slice_index_or forms.old.items k None) }
     ensures long { OnOk result (place < length forms.new.items) }
 {
     if place >= MAX_PLACES {
-        return Err(Fault::TooMany);
+        return Err(RowFault::TooMany);
     }
     while forms.len() <= place {
         forms.push(None)?;
@@ -164,7 +164,7 @@ fn reach(forms: &mut Vec<Option<Form>>, place: usize) -> Result<(), Fault>
 }
 
 /// Puts a form, or none, into a place.
-pub fn put(forms: &mut Vec<Option<Form>>, place: usize, form: Option<Form>) -> Result<(), Fault>
+pub fn put(forms: &mut Vec<Option<Form>>, place: usize, form: Option<Form>) -> Result<(), RowFault>
     ensures { OnOk result ((k : ℕ) → slice_index_or forms.new.items k None
         ≡ (if place == k then form else slice_index_or forms.old.items k None)) }
 {
@@ -174,7 +174,7 @@ pub fn put(forms: &mut Vec<Option<Form>>, place: usize, form: Option<Form>) -> R
 }
 
 /// The same forms once more.
-pub fn copied_forms(forms: &[Option<Form>], alloc: Global) -> Result<Vec<Option<Form>>, Fault>
+pub fn copied_forms(forms: &[Option<Form>], alloc: Global) -> Result<Vec<Option<Form>>, RowFault>
     ensures { IfOk result (λ copies. (n : ℕ) (v : Valuation) (k : ℕ)
         → value_if (slice_index_or copies.items k None) n v
         ≡ value_if (slice_index_or forms.now k None) n v) }
@@ -187,7 +187,7 @@ pub fn copied_forms(forms: &[Option<Form>], alloc: Global) -> Result<Vec<Option<
 }
 
 /// The same constraints once more.
-pub fn copied_constraints(forms: &[Form], alloc: Global) -> Result<Vec<Form>, Fault>
+pub fn copied_constraints(forms: &[Form], alloc: Global) -> Result<Vec<Form>, RowFault>
     ensures { IfOk result (λ copies. (n : ℕ) (v : Valuation)
         → All (Holds n v) forms.now → All (Holds n v) copies.items) }
 {
@@ -209,10 +209,10 @@ struct Draft {
 fn follow(
     draft: &mut Draft,
     case: &Case,
-    step: &Step,
+    step: &RowStep,
     clause: &Clause,
     alloc: Global,
-) -> Result<(), Fault>
+) -> Result<(), RowFault>
     ensures { OnOk result (Adds case.now step.now (clause.now ∷ []) draft.old draft.new) }
 {
     match clause {
@@ -235,15 +235,15 @@ fn follow(
 
 /// The case behind a row, with this shape. It is refused where a form of the case, or one that is
 /// given, has a symbol that the case does not have.
-pub fn applied(case: &Case, step: &Step, shape: Shape, alloc: Global) -> Result<Case, Fault>
+pub fn applied(case: &Case, step: &RowStep, shape: Shape, alloc: Global) -> Result<Case, RowFault>
     ensures shape { IfOk result (λ after. after.shape ≡ shape) }
     ensures carries { IfOk result (λ after. Carries case.now step.now after) }
 {
     let Some(symbols) = case.symbols.checked_add(step.unknowns) else {
-        return Err(Fault::TooMany);
+        return Err(RowFault::TooMany);
     };
     if !is_whole(case) || !are_about(step.given, case.symbols) {
-        return Err(Fault::Linear(LinearFault::UnknownSymbol));
+        return Err(RowFault::Linear(LinearFault::UnknownSymbol));
     }
     let forms = copied_forms(&case.forms, alloc)?;
     let constraints = copied_constraints(&case.constraints, alloc)?;

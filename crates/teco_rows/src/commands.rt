@@ -6,17 +6,17 @@ ghost use Rattle.teco_rows.specs.Cases.{value_if};
 ghost use Rattle.teco_rows.specs.Commands.{AreCommanded, EndsWith, IsAtLevel, IsCommanded, IsTaken, row_of};
 
 use crate::case::Case;
-use crate::fault::Fault;
+use crate::fault::RowFault;
 use crate::levels::{self, FIRST, NO, STEP, VALUE};
 use crate::measure::Family;
-use crate::row::{Clause, Of, Places, Step};
+use crate::row::{Clause, Of, Places, RowStep};
 use std::alloc::Global;
 use teco_linear::Form;
 use teco_model::Operator;
 
 /// The forms of the arguments that a command takes.
 #[derive(Drop)]
-pub struct Taken {
+pub struct TakenForms {
     pub first: Option<Form>,
     pub value: Option<Form>,
 }
@@ -25,26 +25,26 @@ pub struct Taken {
 pub const TAKES: [Clause; 3] = [STEP, Clause::Drops(FIRST), Clause::Drops(VALUE)];
 
 // The number that a sign is where nothing stands before it.
-fn sign(operator: Operator, alloc: Global) -> Result<Option<Form>, Fault>
+fn sign(operator: Operator, alloc: Global) -> Result<Option<Form>, RowFault>
     ensures { IfOk result (λ form. (n : ℕ) (v : Valuation)
         → value_at_end None (Some operator) ≡ Ok (value_if form n v)) }
 {
     match operator {
         Operator::Plus => Ok(Some(Form::constant(1, alloc)?)),
         Operator::Minus => Ok(Some(Form::constant(-1, alloc)?)),
-        _ => Err(Fault::Argument),
+        _ => Err(RowFault::Argument),
     }
 }
 
 /// The value of the innermost level when it is finished, if there is one.
-pub fn final_value(case: &Case, alloc: Global) -> Result<Option<Form>, Fault>
+pub fn final_value(case: &Case, alloc: Global) -> Result<Option<Form>, RowFault>
     ensures { IfOk result (λ form. EndsWith case.now form) }
 {
     let value = levels::pending(case, Family::Value, alloc)?;
     match levels::waiting(case) {
         None => Ok(value),
         Some(operator) if value.is_none() => sign(operator, alloc),
-        Some(_) => Err(Fault::Argument),
+        Some(_) => Err(RowFault::Argument),
     }
 }
 
@@ -56,19 +56,19 @@ fn is_alone(first: &Option<Form>, value: &Option<Form>) -> bool
 }
 
 /// What a command takes. It is refused where that is an argument code.
-pub fn take_arguments(case: &Case, alloc: Global) -> Result<Taken, Fault>
+pub fn take_arguments(case: &Case, alloc: Global) -> Result<TakenForms, RowFault>
     ensures { IfOk result (λ taken. IsTaken case.now taken) }
 {
     let first = levels::pending(case, Family::First, alloc)?;
     let value = final_value(case, alloc)?;
     if is_alone(&first, &value) {
-        return Err(Fault::Argument);
+        return Err(RowFault::Argument);
     }
-    Ok(Taken { first, value })
+    Ok(TakenForms { first, value })
 }
 
 /// The form of a value, or of the number that stands for one.
-pub fn argument(given: Option<Form>, absent: i128, alloc: Global) -> Result<Form, Fault>
+pub fn argument(given: Option<Form>, absent: i128, alloc: Global) -> Result<Form, RowFault>
     ensures { IfOk result (λ form. (n : ℕ) (v : Valuation)
         → value form n v ≡ unwrap_or (value_if given n v) absent) }
 {
@@ -110,7 +110,7 @@ pub fn command(
     given: &[Form],
     here: Places,
     alloc: Global,
-) -> Result<Case, Fault>
+) -> Result<Case, RowFault>
     requires level { IsAtLevel here case.now }
     ensures { IfOk result (λ after. IsCommanded case.now (row_of way.now) given.now here after) }
 {
@@ -118,7 +118,7 @@ pub fn command(
     clauses.extend_from_slice(&TAKES)?;
     clauses.extend_from_slice(way.answers)?;
     clauses.extend_from_slice(way.does)?;
-    let step = Step {
+    let step = RowStep {
         clauses: &clauses,
         here,
         given,
@@ -134,7 +134,7 @@ pub fn commands(
     given: &[Form],
     here: Places,
     alloc: Global,
-) -> Result<Vec<Case>, Fault>
+) -> Result<Vec<Case>, RowFault>
     requires level { IsAtLevel here case.now }
     ensures { IfOk result (λ cases. AreCommanded case.now ways.now given.now here cases.items) }
 {

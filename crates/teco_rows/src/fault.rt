@@ -1,6 +1,6 @@
 //! Why no outcomes are told.
 ghost use Rattle.std.specs.Prelude.{◌≡◌};
-ghost use Rattle.teco_rows.specs.declared.fault.Fault.TheVariants.{Linear};
+ghost use Rattle.teco_rows.specs.declared.fault.RowFault.TheVariants.{Linear};
 ghost use Rattle.teco_linear.specs.declared.fault.LinearFault.TheVariants.{Memory};
 
 use std::alloc::{AllocError, AllocFailed};
@@ -9,7 +9,7 @@ use thiserror::Error;
 
 /// Why no outcomes are told.
 #[derive(Clone, Copy, Debug, PartialEq, Eq, Error)]
-pub enum Fault {
+pub enum RowFault {
     /// A form was refused.
     #[error("{0}")]
     Linear(LinearFault),
@@ -24,26 +24,26 @@ pub enum Fault {
     NotTold,
 }
 
-impl From<LinearFault> for Fault {
+impl From<LinearFault> for RowFault {
     ghost from_gives = { λ refused e. e ≡ Linear refused };
 
-    fn from(refused: LinearFault) -> Fault {
-        Fault::Linear(refused)
+    fn from(refused: LinearFault) -> RowFault {
+        RowFault::Linear(refused)
     }
 }
 
-impl From<AllocError> for Fault {
+impl From<AllocError> for RowFault {
     ghost from_gives = { λ _ e. e ≡ Linear Memory };
 
-    fn from(_refused: AllocError) -> Fault {
-        Fault::Linear(LinearFault::Memory)
+    fn from(_refused: AllocError) -> RowFault {
+        RowFault::Linear(LinearFault::Memory)
     }
 }
 
-impl<T: Drop> From<AllocFailed<T>> for Fault {
+impl<T: Drop> From<AllocFailed<T>> for RowFault {
     ghost from_gives = { λ _ e. e ≡ Linear Memory };
 
-    fn from(_refused: AllocFailed<T>) -> Fault {
-        Fault::Linear(LinearFault::Memory)
+    fn from(_refused: AllocFailed<T>) -> RowFault {
+        RowFault::Linear(LinearFault::Memory)
     }
 }

@@ -12,14 +12,14 @@ ghost use Rattle.teco_rows.specs.States.{Point, IsTrueOf, single, measures_of};
 
 use crate::applied::form_at;
 use crate::case::Case;
-use crate::fault::Fault;
+use crate::fault::RowFault;
 use crate::measure::{Family, Measure, Single};
 use std::alloc::Global;
 use teco_base::Reg;
 use teco_linear::{Form, Scale};
 
 /// The form of a measure, if the state has it.
-pub fn measured(case: &Case, measure: Measure, alloc: Global) -> Result<Option<Form>, Fault>
+pub fn measured(case: &Case, measure: Measure, alloc: Global) -> Result<Option<Form>, RowFault>
     ensures { IfOk result (λ form. (n : ℕ) (v : Valuation) (s : Point) → IsTrueOf n v case.now s
         → value_if form n v ≡ measures_of s measure) }
 {
@@ -28,42 +28,42 @@ pub fn measured(case: &Case, measure: Measure, alloc: Global) -> Result<Option<F
 }
 
 /// The form of a measure that a state has once.
-pub fn single(case: &Case, which: Single, alloc: Global) -> Result<Form, Fault>
+pub fn single(case: &Case, which: Single, alloc: Global) -> Result<Form, RowFault>
     ensures { IfOk result (λ form. (n : ℕ) (v : Valuation) (s : Point) → IsTrueOf n v case.now s
         → value form n v ≡ single s which) }
 {
     match measured(case, Measure::One(which), alloc)? {
         Some(form) => Ok(form),
-        None => Err(Fault::TooMany),
+        None => Err(RowFault::TooMany),
     }
 }
 
 /// The form of the number of a register.
-pub fn number(case: &Case, register: Reg, alloc: Global) -> Result<Form, Fault>
+pub fn number(case: &Case, register: Reg, alloc: Global) -> Result<Form, RowFault>
     ensures { IfOk result (λ form. (n : ℕ) (v : Valuation) (s : Point) → IsTrueOf n v case.now s
         → IsWhole s.kept → value form n v ≡ number_in register s.kept) }
 {
     let index = register.index() as u32;
     match measured(case, Measure::Each(Family::Number, index), alloc)? {
         Some(form) => Ok(form),
-        None => Err(Fault::TooMany),
+        None => Err(RowFault::TooMany),
     }
 }
 
 /// The form of the length of a register's text.
-pub fn length(case: &Case, register: Reg, alloc: Global) -> Result<Form, Fault>
+pub fn length(case: &Case, register: Reg, alloc: Global) -> Result<Form, RowFault>
     ensures { IfOk result (λ form. (n : ℕ) (v : Valuation) (s : Point) → IsTrueOf n v case.now s
         → IsWhole s.kept → value form n v ≡ pos (list_length (text_in register s.kept))) }
 {
     let index = register.index() as u32;
     match measured(case, Measure::Each(Family::Length, index), alloc)? {
         Some(form) => Ok(form),
-        None => Err(Fault::TooMany),
+        None => Err(RowFault::TooMany),
     }
 }
 
 /// That a form fits 32 bits, as two conditions.
-pub fn within_32_bits(form: &Form, alloc: Global) -> Result<Vec<Form>, Fault>
+pub fn within_32_bits(form: &Form, alloc: Global) -> Result<Vec<Form>, RowFault>
     ensures { IfOk result (λ conditions. (n : ℕ) (v : Valuation)
         → All (Holds n v) conditions.items → FitsSigned w32 (value form.now n v)) }
 {
@@ -97,7 +97,7 @@ pub fn is_number(form: &Form, number: i128) -> bool
 }
 
 /// The product, where one of the forms is a number.
-pub fn product(left: &Form, right: &Form, alloc: Global) -> Result<Option<Form>, Fault>
+pub fn product(left: &Form, right: &Form, alloc: Global) -> Result<Option<Form>, RowFault>
     ensures { IfOk result (λ form. IfSome form (λ form. (n : ℕ) (v : Valuation)
         → value form n v ≡ value left.now n v *ℤ value right.now n v)) }
 {

@@ -14,17 +14,17 @@ ghost use Rattle.teco_rows.specs.States.{measures_of};
 
 use crate::applied::{applied, copied};
 use crate::case::{Case, Shape};
-use crate::fault::Fault;
+use crate::fault::RowFault;
 use crate::forms::{known, measured, product, within_32_bits};
 use crate::measure::{Family, Measure, Single};
 use crate::outcomes::Outcomes;
-use crate::row::{Clause, Mark, Of, Part, Places, Step};
+use crate::row::{Clause, Mark, MultipleOf, Of, Places, RowStep};
 use std::alloc::Global;
 use teco_linear::Form;
 use teco_model::Operator;
 
 /// No multiple.
-pub const NO: Part = (0, Of::Given(0));
+pub const NO: MultipleOf = (0, Of::Given(0));
 
 const STEPS: Mark = Mark::One(Single::Steps);
 
@@ -57,11 +57,11 @@ const MASKS: [Clause; 4] = [
 ];
 
 // The places at hand where an element is about the innermost level.
-pub fn at_level(case: &Case) -> Result<Places, Fault>
+pub fn at_level(case: &Case) -> Result<Places, RowFault>
     ensures { IfOk result (λ here. (s : Point) → IsShape case.now.shape s → here.level ≡ length s.arguments.outer) }
 {
     let Some(level) = case.shape.operators.len().checked_sub(1) else {
-        return Err(Fault::TooMany);
+        return Err(RowFault::TooMany);
     };
     match u32::try_from(level) {
         Ok(level) => Ok(Places {
@@ -70,7 +70,7 @@ pub fn at_level(case: &Case) -> Result<Places, Fault>
             push: 0,
             level,
         }),
-        Err(_) => Err(Fault::TooMany),
+        Err(_) => Err(RowFault::TooMany),
     }
 }
 
@@ -79,7 +79,7 @@ pub fn with_operator(
     shape: &Shape,
     operator: Option<Operator>,
     alloc: Global,
-) -> Result<Shape, Fault>
+) -> Result<Shape, RowFault>
     ensures operators { IfOk result (λ after. IsLast operator shape.now.operators.items after.operators.items) }
     ensures iterations { IfOk result (λ after. after.iterations ≡ shape.now.iterations) }
     ensures pushes { IfOk result (λ after. after.pushes ≡ shape.now.pushes) }
@@ -109,10 +109,10 @@ pub fn waiting(case: &Case) -> Option<Operator>
 // The case behind a row, with this operator at the innermost level.
 pub fn led(
     case: &Case,
-    step: &Step,
+    step: &RowStep,
     operator: Option<Operator>,
     alloc: Global,
-) -> Result<Case, Fault>
+) -> Result<Case, RowFault>
     ensures { IfOk result (λ after. IsLed case.now step.now operator after) }
 {
     let shape = with_operator(&case.shape, operator, alloc)?;
@@ -120,7 +120,7 @@ pub fn led(
 }
 
 /// What comes of an element where one case does.
-pub fn one(case: Case, conditions: Vec<Form>, alloc: Global) -> Result<Outcomes, Fault>
+pub fn one(case: Case, conditions: Vec<Form>, alloc: Global) -> Result<Outcomes, RowFault>
     ensures { IfOk result (λ all. IsOne conditions.items case all) }
 {
     let mut cases = Vec::new(alloc);
@@ -134,7 +134,12 @@ pub fn one(case: Case, conditions: Vec<Form>, alloc: Global) -> Result<Outcomes,
 }
 
 // What comes of an element where one of two cases does.
-fn two(first: Case, second: Case, conditions: Vec<Form>, alloc: Global) -> Result<Outcomes, Fault>
+fn two(
+    first: Case,
+    second: Case,
+    conditions: Vec<Form>,
+    alloc: Global,
+) -> Result<Outcomes, RowFault>
     ensures { IfOk result (λ all. AreTwo conditions.items first second all) }
 {
     let mut cases = Vec::new(alloc);
@@ -149,7 +154,7 @@ fn two(first: Case, second: Case, conditions: Vec<Form>, alloc: Global) -> Resul
 }
 
 /// The form of a value that is pending at the innermost level, if there is one.
-pub fn pending(case: &Case, family: Family, alloc: Global) -> Result<Option<Form>, Fault>
+pub fn pending(case: &Case, family: Family, alloc: Global) -> Result<Option<Form>, RowFault>
     ensures { IfOk result (λ form. (n : ℕ) (v : Valuation) (s : Point) → IsTrueOf n v case.now s
         → value_if form n v ≡ each s family (length s.arguments.outer)) }
 {
@@ -158,7 +163,7 @@ pub fn pending(case: &Case, family: Family, alloc: Global) -> Result<Option<Form
 }
 
 /// The form of the value that an operator takes on its left: the pending one, or 0.
-pub fn left_value(case: &Case, alloc: Global) -> Result<Form, Fault>
+pub fn left_value(case: &Case, alloc: Global) -> Result<Form, RowFault>
     ensures { IfOk result (λ form. (n : ℕ) (v : Valuation) (s : Point) → IsTrueOf n v case.now s
         → value form n v ≡ unwrap_or s.arguments.level.value (pos 0)) }
 {
@@ -174,7 +179,7 @@ pub fn made(
     operator: Operator,
     right: &Form,
     alloc: Global,
-) -> Result<Option<Form>, Fault>
+) -> Result<Option<Form>, RowFault>
     ensures { IfOk result (λ form. IfSome form (λ form. Makes left.now operator right.now form)) }
 {
     match operator {
@@ -189,10 +194,10 @@ pub fn made(
 }
 
 // The case where the value at the innermost level is a form, and no operator waits.
-fn valued(case: &Case, form: &[Form], alloc: Global) -> Result<Case, Fault>
+fn valued(case: &Case, form: &[Form], alloc: Global) -> Result<Case, RowFault>
     ensures { IfOk result (λ after. IsValued case.now (slice_index_or form.now 0 []) after) }
 {
-    let step = Step {
+    let step = RowStep {
         clauses: &GIVES,
         here: at_level(case)?,
         given: form,
@@ -202,10 +207,10 @@ fn valued(case: &Case, form: &[Form], alloc: Global) -> Result<Case, Fault>
 }
 
 // The case where that value is some number of 32 bits.
-fn wrapped(case: &Case, alloc: Global) -> Result<Case, Fault>
+fn wrapped(case: &Case, alloc: Global) -> Result<Case, RowFault>
     ensures { IfOk result (λ after. IsWrapped case.now after) }
 {
-    let step = Step {
+    let step = RowStep {
         clauses: &WRAPS,
         here: at_level(case)?,
         given: &[],
@@ -215,7 +220,7 @@ fn wrapped(case: &Case, alloc: Global) -> Result<Case, Fault>
 }
 
 // A number is given where an operator waits: what it makes is a form, if that fits 32 bits.
-fn give_made(case: &Case, form: Form, alloc: Global) -> Result<Outcomes, Fault>
+fn give_made(case: &Case, form: Form, alloc: Global) -> Result<Outcomes, RowFault>
     ensures { IfOk result (λ all. Values form case.now all) }
 {
     let conditions = within_32_bits(&form, alloc)?;
@@ -224,7 +229,7 @@ fn give_made(case: &Case, form: Form, alloc: Global) -> Result<Outcomes, Fault>
 }
 
 // What an operator can be applied to: what is divided by is at least 1.
-fn allowed(operator: Operator, number: &Form, alloc: Global) -> Result<Vec<Form>, Fault>
+fn allowed(operator: Operator, number: &Form, alloc: Global) -> Result<Vec<Form>, RowFault>
     ensures { IfOk result (λ conditions. (n : ℕ) (v : Valuation)
         → All (Holds n v) conditions.items → IsAllowed operator (value number.now n v)) }
 {
@@ -240,10 +245,10 @@ fn allowed(operator: Operator, number: &Form, alloc: Global) -> Result<Vec<Form>
 }
 
 // The case where that value is some number from 0 to a form.
-fn masked(case: &Case, mask: &[Form], alloc: Global) -> Result<Case, Fault>
+fn masked(case: &Case, mask: &[Form], alloc: Global) -> Result<Case, RowFault>
     ensures { IfOk result (λ after. IsMasked case.now (slice_index_or mask.now 0 []) after) }
 {
-    let step = Step {
+    let step = RowStep {
         clauses: &MASKS,
         here: at_level(case)?,
         given: mask,
@@ -271,7 +276,7 @@ fn give_masked(
     operator: Operator,
     number: &Form,
     alloc: Global,
-) -> Result<Outcomes, Fault>
+) -> Result<Outcomes, RowFault>
     requires { IsMaskOf operator number.now }
     ensures { IfOk result (λ all. Wraps operator number.now case.now all) }
 {
@@ -286,7 +291,7 @@ fn give_wrapped(
     operator: Operator,
     number: &Form,
     alloc: Global,
-) -> Result<Outcomes, Fault>
+) -> Result<Outcomes, RowFault>
     ensures { IfOk result (λ all. Wraps operator number.now case.now all) }
 {
     if is_mask(operator, number) {
@@ -298,7 +303,12 @@ fn give_wrapped(
 }
 
 // The case where that value is the quotient of a form from 0 on by a number.
-fn divided_from_zero(case: &Case, dividend: &[Form], by: i64, alloc: Global) -> Result<Case, Fault>
+fn divided_from_zero(
+    case: &Case,
+    dividend: &[Form],
+    by: i64,
+    alloc: Global,
+) -> Result<Case, RowFault>
     requires { IsDivisor by }
     ensures { IfOk result (λ after.
         IsDivided IsFromZero by case.now (slice_index_or dividend.now 0 []) after) }
@@ -311,7 +321,7 @@ fn divided_from_zero(case: &Case, dividend: &[Form], by: i64, alloc: Global) -> 
         Clause::Wants(0, [(1, Of::Given(0)), (-by, Of::Unknown(0)), NO, NO]),
         Clause::Wants(by - 1, [(-1, Of::Given(0)), (by, Of::Unknown(0)), NO, NO]),
     ];
-    let step = Step {
+    let step = RowStep {
         clauses: &clauses,
         here: at_level(case)?,
         given: dividend,
@@ -321,7 +331,12 @@ fn divided_from_zero(case: &Case, dividend: &[Form], by: i64, alloc: Global) -> 
 }
 
 // And where it is that of a form below 0, which is rounded up.
-fn divided_below_zero(case: &Case, dividend: &[Form], by: i64, alloc: Global) -> Result<Case, Fault>
+fn divided_below_zero(
+    case: &Case,
+    dividend: &[Form],
+    by: i64,
+    alloc: Global,
+) -> Result<Case, RowFault>
     requires { IsDivisor by }
     ensures { IfOk result (λ after.
         IsDivided IsBelowZero by case.now (slice_index_or dividend.now 0 []) after) }
@@ -334,7 +349,7 @@ fn divided_below_zero(case: &Case, dividend: &[Form], by: i64, alloc: Global) ->
         Clause::Wants(0, [(-1, Of::Given(0)), (by, Of::Unknown(0)), NO, NO]),
         Clause::Wants(by - 1, [(1, Of::Given(0)), (-by, Of::Unknown(0)), NO, NO]),
     ];
-    let step = Step {
+    let step = RowStep {
         clauses: &clauses,
         here: at_level(case)?,
         given: dividend,
@@ -358,7 +373,7 @@ fn known_divisor(operator: Operator, number: &Form) -> Option<i64>
 }
 
 // A form that fits 32 bits is divided by a number: the quotient is rounded toward zero.
-fn give_quotient(case: &Case, left: Form, by: i64, alloc: Global) -> Result<Outcomes, Fault>
+fn give_quotient(case: &Case, left: Form, by: i64, alloc: Global) -> Result<Outcomes, RowFault>
     requires { IsDivisor by }
     ensures { IfOk result (λ all. Quotients left by case.now all) }
 {
@@ -370,7 +385,7 @@ fn give_quotient(case: &Case, left: Form, by: i64, alloc: Global) -> Result<Outc
 }
 
 // A number is given where nothing waits.
-fn give_alone(case: &Case, number: Form, alloc: Global) -> Result<Outcomes, Fault>
+fn give_alone(case: &Case, number: Form, alloc: Global) -> Result<Outcomes, RowFault>
     requires { WaitsFor None case.now }
     ensures { IfOk result (λ all. Gives number case.now all) }
 {
@@ -385,7 +400,7 @@ fn give_to(
     number: &Form,
     may_wrap: bool,
     alloc: Global,
-) -> Result<Outcomes, Fault>
+) -> Result<Outcomes, RowFault>
     requires { WaitsFor (Some operator) case.now }
     ensures { IfOk result (λ all. Gives number.now case.now all) }
 {
@@ -405,7 +420,7 @@ fn give_to(
 /// A number is given. What a waiting operator makes of it is a form if that is one, and is taken
 /// to fit 32 bits, unless it `may_wrap`. Of a division by a known number the quotient is bounded,
 /// where what is divided fits 32 bits. Else it is some number of 32 bits.
-pub fn give(case: &Case, number: Form, may_wrap: bool, alloc: Global) -> Result<Outcomes, Fault>
+pub fn give(case: &Case, number: Form, may_wrap: bool, alloc: Global) -> Result<Outcomes, RowFault>
     ensures { IfOk result (λ all. Gives number case.now all) }
 {
     match waiting(case) {
@@ -425,11 +440,11 @@ fn is_over(operator: Option<Operator>) -> bool
 }
 
 /// Some number of 32 bits is given. What is divided by it is not told.
-pub fn give_any(case: &Case, alloc: Global) -> Result<Outcomes, Fault>
+pub fn give_any(case: &Case, alloc: Global) -> Result<Outcomes, RowFault>
     ensures { IfOk result (λ all. GivesAny case.now all) }
 {
     if is_over(waiting(case)) {
-        return Err(Fault::NotTold);
+        return Err(RowFault::NotTold);
     }
     let after = wrapped(case, alloc)?;
     one(after, Vec::new(alloc), alloc)

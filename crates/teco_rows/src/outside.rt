@@ -4,7 +4,7 @@ ghost use Rattle.teco_rows.specs.Levels.{Empties, IsCopyOf, IsFront, IsOutermost
 
 use crate::applied::{copied_constraints, copied_forms, put};
 use crate::case::{Case, Shape};
-use crate::fault::Fault;
+use crate::fault::RowFault;
 use crate::levels::{FIRST, VALUE, at_level};
 use crate::row::Places;
 use std::alloc::Global;
@@ -12,7 +12,7 @@ use teco_linear::Form;
 use teco_model::Operator;
 
 // The same case once more.
-fn copied(case: &Case, alloc: Global) -> Result<Case, Fault>
+fn copied(case: &Case, alloc: Global) -> Result<Case, RowFault>
     ensures { IfOk result (λ copy. IsCopyOf case.now copy) }
 {
     let forms = copied_forms(&case.forms, alloc)?;
@@ -32,7 +32,7 @@ fn copied(case: &Case, alloc: Global) -> Result<Case, Fault>
 }
 
 // Nothing is at a level.
-fn empty_level(forms: &mut Vec<Option<Form>>, here: Places) -> Result<(), Fault>
+fn empty_level(forms: &mut Vec<Option<Form>>, here: Places) -> Result<(), RowFault>
     ensures { OnOk result (Empties here forms.old.items forms.new.items) }
 {
     put(forms, here.measure(FIRST).place(), None)?;
@@ -48,7 +48,7 @@ fn close_level(operators: &mut Vec<Option<Operator>>)
 }
 
 /// The case without the innermost level.
-pub fn outside(case: &Case, alloc: Global) -> Result<Case, Fault>
+pub fn outside(case: &Case, alloc: Global) -> Result<Case, RowFault>
     ensures { IfOk result (λ outside. IsOutside case.now outside) }
 {
     let here = at_level(case)?;
@@ -59,7 +59,7 @@ pub fn outside(case: &Case, alloc: Global) -> Result<Case, Fault>
 }
 
 /// The case with the outermost level alone.
-pub fn outermost(case: &Case, alloc: Global) -> Result<Case, Fault>
+pub fn outermost(case: &Case, alloc: Global) -> Result<Case, RowFault>
     ensures { IfOk result (λ outermost. IsOutermost case.now outermost) }
 {
     let mut outermost = copied(case, alloc)?;

@@ -27,17 +27,17 @@ pub enum Of {
 }
 
 /// A multiple.
-pub type Part = (i64, Of);
+pub type MultipleOf = (i64, Of);
 
 /// What a row says, by a constant and multiples that are added to it.
 #[derive(Clone, Copy)]
 pub enum Clause {
     /// The measure becomes the sum.
-    Sets(Mark, i64, [Part; 4]),
+    Sets(Mark, i64, [MultipleOf; 4]),
     /// The measure is no longer there.
     Drops(Mark),
     /// The sum is at least 0.
-    Wants(i64, [Part; 4]),
+    Wants(i64, [MultipleOf; 4]),
 }
 
 /// Which register, iteration, pushed pair and level an element is about.
@@ -52,7 +52,7 @@ pub struct Places {
 /// A row at a state: what its marks are, the numbers that are given, and how many there are that
 /// are not known.
 #[derive(Clone, Copy)]
-pub struct Step<'a> {
+pub struct RowStep<'a> {
     pub clauses: &'a [Clause],
     pub here: Places,
     pub given: &'a [Form],

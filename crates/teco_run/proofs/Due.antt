@@ -1,21 +1,13 @@
 -- Each file that is touched is touched by a step of the definition.
-use Rattle.std.proofs.Common.{◌≡◌, ℕ, List, [], ◌∷◌, ◌++◌, Option, Some, None, Result, Ok, Err, inl, inr, ◌⊎◌, refl}
-use Rattle.std.proofs.Common.{sym, ap, subst, ◌∙◌}
-use Rattle.std.proofs.lemmas.List.{append-nil}
+use Rattle.teco_run.proofs.Prelude.{◌≡◌, ℕ, List, [], ◌∷◌, ◌++◌, Option, Some, None, Result, Ok, Err, inl, inr, ◌⊎◌}
+use Rattle.teco_run.proofs.Prelude.{refl, sym, ap, subst, ◌∙◌, append-nil, Element, element_at, Frame, State, World}
+use Rattle.teco_run.proofs.Prelude.{File, touches-on, Event, Telling, Halt, Holdings, Joined, ComesTo, TouchesBetween}
+use Rattle.teco_run.proofs.Prelude.{file_of, touched_by_command, touched_by_read, touched_by_step}
 use Rattle.std.specs.List.{AllByRecursion}
 use Rattle.teco_base.specs.declared.code.Code as base
-use Rattle.teco_model.specs.Element.{Element, element_at}
-use Rattle.teco_model.specs.State.{Frame, State, World}
-use Rattle.teco_model.specs.declared.kind.File.{File}
 use Rattle.teco_model.specs.declared.kind.File.TheVariants as file
-use Rattle.teco_pages.proofs.Touching.{touches-on}
-use Rattle.teco_pages.specs.Events.{Event}
-use Rattle.teco_pages.specs.HostFiles.{Telling}
-use Rattle.teco_filing.specs.declared.halt.Halt.{Halt}
 use Rattle.teco_filing.specs.declared.halt.Halt.TheVariants as halt
-use Rattle.teco_run.specs.Holdings.{Holdings, Joined}
-use Rattle.teco_run.specs.Touched.{AreDue, ComesTo, IsDue, IsUnmeasured, TouchesBetween, file_of, touched_by_command}
-use Rattle.teco_run.specs.Touched.{touched_by_read, touched_by_step}
+use Rattle.teco_run.specs.Touched.{AreDue, IsDue, IsUnmeasured}
 
 -- none, or one file
 abbrev OneAtMost : List Event → Type 0

@@ -1,38 +1,25 @@
 -- Commands of pages, as the answers of their elements.
-use Rattle.std.proofs.Common.{◌≡◌, ℕ, zero, suc, ℤ, pos, ◌-◌, ◌⊎◌, inl, inr, Bool, false, Result, Ok, Err, Option}
-use Rattle.std.proofs.Common.{Some, None, refl, ap, subst, sym}
-use Rattle.std.specs.Prelude.{IsSome, unwrap_or}
-use Rattle.std.specs.Option.{ok_or}
+use Rattle.teco_run.proofs.Prelude.{◌≡◌, ℕ, zero, suc, ℤ, pos, ◌-◌, ◌⊎◌, inl, inr, Bool, false, Result, Ok, Err, Option}
+use Rattle.teco_run.proofs.Prelude.{Some, None, refl, ap, subst, sym, IsSome, unwrap_or, ok_or, Updates, Arguments}
+use Rattle.teco_run.proofs.Prelude.{levels_after_answer, ◌>>=◌, Breaks, WritesPart, Output, code_by, reads_page}
+use Rattle.teco_run.proofs.Prelude.{append_reply, in_pages, Progress, one_page_of, page_count, pages, pages_of, World}
+use Rattle.teco_run.proofs.Prelude.{Frame, Taken, Kind, Out, Telling, halt_cause, Halt, Holdings, Joined, Pending}
+use Rattle.teco_run.proofs.Prelude.{Answers, IsNoRange, Leaves, Takes, Works, course_by, reads_one, reply_seen, Course}
 use Rattle.teco_base.specs.declared.code.Code as base
 use Rattle.teco_base.specs.declared.code.Code.TheVariants as code
-use Rattle.teco_model.specs.Arguments.{Arguments, levels_after_answer}
 use Rattle.teco_model.specs.Character.{character}
-use Rattle.teco_model.specs.Checked.{◌>>=◌}
-use Rattle.teco_model.specs.Faults.{Breaks, WritesPart}
-use Rattle.teco_model.specs.Files.{Output}
-use Rattle.teco_model.specs.Going.{code_by}
-use Rattle.teco_model.specs.Memory.{is_range, reads_page}
-use Rattle.teco_model.specs.Outside.{append_reply, in_pages, page_reply, while_left}
-use Rattle.teco_model.specs.Paging.{Progress, needed_output, one_page_of, page_count, pages, pages_of, range_written}
-use Rattle.teco_model.specs.State.{World, Frame}
-use Rattle.teco_model.specs.declared.arguments.Taken.{Taken}
-use Rattle.teco_model.specs.declared.kind.Kind.{Kind}
+use Rattle.teco_model.specs.Memory.{is_range}
+use Rattle.teco_model.specs.Outside.{page_reply, while_left}
+use Rattle.teco_model.specs.Paging.{needed_output, range_written}
 use Rattle.teco_model.specs.declared.kind.Kind.TheVariants as kind
 use Rattle.teco_model.specs.declared.kind.Page.{Page}
 use Rattle.teco_model.specs.declared.kind.Page.TheVariants as page
-use Rattle.teco_model.specs.declared.stop.HostFault.TheVariants.{Out}
-use Rattle.teco_pages.specs.HostFiles.{Telling}
-use Rattle.teco_filing.specs.Worlds.{Writes}
-use Rattle.teco_filing.specs.declared.halt.Halt.{Halt}
+use Rattle.teco_filing.specs.Failures as may
 use Rattle.teco_filing.specs.declared.halt.Halt.TheVariants as halt
 use Rattle.teco_run.proofs.Taking.{taken}
 use Rattle.teco_run.proofs.Together.{Joined-open, Joined-refused, Joined-stays, none-open}
 use Rattle.teco_run.proofs.Works.{made, writing}
-use Rattle.teco_run.specs.Holdings.{Holdings, Joined}
-use Rattle.teco_run.specs.Pending.{Pending}
-use Rattle.teco_run.specs.Replies.{Answers, IsNoRange, IsWritten, Leaves, Takes, Works, course_by, reads_one}
-use Rattle.teco_run.specs.Replies.{reply_seen}
-use Rattle.teco_run.specs.declared.course.Course.{Course}
+use Rattle.teco_run.specs.Replies.{IsWritten}
 use Rattle.teco_run.specs.declared.course.Course.TheVariants as course
 
 -- a page is read but where a range is written
@@ -173,7 +160,7 @@ module _ (k : Kind) (grows : Bool) (frame : Frame) (pending after : Pending) (on
 -- a range is written
 pub range-answers : (p : Page) (frame : Frame) (pending after : Pending) (m n : ℤ) (c : Course) (old new : World)
     (done : Result (Unit {0}) Halt) → IsWritten p → Leaves pending after 0 c
-    → Writes old new (range_written m n old) done →
+    → Updates halt_cause may.writing old new (range_written m n old) done →
     Answers (kind.Page p) false frame after
     (in_pages pending.arguments (range_written m n old >>= (λ world. Ok (record { world = world; left = 0 })))) old
     new (course_by c done)

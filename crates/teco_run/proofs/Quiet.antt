@@ -1,24 +1,14 @@
 -- Steps that touch no file.
-use Rattle.std.proofs.Common.{◌≡◌, ℕ, List, [], ◌∷◌, Option, Some, None, Result, Ok, Err, refl, ap}
+use Rattle.teco_run.proofs.Prelude.{◌≡◌, ℕ, List, [], ◌∷◌, Option, Some, None, Result, Ok, Err, refl, ap, Taken, File}
+use Rattle.teco_run.proofs.Prelude.{Kind, arguments_of, levels_after_taking, ◌>>=◌, Element, element_at}
+use Rattle.teco_run.proofs.Prelude.{Files, Output, settle, filed, Kept, Frames, Outcome, State, World, Next, End}
+use Rattle.teco_run.proofs.Prelude.{outcome_at, reply_of, step, Halt, beside, Pending, at, IsQuiet, touched_by_command}
+use Rattle.teco_run.proofs.Prelude.{touched_by_element, touched_by_read}
 use Rattle.teco_base.specs.declared.code.Code as base
-use Rattle.teco_model.specs.declared.arguments.Taken.{Taken}
-use Rattle.teco_model.specs.declared.kind.File.{File}
 use Rattle.teco_model.specs.declared.kind.File.TheVariants as file
-use Rattle.teco_model.specs.declared.kind.Kind.{Kind}
 use Rattle.teco_model.specs.declared.kind.Kind.TheVariants as kind
-use Rattle.teco_model.specs.Arguments.{Arguments, arguments_of, levels_after_taking}
-use Rattle.teco_model.specs.Checked.{◌>>=◌}
-use Rattle.teco_model.specs.Element.{Element, element_at}
-use Rattle.teco_model.specs.Files.{Files, Output, no_files, output_of}
-use Rattle.teco_model.specs.Going.{settle}
-use Rattle.teco_model.specs.Outside.{filed}
-use Rattle.teco_model.specs.State.{Kept, Frames, Outcome, State, World, Next, End}
-use Rattle.teco_model.specs.Step.{outcome_at, reply_of, step}
-use Rattle.teco_filing.specs.declared.halt.Halt.{Halt}
+use Rattle.teco_model.specs.Files.{no_files, output_of}
 use Rattle.teco_run.proofs.Runs.{settle-no_end}
-use Rattle.teco_run.specs.Holdings.{beside}
-use Rattle.teco_run.specs.Pending.{Pending, at}
-use Rattle.teco_run.specs.Touched.{IsQuiet, touched_by_command, touched_by_element, touched_by_read}
 
 -- one output is open, and there is no file
 one_open : Files

@@ -1,50 +1,27 @@
 -- What commands of pages and files did to what stays, as the answer of their element.
-use Rattle.std.proofs.Common.{◌≡◌, inl, inr, Bool, true, false, Option, Some, None, Result, Ok, Err, refl, ap, ◌∙◌}
-use Rattle.std.specs.Prelude.{IsTrue}
+use Rattle.teco_run.proofs.Prelude.{◌≡◌, inl, inr, Bool, true, false, Option, Some, None, Result, Ok, Err, refl, ap}
+use Rattle.teco_run.proofs.Prelude.{◌∙◌, IsTrue, Does, Updates, ◌>>=◌, Breaks, WritesPart, Reply, Behind, replying}
+use Rattle.teco_run.proofs.Prelude.{code_by, going_on, World, Frame, Kind, NoFile, In, Out, halt_cause, Halt, Memory}
+use Rattle.teco_run.proofs.Prelude.{Host, Pending, Answers, Works, course_by, reply_seen, Course}
 use Rattle.teco_base.specs.declared.code.Code as base
 use Rattle.teco_base.specs.declared.code.Code.TheVariants as code
-use Rattle.teco_model.specs.Checked.{◌>>=◌}
-use Rattle.teco_model.specs.Faults.{Breaks, WritesPart, is_late_for, without_files}
+use Rattle.teco_model.specs.Faults.{is_late_for}
 use Rattle.teco_model.specs.Filing.{abandon_output}
-use Rattle.teco_model.specs.Going.{Reply, Behind, replying, code_by}
 use Rattle.teco_model.specs.Memory.{is_late}
-use Rattle.teco_model.specs.Outside.{going_on, opened}
-use Rattle.teco_model.specs.State.{World, Frame}
+use Rattle.teco_model.specs.Outside.{opened}
 use Rattle.teco_model.specs.declared.kind.File.TheVariants as file
-use Rattle.teco_model.specs.declared.kind.Kind.{Kind}
 use Rattle.teco_model.specs.declared.kind.Kind.TheVariants as kind
-use Rattle.teco_model.specs.declared.stop.HostFault.TheVariants.{NoFile, In, Out}
-use Rattle.teco_filing.specs.Files.{OpensInput, OpensOutput, LetsGo, CopiesAll}
-use Rattle.teco_filing.specs.Worlds.{Reads, Turns, Writes}
-use Rattle.teco_filing.specs.declared.halt.Halt.{Halt}
-use Rattle.teco_filing.specs.declared.halt.Halt.TheVariants.{Code, Memory, Host}
-use Rattle.teco_run.specs.Pending.{Pending}
-use Rattle.teco_run.specs.Replies.{Answers, Works, course_by, reply_seen}
-use Rattle.teco_run.specs.declared.course.Course.{Course}
+use Rattle.teco_filing.specs.Failures as may
+use Rattle.teco_filing.specs.declared.halt.Halt.TheVariants.{Code}
 use Rattle.teco_run.specs.declared.course.Course.TheVariants as course
 
 module _ (k : Kind) (old new : World) where
-  -- a page is read
-  pub reading : IsTrue (is_late k code.Ful) → IsTrue (is_late_for In k code.Ful)
-      → ((left : World) → new ≡ old → Breaks k true In old left new) →
-      (d : Result World base.Code) (done : Result (Unit {0}) Halt) → Reads old new d done → Works k true d old new done
-  reading late told breaks d (Ok u) h = h
-  reading late told breaks d (Err (Code c)) (is, same) = rw is (refl, same)
-  reading late told breaks (Ok w) (Err Memory) (h, same) = (refl, same)
-  reading late told breaks (Err c) (Err Memory) (inl h, same) = absurd (cc)
-  reading late told breaks (Err c) (Err Memory) (inr h, same) = let full : c ≡ code.Ful = cc in (rw full late, same)
-  reading late told breaks d (Err (Host NoFile)) h = absurd h
-  reading late told breaks (Ok w) (Err (Host In)) (h, same) = (tt, breaks w same)
-  reading late told breaks (Err c) (Err (Host In)) (inl h, same) = absurd (cc)
-  reading late told breaks (Err c) (Err (Host In)) (inr h, same) = let full : c ≡ code.Ful = cc in
-      (rw full told, breaks old same)
-  reading late told breaks d (Err (Host Out)) h = absurd h
-
   -- a page is turned
   pub turning : IsTrue (is_late k code.Ful) → IsTrue (is_late_for In k code.Ful)
       → ((left : World) → new ≡ old → Breaks k true In old left new)
       → ((left : World) → WritesPart old left new → Breaks k true Out old left new) →
-      (d : Result World base.Code) (done : Result (Unit {0}) Halt) → Turns old new d done → Works k true d old new done
+      (d : Result World base.Code) (done : Result (Unit {0}) Halt)
+      → Updates halt_cause may.turning old new d done → Works k true d old new done
   turning late told breaks writes d (Ok u) h = h
   turning late told breaks writes d (Err (Code c)) (is, same) = rw is (refl, same)
   turning late told breaks writes (Ok w) (Err Memory) (h, same) = (refl, same)
@@ -60,44 +37,30 @@ module _ (k : Kind) (old new : World) where
 
   -- the buffer is written, or a part of it
   pub writing : ((left : World) → WritesPart old left new → Breaks k false Out old left new) →
-      (d : Result World base.Code) (done : Result (Unit {0}) Halt) → Writes old new d done
-      → Works k false d old new done
+      (d : Result World base.Code) (done : Result (Unit {0}) Halt)
+      → Updates halt_cause may.writing old new d done → Works k false d old new done
   writing writes d (Ok u) h = h
   writing writes d (Err (Code c)) (is, same) = rw is (refl, same)
-  writing writes d (Err Memory) h = absurd h
+  writing writes d (Err Memory) h = absurd h.0
   writing writes d (Err (Host NoFile)) h = absurd h
   writing writes d (Err (Host In)) h = absurd h
   writing writes d (Err (Host Out)) h = rw h.done (tt, writes h.after h.part)
 
   -- an output is closed, or let go
   pub letting_go : ((left : World) → new ≡ abandon_output old → Breaks k false Out old left new) →
-      (d : Result World base.Code) (done : Result (Unit {0}) Halt) → LetsGo old new d done
-      → Works k false d old new done
+      (d : Result World base.Code) (done : Result (Unit {0}) Halt)
+      → Updates halt_cause may.letting_go old new d done → Works k false d old new done
   letting_go breaks d (Ok u) h = h
   letting_go breaks d (Err (Code c)) (is, same) = rw is (refl, same)
-  letting_go breaks d (Err Memory) h = absurd h
+  letting_go breaks d (Err Memory) h = absurd h.0
   letting_go breaks d (Err (Host NoFile)) h = absurd h
   letting_go breaks d (Err (Host In)) h = absurd h
   letting_go breaks (Ok w) (Err (Host Out)) (h, same) = (tt, breaks w same)
   letting_go breaks (Err c) (Err (Host Out)) (h, same) = absurd (cc)
 
-  -- all is copied
-  pub copying : ((left : World) → new ≡ without_files old
-      → Breaks k false In old left new × Breaks k false Out old left new) →
-      (d : Result World base.Code) (done : Result (Unit {0}) Halt) → CopiesAll old new d done
-      → Works k false d old new done
-  copying breaks d (Ok u) h = h
-  copying breaks d (Err (Code c)) (is, same) = rw is (refl, same)
-  copying breaks d (Err Memory) h = absurd h
-  copying breaks d (Err (Host NoFile)) h = absurd h
-  copying breaks (Ok w) (Err (Host In)) (h, same) = (tt, (breaks w same).0)
-  copying breaks (Err c) (Err (Host In)) (h, same) = absurd (cc)
-  copying breaks (Ok w) (Err (Host Out)) (h, same) = (tt, (breaks w same).1)
-  copying breaks (Err c) (Err (Host Out)) (h, same) = absurd (cc)
-
 -- an output is opened
 pub opening : (old new : World) (d : Result World base.Code) (done : Result (Unit {0}) Halt)
-    → OpensOutput old new d done → Works (kind.File file.Write) true d old new done
+    → Updates halt_cause may.opening_output old new d done → Works (kind.File file.Write) true d old new done
 opening old new d (Ok u) h = h
 opening old new d (Err (Code c)) (is, same) = rw is (refl, same)
 opening old new (Ok w) (Err Memory) (h, same) = (refl, same)
@@ -109,7 +72,7 @@ opening old new (Err c) (Err (Host Out)) (h, same) = absurd (cc)
 
 -- an input is opened, if there is such a file
 pub finding : (frame : Frame) (pending : Pending) (old new : World) (d : Result (Option World) base.Code)
-    (done : Result (Unit {0}) Halt) → OpensInput old new d done →
+    (done : Result (Unit {0}) Halt) → Does halt_cause may.opening_input (λ new u. Some new) old new d done →
     Answers (kind.File file.Read) true frame pending
     (d >>= (λ found. Ok (opened pending.left pending.arguments old found))) old new (course_by course.Behind done)
 finding frame pending old new d (Ok u) h = rw h refl

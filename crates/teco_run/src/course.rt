@@ -2,7 +2,7 @@
 ghost use Rattle.std.specs.Prelude.{◌≡◌};
 ghost use Rattle.teco_run.specs.Replies.{course_by};
 
-use crate::way::Way;
+use crate::way::Continuation;
 use teco_base::Reg;
 use teco_filing::Halt;
 
@@ -14,7 +14,7 @@ pub enum Course {
     /// At the element again, which has more to do.
     Again,
     /// In the running text, a way.
-    Along(Way),
+    Along(Continuation),
     /// In the text of a register, and then behind the element.
     Into(Reg),
     /// The session ends.

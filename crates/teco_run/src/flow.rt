@@ -9,7 +9,7 @@ ghost use Rattle.teco_model.specs.declared.kind.Flow.TheVariants as flow_kind;
 ghost use Rattle.teco_run.specs.Ways.{IsRead, Goes, GoesAlways, Turns, FitsIn, is_into};
 
 use crate::frames::Frames;
-use crate::way::{self, Way};
+use crate::way::{self, Continuation};
 use teco_base::Code;
 use teco_base::bytes::{is_digit, is_letter, is_letter_or_digit, is_lower, is_symbol, is_upper};
 use teco_editor::Stuck;
@@ -19,7 +19,7 @@ use teco_model::{Element, Loop};
 
 /// The way that the skip of an element leads; `code` where it leads nowhere.
 #[inline(always)]
-pub fn jump(element: &Element<'_>, frames: &Frames<'_>, code: Code) -> Result<Way, Code>
+pub fn jump(element: &Element<'_>, frames: &Frames<'_>, code: Code) -> Result<Continuation, Code>
     requires { IsRead element.now frames.now }
     ensures way { GoesAlways frames.now.running (λ arguments.
         model.jump code (seen element.now) arguments frames.now.running) result }
@@ -28,7 +28,7 @@ pub fn jump(element: &Element<'_>, frames: &Frames<'_>, code: Code) -> Result<Wa
 {
     let skip = frames.skip();
     match skip.to {
-        Some(place) => Ok(Way::To {
+        Some(place) => Ok(Continuation::To {
             place,
             leaves: skip.leaves,
         }),
@@ -71,7 +71,7 @@ fn later_turns(n: i32) -> Option<u32>
 
 // `<` begins an iteration, or skips it.
 #[inline(always)]
-fn iterate(element: &Element<'_>, frames: &Frames<'_>, n: Option<i32>) -> Result<Way, Code>
+fn iterate(element: &Element<'_>, frames: &Frames<'_>, n: Option<i32>) -> Result<Continuation, Code>
     requires { IsRead element.now frames.now }
     ensures way { GoesAlways frames.now.running (λ arguments.
         model.iteration (seen element.now) n arguments frames.now.running) result }
@@ -81,17 +81,17 @@ fn iterate(element: &Element<'_>, frames: &Frames<'_>, n: Option<i32>) -> Result
 {
     let start = element.next;
     let Some(n) = n else {
-        return Ok(Way::Into(Loop { start, turns: None }));
+        return Ok(Continuation::Into(Loop { start, turns: None }));
     };
     match later_turns(n) {
         None => jump(element, frames, Code::Utc),
-        turns => Ok(Way::Into(Loop { start, turns })),
+        turns => Ok(Continuation::Into(Loop { start, turns })),
     }
 }
 
 /// `>` goes back to the start of the iteration while turns are left, and else on.
 #[inline(always)]
-pub fn end_turn(element: &Element<'_>, frames: &Frames<'_>) -> Result<Way, Code>
+pub fn end_turn(element: &Element<'_>, frames: &Frames<'_>) -> Result<Continuation, Code>
     requires { IsRead element.now frames.now }
     ensures way { Goes frames.now.running no_arguments
         (model.turn_end (seen element.now) frames.now.running.loops frames.now.running) result }
@@ -100,12 +100,12 @@ pub fn end_turn(element: &Element<'_>, frames: &Frames<'_>) -> Result<Way, Code>
 {
     let innermost = frames.innermost().ok_or(Code::Bni)?;
     Ok(match innermost.turns {
-        None => Way::Back(innermost),
-        Some(0) => Way::To {
+        None => Continuation::Back(innermost),
+        Some(0) => Continuation::To {
             place: element.next,
             leaves: 1,
         },
-        Some(turns) => Way::Back(Loop {
+        Some(turns) => Continuation::Back(Loop {
             start: innermost.start,
             turns: Some(turns - 1),
         }),
@@ -118,7 +118,7 @@ fn leave_iteration(
     element: &Element<'_>,
     frames: &Frames<'_>,
     arguments: &mut Args,
-) -> Result<Way, Stuck>
+) -> Result<Continuation, Stuck>
     requires { IsRead element.now frames.now }
     ensures way { Turns frames.now.running arguments.new
         (model.leaving (seen element.now) frames.now.running.loops arguments.old
@@ -145,7 +145,7 @@ fn decide(
     element: &Element<'_>,
     frames: &Frames<'_>,
     arguments: &mut Args,
-) -> Result<Way, Stuck>
+) -> Result<Continuation, Stuck>
     requires { IsRead element.now frames.now }
     ensures way { Turns frames.now.running arguments.new
         (model.turn_of (flow_kind.Test test) (seen element.now) arguments.old
@@ -163,7 +163,7 @@ fn decide(
 
 // `F>` goes to the `>` of its iteration.
 #[inline(always)]
-fn to_turn_end(element: &Element<'_>, frames: &Frames<'_>) -> Result<Way, Code>
+fn to_turn_end(element: &Element<'_>, frames: &Frames<'_>) -> Result<Continuation, Code>
     requires { IsRead element.now frames.now }
     ensures way { GoesAlways frames.now.running (λ arguments.
         model.to_turn_end (seen element.now) frames.now.running.loops arguments
@@ -178,7 +178,11 @@ fn to_turn_end(element: &Element<'_>, frames: &Frames<'_>) -> Result<Way, Code>
 }
 
 // `O` goes to a tag.
-fn go_to(element: &Element<'_>, frames: &Frames<'_>, arguments: &mut Args) -> Result<Way, Stuck>
+fn go_to(
+    element: &Element<'_>,
+    frames: &Frames<'_>,
+    arguments: &mut Args,
+) -> Result<Continuation, Stuck>
     requires { IsRead element.now frames.now }
     ensures way { Turns frames.now.running arguments.new
         (model.turn_of flow_kind.GoTo (seen element.now) arguments.old frames.now.running) result }
@@ -201,7 +205,7 @@ pub fn steer(
     element: &Element<'_>,
     frames: &Frames<'_>,
     arguments: &mut Args,
-) -> Result<Way, Stuck>
+) -> Result<Continuation, Stuck>
     requires { IsRead element.now frames.now }
     ensures way { Turns frames.now.running arguments.new
         (model.turn_of flow (seen element.now) arguments.old frames.now.running) result }

@@ -8,7 +8,7 @@ ghost use Rattle.teco_run.specs.Ways.{IsRead};
 
 use crate::flow::jump;
 use crate::frames::Frames;
-use crate::way::Way;
+use crate::way::Continuation;
 use teco_base::Code;
 use teco_model::kind::Flow;
 use teco_model::{Element, Kind};
@@ -22,7 +22,7 @@ pub enum Miss {
     /// The answer is 0.
     Answers,
     /// The iteration is left.
-    Leaves(Way),
+    Leaves(Continuation),
     /// UTC: the iteration has no end.
     Unended,
     /// SRH: no iteration is open.

@@ -5,7 +5,7 @@ use teco_model::Loop;
 
 /// How the running text goes on.
 #[derive(Clone, Copy)]
-pub enum Way {
+pub enum Continuation {
     /// To a place, out of some of the open iterations.
     To { place: usize, leaves: u32 },
     /// Into the body of an iteration that begins.
@@ -15,8 +15,8 @@ pub enum Way {
 }
 
 /// To a place, with the same iterations open.
-pub fn to(place: usize) -> Way
-    ensures { result ≡ Way.To place 0 }
+pub fn to(place: usize) -> Continuation
+    ensures { result ≡ Continuation.To place 0 }
 {
-    Way::To { place, leaves: 0 }
+    Continuation::To { place, leaves: 0 }
 }

@@ -1,30 +1,18 @@
 -- The characters that matches begin and end with.
-use Rattle.std.proofs.Common.{◌≡◌, ◌≢◌, ℕ, zero, suc, ◌+◌, ◌-◌, ◌<◌, ◌≤◌, inl, inr, List, [], ◌∷◌}
-use Rattle.std.proofs.Common.{◌++◌, length, slice_get, Bool, true, Some, None, pos}
-use Rattle.std.proofs.Common.{refl, sym, ap, subst, arith}
-use Rattle.std.proofs.lemmas.Option.{slice_get_within}
-use Rattle.std.specs.List.{All}
-use Rattle.teco_linear.specs.declared.term.Term.{Term}
-use Rattle.teco_linear.specs.Form.{Valuation, value}
+use Rattle.teco_search_outcomes.proofs.Prelude.{◌≡◌, ℕ, zero, suc, ◌+◌, ◌-◌, ◌<◌, ◌≤◌, inl, inr, List, [], ◌∷◌, ◌++◌}
+use Rattle.teco_search_outcomes.proofs.Prelude.{length, slice_get, Bool, true, Some, None, pos, refl, sym, ap, subst}
+use Rattle.teco_search_outcomes.proofs.Prelude.{arith, slice_get_within, All, Term, Valuation, value, is_in}
+use Rattle.teco_search_outcomes.proofs.Prelude.{is_space_or_tab, class_of, items_of, Registers, Part, Span, HasAt}
+use Rattle.teco_search_outcomes.proofs.Prelude.{InTurn, IsMatch, AreBytes, Case, CodeHere, IsTrueOf, Point, code_before}
+use Rattle.teco_search_outcomes.proofs.Prelude.{code_here, single, above_or, Codes, EndsIn, Direction, BeginsLater}
+use Rattle.teco_search_outcomes.proofs.Prelude.{LiesTo}
+use Rattle.std.proofs.Common.{◌≢◌}
 use Rattle.teco_linear.specs.Implied.{Holds}
-use Rattle.teco_model.specs.Match.{is_in, is_space_or_tab}
-use Rattle.teco_model.specs.Pattern.{class_of, items_of}
-use Rattle.teco_model.specs.Registers.{Registers}
 use Rattle.teco_model.specs.declared.pattern.Item.TheVariants as item
-use Rattle.teco_model.specs.declared.pattern.Part.{Part}
 use Rattle.teco_model.specs.declared.pattern.Part.TheVariants as part
-use Rattle.teco_model.specs.declared.pattern.Span.{Span}
-use Rattle.teco_model.specs.laws.Matching.{HasAt, InTurn, IsMatch}
-use Rattle.teco_model.specs.laws.Whole.{AreBytes}
-use Rattle.teco_rows.specs.declared.case.Case.{Case}
-use Rattle.teco_rows.specs.declared.measure.Single.TheVariants.{CodeHere}
-use Rattle.teco_rows.specs.States.{IsTrueOf, Point, code_before, code_here, code_if, single}
-use Rattle.teco_rows.proofs.Lines.{above_or}
+use Rattle.teco_rows.specs.States.{code_if}
 use Rattle.teco_rows.proofs.Characters.{before_next, code_inside}
-use Rattle.teco_search_outcomes.specs.declared.patterns.Codes.{Codes}
-use Rattle.teco_search_outcomes.specs.Patterns.{AreCodes, BeginsIn, EndsIn, IsIn}
-use Rattle.teco_search_outcomes.specs.declared.searches.Direction.{Direction}
-use Rattle.teco_search_outcomes.specs.Searches.{BeginsLater, LiesTo}
+use Rattle.teco_search_outcomes.specs.Patterns.{AreCodes, BeginsIn, IsIn}
 use Rattle.teco_search_outcomes.proofs.Matching.{in_turn, items_in, match_lies, turn_split}
 
 -- a character that passes a test has one of the codes

@@ -1,4 +1,5 @@
 -- Lemmas of searches and pages.
+mod Prelude
 pub mod Parting
 pub mod Matching
 pub mod Ending

@@ -1,79 +1,51 @@
 -- N and FN.
-use Rattle.std.proofs.Common.{◌≡◌, ℕ, zero, suc, ◌+◌, ◌==◌, ◌<◌, ◌≤◌, inl, inr, ℤ, pos, negsuc, ◌≤ℤ◌, List, [], ◌∷◌}
-use Rattle.std.proofs.Common.{◌++◌, length, Bool, true, false, is_some, not, Option, Some, None, option_map, Result, Ok}
-use Rattle.std.proofs.Common.{Err, refl, sym, ap, if◌then◌else◌, nat_le, unwrap_or, subst, ◌∙◌, arith, length-append}
-use Rattle.std.proofs.Common.{◌-ℤ◌}
-use Rattle.std.proofs.lemmas.Bool.Decides.{nat_tests}
-use Rattle.std.proofs.lemmas.Int.{ints}
-use Rattle.std.proofs.lemmas.List.{get_or_append_left}
-use Rattle.std.specs.List.{All, Any}
-use Rattle.std.specs.Option.{ok_or, option_map_or}
-use Rattle.std.specs.Prelude.{MatchOption, IfSome, flat_map}
-use Rattle.teco_base.specs.Lines.{line_place}
-use Rattle.teco_base.specs.Text.{text_after_replacement}
-use Rattle.teco_base.specs.declared.TheConstants.{LIMIT}
-use Rattle.teco_base.specs.declared.bytes.TheConstants.{FF}
-use Rattle.teco_base.specs.declared.code.Code.{Code}
+use Rattle.teco_search_outcomes.proofs.Prelude.{◌≡◌, ℕ, zero, suc, ◌+◌, ◌==◌, ◌<◌, ◌≤◌, inl, inr, ℤ, pos, negsuc, ◌≤ℤ◌}
+use Rattle.teco_search_outcomes.proofs.Prelude.{List, [], ◌∷◌, ◌++◌, length, Bool, true, false, is_some, not, Option}
+use Rattle.teco_search_outcomes.proofs.Prelude.{Some, None, option_map, Result, Ok, Err, refl, sym, ap, if◌then◌else◌}
+use Rattle.teco_search_outcomes.proofs.Prelude.{nat_le, unwrap_or, subst, ◌∙◌, arith, length-append, ◌-ℤ◌, nat_tests}
+use Rattle.teco_search_outcomes.proofs.Prelude.{ints, get_or_append_left, All, Any, ok_or, option_map_or, flat_map}
+use Rattle.teco_search_outcomes.proofs.Prelude.{line_place, text_after_replacement, LIMIT, FF, Code, Term, Valuation}
+use Rattle.teco_search_outcomes.proofs.Prelude.{Arguments, levels_after_taking, no_arguments, ◌>>=◌, is_zero, Element}
+use Rattle.teco_search_outcomes.proofs.Prelude.{element_at, Input, Output, before_form_feed, behind_first_page}
+use Rattle.teco_search_outcomes.proofs.Prelude.{behind_form_feed, first_page, written_page, files_behind_page}
+use Rattle.teco_search_outcomes.proofs.Prelude.{kept_with_page, needed_output, page_of_buffer, page_turned, unread}
+use Rattle.teco_search_outcomes.proofs.Prelude.{world_after_writing, Pattern, items_of, parts, pattern, kept_after}
+use Rattle.teco_search_outcomes.proofs.Prelude.{kept_at, pattern_of, search_text_of, Miss, miss_of, miss_where}
+use Rattle.teco_search_outcomes.proofs.Prelude.{search_reply, Kept, State, World, outcome_at, reply_of, step, Search}
+use Rattle.teco_search_outcomes.proofs.Prelude.{FindInPages, ReplaceInPages, Part, Span, IsFirstFrom, IsMatch, AreBytes}
+use Rattle.teco_search_outcomes.proofs.Prelude.{IsWhole, Case, TakenForms, One, Single, Steps, Pointer, Size, Held}
+use Rattle.teco_search_outcomes.proofs.Prelude.{LineEnd, LineStart, LastLength, CodeHere, CodeBefore, Typed, Guarded}
+use Rattle.teco_search_outcomes.proofs.Prelude.{Outcomes, Places, Agree, value_if, IsTaken, Describe, IsGuarded}
+use Rattle.teco_search_outcomes.proofs.Prelude.{Succeeds, changed, Origin, Point, IsTrueOf, Describes, single}
+use Rattle.teco_search_outcomes.proofs.Prelude.{with_codes, among, line_begin, line_end, IsChangedFrom, read_given}
+use Rattle.teco_search_outcomes.proofs.Prelude.{with_kept, Goes, StepsTo, loops_in, place_away, point_of, unread_in}
+use Rattle.teco_search_outcomes.proofs.Prelude.{Ahead, Ends, HasRoom, IsAsked, IsFoundBy, IsOf, IsReplacedBy, warned}
+use Rattle.std.specs.Prelude.{MatchOption, IfSome}
 use Rattle.teco_base.specs.declared.code.Code.TheVariants as code
-use Rattle.teco_linear.specs.declared.term.Term.{Term}
-use Rattle.teco_linear.specs.Form.{Valuation}
 use Rattle.teco_linear.specs.Implied as linear
-use Rattle.teco_model.specs.Arguments.{Arguments, levels_after_taking, no_arguments}
-use Rattle.teco_model.specs.Checked.{◌>>=◌}
-use Rattle.teco_model.specs.Condition.{is_zero}
-use Rattle.teco_model.specs.Element.{Element, element_at}
-use Rattle.teco_model.specs.Files.{Input, Output, with_written}
+use Rattle.teco_model.specs.Files.{with_written}
 use Rattle.teco_model.specs.Going as going
 use Rattle.teco_model.specs.Match.{first_from}
-use Rattle.teco_model.specs.Pages.{before_form_feed, behind_first_page, behind_form_feed, first_page, written_page}
-use Rattle.teco_model.specs.Paging.{Looked, Met, MetHere, Through, Turned, files_behind_page, here_of, kept_with_page}
-use Rattle.teco_model.specs.Paging.{look_first, look_for, looked_on, looked_through, needed_output, page_count}
-use Rattle.teco_model.specs.Paging.{page_looked_for, page_of_buffer, page_turned, unread, world_after_writing}
+use Rattle.teco_model.specs.Paging.{Looked, Met, MetHere, Through, Turned, here_of}
+use Rattle.teco_model.specs.Paging.{look_first, look_for, looked_on, looked_through, page_count}
+use Rattle.teco_model.specs.Paging.{page_looked_for}
 use Rattle.teco_model.specs.Paging.{world_seeking}
 use Rattle.teco_model.specs.Paging as paging
-use Rattle.teco_model.specs.Pattern.{Pattern, items_of, parts, pattern}
-use Rattle.teco_model.specs.Search.{kept_after, kept_at, pattern_of, search_text_of}
-use Rattle.teco_model.specs.Searching.{Miss, found_in_pages, looked, looking, miss_of, miss_where, missed, search_reply}
+use Rattle.teco_model.specs.Searching.{found_in_pages, looked, looking, missed}
 use Rattle.teco_model.specs.Searching as miss
-use Rattle.teco_model.specs.State.{Kept, Outcome, State, World}
-use Rattle.teco_model.specs.Step.{outcome_at, reply_of, step}
+use Rattle.teco_model.specs.State.{Outcome}
 use Rattle.teco_model.specs.declared.kind.Kind.TheVariants as kind
-use Rattle.teco_model.specs.declared.kind.Search.{Search}
-use Rattle.teco_model.specs.declared.kind.Search.TheVariants.{FindInPages, ReplaceInPages}
-use Rattle.teco_model.specs.declared.pattern.Part.{Part}
 use Rattle.teco_model.specs.declared.pattern.Sought.{Sought}
 use Rattle.teco_model.specs.declared.pattern.Sought.TheVariants.{Last, Wanted}
-use Rattle.teco_model.specs.declared.pattern.Span.{Span}
-use Rattle.teco_model.specs.laws.Matching.{HasNoneFrom, IsFirstFrom, IsMatch}
-use Rattle.teco_model.specs.laws.Whole.{AreBytes, IsWhole}
+use Rattle.teco_model.specs.laws.Matching.{HasNoneFrom}
 use Rattle.teco_model.proofs.Searches.{first_finds}
-use Rattle.teco_rows.specs.declared.case.Case.{Case}
-use Rattle.teco_rows.specs.declared.commands.Taken.{Taken}
-use Rattle.teco_rows.specs.declared.measure.Measure.TheVariants.{One}
-use Rattle.teco_rows.specs.declared.measure.Single.{Single}
-use Rattle.teco_rows.specs.declared.measure.Single.TheVariants.{Steps, Pointer, Size, Held, LineEnd, LineStart}
-use Rattle.teco_rows.specs.declared.measure.Single.TheVariants.{LastLength, CodeHere, CodeBefore, Typed}
-use Rattle.teco_rows.specs.declared.outcomes.Guarded.{Guarded}
-use Rattle.teco_rows.specs.declared.outcomes.Outcomes.{Outcomes}
-use Rattle.teco_rows.specs.declared.row.Places.{Places}
-use Rattle.teco_rows.specs.Cases.{Agree, value_if}
-use Rattle.teco_rows.specs.Commands.{IsTaken}
-use Rattle.teco_rows.specs.Foretold.{Begins, Describe, IsGuarded, Succeeds}
-use Rattle.teco_rows.specs.Rows.{changed}
-use Rattle.teco_rows.specs.States.{Origin, Point, IsTrueOf, Describes, single}
-use Rattle.teco_rows.proofs.Characters.{with_codes}
-use Rattle.teco_rows.proofs.Describing.{among}
-use Rattle.teco_rows.proofs.Lines.{line_begin, line_end}
-use Rattle.teco_command_outcomes.specs.Changes.{DescribesFrom, IsChangedFrom, read_given, with_kept, with_steps}
+use Rattle.teco_rows.specs.Foretold.{Begins}
+use Rattle.teco_command_outcomes.specs.Changes.{DescribesFrom, with_steps}
 use Rattle.teco_command_outcomes.proofs.Changing.{changes_later}
 use Rattle.teco_flow_outcomes.specs.Flow.{turned as turned_point}
-use Rattle.teco_flow_outcomes.specs.Law.{Goes, StepsTo, loops_in, place_away, point_of, unread_in}
 use Rattle.teco_search_outcomes.specs.declared.page_searches.TheConstants.{LATER_PAGE, THROUGH}
-use Rattle.teco_search_outcomes.specs.declared.searches.Direction.TheVariants.{Ahead}
 use Rattle.teco_search_outcomes.specs.PageSearches.{Comes, HasMore, IsLaterPage, IsPositive}
 use Rattle.teco_search_outcomes.specs.PageSearches.{IsThrough, LongLaw}
-use Rattle.teco_search_outcomes.specs.Searches.{Ends, HasRoom, IsAsked, IsFoundBy, IsOf, IsReplacedBy}
-use Rattle.teco_search_outcomes.specs.Searches.{warned}
 use Rattle.teco_search_outcomes.proofs.Matching.{match_lies}
 use Rattle.teco_search_outcomes.proofs.Paging.{behind_there, fits, got, split, unread_there}
 use Rattle.teco_search_outcomes.proofs.Seeking.{Keeps, left_by, nonempty, own_text}
@@ -413,7 +385,7 @@ module _ (u pages : ℕ) (s : State) (e : Element) (world : World) (on : Onward 
   page_within = omega (arith, there, behind, on.left, (split (unread world.files)).within)
 
 -- ---- the search
-module _ (x : Search) (answering : Bool) (e : Element) (taken : Taken) (case on here later gone : Case)
+module _ (x : Search) (answering : Bool) (e : Element) (taken : TakenForms) (case on here later gone : Case)
     (all : Outcomes) (ps : List Part)
     (replies : (m : Miss) (left : Option ℕ) (arguments : Arguments) (world : World)
     → search_reply x e m left arguments world ≡ found_in_pages x e m left arguments world)
@@ -701,7 +673,7 @@ module _ (x : Search) (answering : Bool) (e : Element) (taken : Taken) (case on 
               (subst (Comes q.0 (Goes n all e (steps + q.1) origin s) s) (sym (begins_is count.0 count.1)) q.3),
         )
 
-pub pages_law : (x : Search) (answering : Bool) (e : Element) (taken : Taken) (case on here later gone : Case)
+pub pages_law : (x : Search) (answering : Bool) (e : Element) (taken : TakenForms) (case on here later gone : Case)
     (all : Outcomes) (ps : List Part)
     → ((m : Miss) (left : Option ℕ) (arguments : Arguments) (world : World)
     → search_reply x e m left arguments world ≡ found_in_pages x e m left arguments world)

@@ -1,25 +1,22 @@
 -- What matches are: how long, and where line ends are in them.
-use Rattle.std.proofs.Common.{◌≡◌, ℕ, ◌+◌, ◌-◌, ◌<◌, ◌≤◌, ◌==◌, ◌⊎◌, inl, inr, List, [], ◌∷◌, ◌++◌, length}
-use Rattle.std.proofs.Common.{Bool, true, false, not, ◌&&◌, if◌then◌else◌, refl, sym, ap, subst, ◌∙◌, arith}
-use Rattle.std.proofs.lemmas.Bool.Decides.{nat_tests}
-use Rattle.std.proofs.lemmas.List.Elements.{All-head, All-tail}
-use Rattle.std.proofs.lemmas.Option.{slice_get_within, get_or_from_slice_get}
-use Rattle.std.specs.List.{All}
-use Rattle.std.specs.Prelude.{flat_map}
-use Rattle.teco_base.specs.Bytes.{is_letter, is_line_end, to_upper}
-use Rattle.teco_model.specs.Match.{is_in, is_space_or_tab}
-use Rattle.teco_model.specs.Pattern.{class_of, items_of, literal, literals}
-use Rattle.teco_model.specs.Registers.{Registers, pair_of}
+use Rattle.teco_search_outcomes.proofs.Prelude.{◌≡◌, ℕ, ◌+◌, ◌-◌, ◌<◌, ◌≤◌, ◌==◌, inl, inr, List, [], ◌∷◌, ◌++◌, length}
+use Rattle.teco_search_outcomes.proofs.Prelude.{Bool, true, false, not, if◌then◌else◌, refl, sym, ap, subst, ◌∙◌, arith}
+use Rattle.teco_search_outcomes.proofs.Prelude.{nat_tests, All-head, All-tail, slice_get_within, All, flat_map}
+use Rattle.teco_search_outcomes.proofs.Prelude.{is_line_end, is_in, is_space_or_tab, class_of, items_of, Registers}
+use Rattle.teco_search_outcomes.proofs.Prelude.{Item, Part, Span, HasAt, InTurn, IsMatch, IsSingle, above_or, clash}
+use Rattle.teco_search_outcomes.proofs.Prelude.{ends}
+use Rattle.std.proofs.Common.{◌⊎◌}
+use Rattle.std.proofs.Common.{◌&&◌}
+use Rattle.std.proofs.lemmas.Option.{get_or_from_slice_get}
+use Rattle.teco_base.specs.Bytes.{is_letter, to_upper}
+use Rattle.teco_model.specs.Pattern.{literal, literals}
+use Rattle.teco_model.specs.Registers.{pair_of}
 use Rattle.teco_model.specs.declared.pattern.Class.{Class}
 use Rattle.teco_model.specs.declared.pattern.Class.TheVariants as class
-use Rattle.teco_model.specs.declared.pattern.Item.{Item}
 use Rattle.teco_model.specs.declared.pattern.Item.TheVariants as item
-use Rattle.teco_model.specs.declared.pattern.Part.{Part}
 use Rattle.teco_model.specs.declared.pattern.Part.TheVariants as part
-use Rattle.teco_model.specs.declared.pattern.Span.{Span}
-use Rattle.teco_model.specs.laws.Matching.{HasAt, InTurn, IsMatch, Matches}
-use Rattle.teco_search_outcomes.specs.Patterns.{EndsLine, HasEnds, HasNoEnd, IsNoEnd, IsSingle, StaysInLine}
-use Rattle.teco_rows.proofs.Lines.{above_or, clash, ends}
+use Rattle.teco_model.specs.laws.Matching.{Matches}
+use Rattle.teco_search_outcomes.specs.Patterns.{EndsLine, HasEnds, HasNoEnd, IsNoEnd, StaysInLine}
 
 -- ---- how long they are
 has_within : (passes : ℕ → Bool) (text : List ℕ) (at : ℕ) → HasAt passes text at → at < length text

@@ -1,67 +1,45 @@
 -- Pages.
-use Rattle.std.proofs.Common.{◌≡◌, ℕ, zero, suc, ◌+◌, ◌==◌, ◌<◌, ◌≤◌, inl, inr, ℤ, pos, List, [], ◌∷◌}
-use Rattle.std.proofs.Common.{◌++◌, length, length-append}
-use Rattle.std.proofs.Common.{Bool, true, false, is_some, Option, Some, None, option_map, Result, Ok, Err, refl, sym}
-use Rattle.std.proofs.Common.{ap}
-use Rattle.std.proofs.Common.{if◌then◌else◌, nat_le, unwrap_or, subst, ◌∙◌, arith}
-use Rattle.std.proofs.lemmas.Bool.Decides.{nat_tests}
-use Rattle.std.proofs.lemmas.Int.{ints}
-use Rattle.std.proofs.lemmas.List.{get_or_append_left}
-use Rattle.std.specs.List.{All, Any}
-use Rattle.std.specs.Option.{ok_or, option_map_or}
-use Rattle.teco_base.specs.Bytes.{is_line_end}
-use Rattle.teco_base.specs.Lines.{line_place}
-use Rattle.teco_base.specs.declared.TheConstants.{LIMIT}
-use Rattle.teco_base.specs.declared.bytes.TheConstants.{FF}
-use Rattle.teco_base.specs.declared.code.Code.{Code}
+use Rattle.teco_search_outcomes.proofs.Prelude.{◌≡◌, ℕ, zero, suc, ◌+◌, ◌==◌, ◌<◌, ◌≤◌, inl, inr, ℤ, pos, List, [], ◌∷◌}
+use Rattle.teco_search_outcomes.proofs.Prelude.{◌++◌, length, length-append, Bool, true, false, is_some, Option, Some}
+use Rattle.teco_search_outcomes.proofs.Prelude.{None, option_map, Result, Ok, Err, refl, sym, ap, if◌then◌else◌, nat_le}
+use Rattle.teco_search_outcomes.proofs.Prelude.{unwrap_or, subst, ◌∙◌, arith, nat_tests, ints, get_or_append_left, All}
+use Rattle.teco_search_outcomes.proofs.Prelude.{Any, ok_or, option_map_or, is_line_end, line_place, LIMIT, FF, Code}
+use Rattle.teco_search_outcomes.proofs.Prelude.{Term, Valuation, value, Arguments, levels_after_taking, ◌>>=◌, Element}
+use Rattle.teco_search_outcomes.proofs.Prelude.{Input, Output, before_form_feed, behind_first_page, behind_form_feed}
+use Rattle.teco_search_outcomes.proofs.Prelude.{first_page, kept_with_page, needed_output, page_turned, page_written}
+use Rattle.teco_search_outcomes.proofs.Prelude.{append, unread, yank, files_behind_page, page_of_buffer}
+use Rattle.teco_search_outcomes.proofs.Prelude.{world_after_writing, written_page, going_on, Kept, State, World}
+use Rattle.teco_search_outcomes.proofs.Prelude.{outcome_at, reply_of, step, IsWhole, Case, TakenForms, One, Single}
+use Rattle.teco_search_outcomes.proofs.Prelude.{Steps, Pointer, Size, Held, LineEnd, LineStart, LastLength, CodeHere}
+use Rattle.teco_search_outcomes.proofs.Prelude.{CodeBefore, Typed, Outcomes, Places, value_if, IsTaken, taken_by}
+use Rattle.teco_search_outcomes.proofs.Prelude.{Describe, Succeeds, changed, Origin, Point, IsTrueOf, Describes, single}
+use Rattle.teco_search_outcomes.proofs.Prelude.{code_here, code_before, with_codes, among, IsEnd, above_or, ends}
+use Rattle.teco_search_outcomes.proofs.Prelude.{line_begin, line_end, one_begin, IsChangedFrom, IsTold, read_given}
+use Rattle.teco_search_outcomes.proofs.Prelude.{with_page, Goes, StepsTo, point_of, unread_in, PageLaw, Writes}
+use Rattle.teco_search_outcomes.proofs.Prelude.{changes_plainly, changes_singles}
 use Rattle.teco_base.specs.declared.code.Code.TheVariants as code
-use Rattle.teco_linear.specs.declared.term.Term.{Term}
-use Rattle.teco_linear.specs.Form.{Valuation, value}
 use Rattle.teco_linear.specs.Implied as linear
-use Rattle.teco_model.specs.Arguments.{Arguments, arguments_of, levels_after_taking}
-use Rattle.teco_model.specs.Checked.{◌>>=◌}
-use Rattle.teco_model.specs.Element.{Element}
-use Rattle.teco_model.specs.Files.{Files, Input, Output}
-use Rattle.teco_model.specs.Pages.{before_form_feed, behind_first_page, behind_form_feed, first_page}
-use Rattle.teco_model.specs.Paging.{kept_with_page, needed_output, one_page_of, page_turned, page_written, pages}
-use Rattle.teco_model.specs.Paging.{append, appended, nothing_lost, unread, yank}
-use Rattle.teco_model.specs.Paging.{Progress, files_behind_page, fitting, page_of_buffer, world_after_writing}
+use Rattle.teco_model.specs.Arguments.{arguments_of}
+use Rattle.teco_model.specs.Files.{Files}
+use Rattle.teco_model.specs.Paging.{one_page_of, pages}
+use Rattle.teco_model.specs.Paging.{appended, nothing_lost}
+use Rattle.teco_model.specs.Paging.{Progress, fitting}
 use Rattle.teco_model.specs.Paging as paging
-use Rattle.teco_model.specs.Pages.{written_page}
 use Rattle.teco_model.specs.Places.{characters_of, place_in, span_between}
 use Rattle.teco_model.specs.Going as going
-use Rattle.teco_model.specs.Outside.{going_on, in_pages, page_reply, pages_reply, while_left}
-use Rattle.teco_model.specs.State.{Kept, State, World}
-use Rattle.teco_model.specs.Step.{outcome_at, reply_of, step}
+use Rattle.teco_model.specs.Outside.{in_pages, page_reply, pages_reply, while_left}
 use Rattle.teco_model.specs.declared.arguments.Taken as model
 use Rattle.teco_model.specs.declared.kind.Kind.TheVariants as kind
 use Rattle.teco_model.specs.declared.kind.Page.{Page}
-use Rattle.teco_model.specs.laws.Whole.{IsWhole}
-use Rattle.teco_rows.specs.declared.case.Case.{Case}
-use Rattle.teco_rows.specs.declared.commands.Taken.{Taken}
-use Rattle.teco_rows.specs.declared.measure.Measure.TheVariants.{One}
-use Rattle.teco_rows.specs.declared.measure.Single.{Single}
-use Rattle.teco_rows.specs.declared.measure.Single.TheVariants.{Steps, Pointer, Size, Held, LineEnd, LineStart}
-use Rattle.teco_rows.specs.declared.measure.Single.TheVariants.{LastLength, CodeHere, CodeBefore, Typed}
-use Rattle.teco_rows.specs.declared.outcomes.Outcomes.{Outcomes}
-use Rattle.teco_rows.specs.declared.row.Places.{Places}
-use Rattle.teco_rows.specs.Cases.{value_if}
-use Rattle.teco_rows.specs.Commands.{IsTaken, commanded, taken_by}
-use Rattle.teco_rows.specs.Foretold.{Describe, IsOne, Succeeds}
-use Rattle.teco_rows.specs.Rows.{changed}
-use Rattle.teco_rows.specs.States.{Origin, Point, IsTrueOf, Describes, single, code_here, code_before}
-use Rattle.teco_rows.proofs.Characters.{with_codes}
-use Rattle.teco_rows.proofs.Describing.{among}
+use Rattle.teco_rows.specs.Commands.{commanded}
+use Rattle.teco_rows.specs.Foretold.{IsOne}
 use Rattle.teco_rows.proofs.Giving.{describes_one}
-use Rattle.teco_rows.proofs.Lines.{IsEnd, above_or, end_least, ends, line_begin, line_end, one_begin}
+use Rattle.teco_rows.proofs.Lines.{end_least}
 use Rattle.teco_search_outcomes.specs.declared.pages.TheConstants.{APPENDED, EMPTIED, STAYS, TURNED}
-use Rattle.teco_command_outcomes.specs.Changes.{IsChanged, IsChangedFrom, IsTold, read_given, with_page}
-use Rattle.teco_flow_outcomes.specs.Law.{Goes, StepsTo, point_of, unread_in}
+use Rattle.teco_command_outcomes.specs.Changes.{IsChanged}
 use Rattle.teco_command_outcomes.specs.Motions.{IsPlace}
-use Rattle.teco_search_outcomes.specs.Pages.{IsDoneAtOnce, IsOnce, IsOpenFor, IsPaged, PageLaw, Reads, TurnsPage}
-use Rattle.teco_search_outcomes.specs.Pages.{Writes}
+use Rattle.teco_search_outcomes.specs.Pages.{IsDoneAtOnce, IsOnce, IsOpenFor, IsPaged, Reads, TurnsPage}
 use Rattle.teco_search_outcomes.specs.Pages.{with_next_page}
-use Rattle.teco_command_outcomes.proofs.Changing.{changes_plainly, changes_singles}
 use Rattle.teco_command_outcomes.proofs.Moving.{place_there}
 
 -- ---- how long a page is, and what is behind it
@@ -273,7 +251,7 @@ HasRoomForPage case all =
     → IsTrueOf n v case s → All (linear.Holds n v) all.conditions.items → s.unread ≤ LIMIT
 
 pub writes_page : (case : Case) (all : Outcomes) → TurnsPage case all.cases.items → HasRoomForPage case all
-    → (taken : Taken) → IsOnce taken → Writes page_turned taken case all
+    → (taken : TakenForms) → IsOnce taken → Writes page_turned taken case all
 writes_page case all turns room taken is n v s steps origin open' begins =
     subst (Succeeds (IsDoneAtOnce n all (point_of steps origin s)))
     (sym (once page_turned (value_if taken.first n v) (value_if taken.value n v) s.world _
@@ -283,7 +261,7 @@ writes_page case all turns room taken is n v s steps origin open' begins =
     (record { left = refl; described = next_described case all n v s steps origin turns begins.true_of })
 
 pub writes_buffer : (case after : Case) (wanted : List (List Term)) (all : Outcomes) → IsTold case None after
-    → IsOne wanted after all → (taken : Taken) → IsOnce taken → Writes page_written taken case all
+    → IsOne wanted after all → (taken : TakenForms) → IsOnce taken → Writes page_written taken case all
 writes_buffer case after wanted all told one taken is n v s steps origin open' begins =
     subst (Succeeds (IsDoneAtOnce n all (point_of steps origin s)))
     (sym (once page_written (value_if taken.first n v) (value_if taken.value n v) s.world _
@@ -298,7 +276,7 @@ pub writes_range : (case after : Case) (first second : List Term) (wanted : List
     → IsTold case None after → IsOne wanted after all
     → ((n : ℕ) (v : Valuation) (s : Point) → IsTrueOf n v case s → All (linear.Holds n v) all.conditions.items
     → IsPlace s.kept.text (value first n v) × IsPlace s.kept.text (value second n v))
-    → (one_page : World → Result World Code) (taken : Taken) → taken.first ≡ Some first → taken.value ≡ Some second
+    → (one_page : World → Result World Code) (taken : TakenForms) → taken.first ≡ Some first → taken.value ≡ Some second
     → Writes one_page taken case all
 writes_range case after first second wanted all told one placed one_page taken f g n v s steps origin open' begins =
     let point = point_of steps origin s in
@@ -328,7 +306,7 @@ writes_range case after first second wanted all told one placed one_page taken f
     })
 
 -- ---- the law
-pub pages_law : (p : Page) (one_page : World → Result World Code) (e : Element) (case : Case) (taken : Taken)
+pub pages_law : (p : Page) (one_page : World → Result World Code) (e : Element) (case : Case) (taken : TakenForms)
     (all : Outcomes)
     → ((left : Option ℕ) (arguments : Arguments) (world : World)
     → page_reply p left arguments world ≡ pages_reply one_page left arguments world)
@@ -560,7 +538,7 @@ yanks_page case all turns room empty n v s steps origin open' begins =
 
 pub reads_law : (p : Page) (done : World → Result World Code)
     (answer : model.Taken → Option ℕ → Arguments → World → Result going.Reply Code) (e : Element) (case : Case)
-    (taken : Taken) (all : Outcomes)
+    (taken : TakenForms) (all : Outcomes)
     → ((left : Option ℕ) (arguments : Arguments) (world : World)
     → page_reply p left arguments world ≡ (arguments_of arguments.level >>= (λ taken. answer taken left
     (levels_after_taking arguments) world)))

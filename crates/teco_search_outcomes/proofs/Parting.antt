@@ -1,14 +1,11 @@
 -- How the parts of a search text are read, and how long matches of them are.
-use Rattle.std.proofs.Common.{◌≡◌, ℕ, zero, suc, ◌+◌, ◌-◌, ◌<◌, ◌≤◌, List, [], ◌∷◌, ◌++◌, length, drop}
-use Rattle.std.proofs.Common.{Bool, get_or, Result, Ok, Err, refl, sym, ap, ◌∙◌, arith, length-append}
-use Rattle.std.proofs.lemmas.List.{append_assoc, append-nil, drop_all, drop_more}
-use Rattle.std.specs.Prelude.{flat_map}
-use Rattle.teco_base.specs.declared.code.Code.{Code}
-use Rattle.teco_model.specs.Checked.{◌>>=◌}
-use Rattle.teco_model.specs.Pattern.{items_of, part_at, parts, parts_within}
-use Rattle.teco_model.specs.Registers.{Registers}
+use Rattle.teco_search_outcomes.proofs.Prelude.{◌≡◌, ℕ, zero, suc, ◌+◌, ◌-◌, ◌<◌, ◌≤◌, List, [], ◌∷◌, ◌++◌, length}
+use Rattle.teco_search_outcomes.proofs.Prelude.{drop, Bool, get_or, Result, Ok, Err, refl, sym, ap, ◌∙◌, arith}
+use Rattle.teco_search_outcomes.proofs.Prelude.{length-append, append_assoc, append-nil, flat_map, Code, ◌>>=◌}
+use Rattle.teco_search_outcomes.proofs.Prelude.{items_of, parts, Registers, Part}
+use Rattle.std.proofs.lemmas.List.{drop_all, drop_more}
+use Rattle.teco_model.specs.Pattern.{part_at, parts_within}
 use Rattle.teco_model.specs.declared.pattern.Item.TheVariants as item
-use Rattle.teco_model.specs.declared.pattern.Part.{Part}
 use Rattle.teco_model.specs.declared.pattern.Part.TheVariants as part
 
 -- ---- what is read so far, and what is read of the rest in so many steps

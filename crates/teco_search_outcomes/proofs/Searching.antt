@@ -1,59 +1,44 @@
 -- What is found, and what is missed.
-use Rattle.std.proofs.Common.{◌≡◌, ℕ, zero, suc, ◌+◌, ◌-◌, ◌<◌, ◌≤◌, inl, inr, ℤ, pos, List, [], ◌∷◌, ◌++◌, length}
-use Rattle.std.proofs.Common.{Bool, true, false, Option, Some, if◌then◌else◌, slice_get, slice_index_or, take, drop}
-use Rattle.std.proofs.Common.{refl, sym, ap, subst, ◌∙◌, arith, ◌-ℤ◌, length-append}
-use Rattle.std.proofs.lemmas.Int.{ints}
-use Rattle.std.proofs.lemmas.List.{append-nil, append_assoc}
-use Rattle.std.specs.List.{All}
-use Rattle.teco_base.specs.Lines.{line_place}
-use Rattle.teco_base.specs.Text.{text_after_replacement}
-use Rattle.teco_base.specs.declared.TheConstants.{LIMIT}
-use Rattle.teco_linear.specs.declared.term.Term.{Term}
-use Rattle.teco_linear.specs.Form.{Valuation, value}
+use Rattle.teco_search_outcomes.proofs.Prelude.{◌≡◌, ℕ, zero, suc, ◌+◌, ◌-◌, ◌<◌, ◌≤◌, inl, inr, ℤ, pos, List, [], ◌∷◌}
+use Rattle.teco_search_outcomes.proofs.Prelude.{◌++◌, length, Bool, true, false, Option, Some, if◌then◌else◌, slice_get}
+use Rattle.teco_search_outcomes.proofs.Prelude.{drop, refl, sym, ap, subst, ◌∙◌, arith, ◌-ℤ◌, length-append, ints}
+use Rattle.teco_search_outcomes.proofs.Prelude.{append-nil, append_assoc, All, line_place, text_after_replacement}
+use Rattle.teco_search_outcomes.proofs.Prelude.{LIMIT, Term, Valuation, value, Kept, Item, Part, Span, Case, Guarded}
+use Rattle.teco_search_outcomes.proofs.Prelude.{Agree, One, Single, Steps, Pointer, Size, Held, LineEnd, LineStart}
+use Rattle.teco_search_outcomes.proofs.Prelude.{LastLength, CodeHere, CodeBefore, Typed, Places, changed, Point}
+use Rattle.teco_search_outcomes.proofs.Prelude.{IsTrueOf, code_here, code_before, single, Direction, Ahead, KnownMatch}
+use Rattle.teco_search_outcomes.proofs.Prelude.{Codes, IsSingle, EndsIn, IsChangedFrom, read_given, with_kept}
+use Rattle.teco_search_outcomes.proofs.Prelude.{with_page, IsFoundBy, BeginsLater, IsWarned, IsMissed, IsReplacedBy}
+use Rattle.teco_search_outcomes.proofs.Prelude.{LiesTo, HasRoom, with_codes, IsEnd, above_or, clash, ends, line_begin}
+use Rattle.teco_search_outcomes.proofs.Prelude.{line_end, one_begin, changes_plainly, changes_singles}
+use Rattle.std.proofs.Common.{slice_index_or, take}
 use Rattle.teco_linear.specs.Implied as linear
 use Rattle.teco_model.specs.Searching.{search_message}
-use Rattle.teco_model.specs.State.{Kept}
 use Rattle.teco_model.specs.Typing.{typing_of}
-use Rattle.teco_model.specs.declared.pattern.Item.{Item}
-use Rattle.teco_model.specs.declared.pattern.Part.{Part}
-use Rattle.teco_model.specs.declared.pattern.Span.{Span}
-use Rattle.teco_rows.specs.declared.case.Case.{Case}
-use Rattle.teco_rows.specs.declared.outcomes.Guarded.{Guarded}
-use Rattle.teco_rows.specs.Cases.{Agree}
 use Rattle.teco_rows.specs.declared.measure.Family.TheVariants.{Number, Length, Turns, PushedNumber, PushedLength}
 use Rattle.teco_rows.specs.declared.measure.Family.TheVariants.{First, Value}
 use Rattle.teco_rows.specs.declared.measure.Measure.{Measure}
-use Rattle.teco_rows.specs.declared.measure.Measure.TheVariants.{One, Each}
-use Rattle.teco_rows.specs.declared.measure.Single.{Single}
-use Rattle.teco_rows.specs.declared.measure.Single.TheVariants.{Steps, Pointer, Size, Held, LineEnd, LineStart}
-use Rattle.teco_rows.specs.declared.measure.Single.TheVariants.{LastLength, CodeHere, CodeBefore, Typed}
+use Rattle.teco_rows.specs.declared.measure.Measure.TheVariants.{Each}
 use Rattle.teco_rows.specs.declared.row.Clause.{Clause}
 use Rattle.teco_rows.specs.declared.row.Clause.TheVariants.{Sets, Drops, Wants}
-use Rattle.teco_rows.specs.declared.row.Places.{Places}
-use Rattle.teco_rows.specs.Rows.{AreMet, Before, changed}
-use Rattle.teco_rows.specs.States.{Point, IsTrueOf, from_end, length_of, measures_of, code_here, code_before, single}
+use Rattle.teco_rows.specs.Rows.{AreMet, Before}
+use Rattle.teco_rows.specs.States.{from_end, length_of, measures_of}
 use Rattle.teco_rows.specs.States.{number_of}
-use Rattle.teco_search_outcomes.specs.declared.searches.Direction.{Direction}
-use Rattle.teco_search_outcomes.specs.declared.searches.Direction.TheVariants.{Ahead, Back, Here}
-use Rattle.teco_search_outcomes.specs.declared.searches.Known.{Known}
+use Rattle.teco_search_outcomes.specs.declared.searches.Direction.TheVariants.{Back, Here}
 use Rattle.teco_search_outcomes.specs.declared.searches.TheConstants.{EXACT, FOUND, LIES, NEW_LINE}
 use Rattle.teco_search_outcomes.specs.declared.searches.TheConstants.{ENDS_IN, ENDS_WITH, LATER}
-use Rattle.teco_search_outcomes.specs.declared.patterns.Codes.{Codes}
 use Rattle.teco_search_outcomes.specs.declared.searches.TheConstants.{OTHER_LINE, REPLACED, SAME_LINE, STARTED}
 use Rattle.teco_search_outcomes.specs.declared.searches.TheConstants.{WARNS}
-use Rattle.teco_search_outcomes.specs.Patterns.{IsLong, IsSingle, EndsIn}
-use Rattle.teco_command_outcomes.specs.Changes.{Changes, IsChangedFrom, read_given, with_kept, with_page}
-use Rattle.teco_search_outcomes.specs.Searches.{HasFound, HasReplaced, IsFoundBy, IsKnown}
-use Rattle.teco_search_outcomes.specs.Searches.{BeginsLater, IsWarned}
-use Rattle.teco_search_outcomes.specs.Searches.{IsMissed, IsMissedPlace, IsReplacedBy, LiesTo, HasRoom}
+use Rattle.teco_search_outcomes.specs.Patterns.{IsLong}
+use Rattle.teco_command_outcomes.specs.Changes.{Changes}
+use Rattle.teco_search_outcomes.specs.Searches.{HasFound, HasReplaced, IsKnown}
+use Rattle.teco_search_outcomes.specs.Searches.{IsMissedPlace}
 use Rattle.teco_search_outcomes.specs.Searches.{direction_clauses, extra_clauses}
-use Rattle.teco_rows.proofs.Characters.{with_codes}
 use Rattle.teco_rows.proofs.Applying.{changed-append}
-use Rattle.teco_rows.proofs.Lines.{IsBegin, IsEnd, above_or, begin_before, begin_most, clash, end_before, ends}
-use Rattle.teco_rows.proofs.Lines.{line_begin, line_end, one_begin, one_end}
+use Rattle.teco_rows.proofs.Lines.{IsBegin, begin_before, begin_most, end_before}
+use Rattle.teco_rows.proofs.Lines.{one_end}
 use Rattle.teco_rows.proofs.Texts.{begin_kept, begin_new, end_behind, length_after}
 use Rattle.teco_rows.proofs.Ways.{met_both}
-use Rattle.teco_command_outcomes.proofs.Changing.{changes_plainly, changes_singles}
 use Rattle.teco_search_outcomes.proofs.Matching.{Lies, items_in, match_closes, match_exact, match_lies, match_stays}
 
 -- ---- rows that change what is kept
@@ -103,7 +88,7 @@ wants_directed Ahead = refl
 wants_directed Back = refl
 wants_directed Here = refl
 
-wants_extras : (known : Known) → wants_alone (extra_clauses known) ≡ true
+wants_extras : (known : KnownMatch) → wants_alone (extra_clauses known) ≡ true
 wants_extras known =
     wants_both (((LIES ++ direction_clauses known.direction) ++ (if known.is_exact then EXACT else []))
     ++ (if known.ends_line then NEW_LINE else [])) _
@@ -123,7 +108,7 @@ numbers span e t (suc (suc (suc i))) = pos t
 
 -- What is so of a match with so many elements, where the line that holds its end ends at e, and the new one starts
 -- at t.
-record Facts (s : Point) (span : Span) (known : Known) (long e t : ℕ) : Type 0 where
+record Facts (s : Point) (span : Span) (known : KnownMatch) (long e t : ℕ) : Type 0 where
   some : span.start < span.end
   reaches : span.start + long ≤ span.end
   after : span.end ≤ e
@@ -135,7 +120,7 @@ record Facts (s : Point) (span : Span) (known : Known) (long e t : ℕ) : Type 0
   closes : known.ends_line ≡ true → span.end ≤ t
   stays : known.stays_in_line ≡ true → t ≤ span.start
 
-module _ (s : Point) (span : Span) (known : Known) (long e t : ℕ) (given : ℕ → ℤ) (here : Places)
+module _ (s : Point) (span : Span) (known : KnownMatch) (long e t : ℕ) (given : ℕ → ℤ) (here : Places)
     (facts : Facts s span known long e t) (long_is : given 0 ≡ pos long) (behind : Kept) where
   abbrev b : Before
   b = record {
@@ -351,7 +336,7 @@ pub record HasCodes (parts : List Part) (direction : Direction) (case : Case) (c
   pub from_is : (n : ℕ) (v : Valuation) → value from n v ≡ pos codes.least
   pub to_is : (n : ℕ) (v : Valuation) → value to n v ≡ pos codes.most
 
-pub finds : (case made : Case) (parts : List Part) (direction : Direction) (known : Known) (codes : Codes)
+pub finds : (case made : Case) (parts : List Part) (direction : Direction) (known : KnownMatch) (codes : Codes)
     (exactly later : Bool) (least from to : List Term) (row more : List Clause) → IsKnown parts direction known
     → HasCodes parts direction case codes exactly later from to → more ≡ extra_clauses known
     → row ≡ (((FOUND ++ more) ++ (if exactly then ENDS_WITH else [])) ++ ENDS_IN) ++ (if later then LATER else [])
@@ -407,7 +392,7 @@ finds case made parts direction known codes exactly later least from to row more
     (long of.exact n v s true_of whole) kept found refl refl begin.before))))))
 
 -- What is so of a text in the stead of a match: where its last line starts in it, if more is said, or it ends no line.
-pub record IsInStead (known : Known) (more : Bool) (text : List ℕ) : Type 0 where
+pub record IsInStead (known : KnownMatch) (more : Bool) (text : List ℕ) : Type 0 where
   pub closes : known.ends_line ≡ false
   pub stays : known.stays_in_line ≡ true → line_place text (length text) (pos 0) ≡ 0
   pub starts : more ≡ true → 1 ≤ line_place text (length text) (pos 0)
@@ -415,7 +400,7 @@ pub record IsInStead (known : Known) (more : Bool) (text : List ℕ) : Type 0 wh
 not_both : (b : Bool) → b ≡ false → b ≡ true → ⊥
 not_both b h k = clash b k h
 
-pub replaces : (case made : Case) (parts : List Part) (direction : Direction) (known : Known) (other : Bool)
+pub replaces : (case made : Case) (parts : List Part) (direction : Direction) (known : KnownMatch) (other : Bool)
     (text : List ℕ) (least long last : List Term) (row more : List Clause) → known.direction ≡ direction
     → (known.is_exact ≡ true → All IsSingle parts) → IsInStead known other text → more ≡ extra_clauses known
     → row ≡ (REPLACED ++ more) ++ (if other then OTHER_LINE else []) → IsLong parts case least

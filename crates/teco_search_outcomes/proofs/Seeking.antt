@@ -1,66 +1,47 @@
 -- Where searches look, and what they answer.
-use Rattle.std.proofs.Common.{◌≡◌, ℕ, zero, suc, ◌+◌, ◌<◌, ◌≤◌, ℤ, pos, negsuc, ◌≤ℤ◌, List, [], ◌∷◌, ◌++◌, length}
-use Rattle.std.proofs.Common.{Bool, true, false, is_some, Option, Some, None, Result, Ok, Err, drop, refl, sym}
-use Rattle.std.proofs.Common.{ap, subst, ◌∙◌, arith, inl, inr}
-use Rattle.std.proofs.lemmas.Int.{ints}
-use Rattle.std.proofs.lemmas.Bool.Decides.{nat_tests}
-use Rattle.std.specs.List.{All, Any}
-use Rattle.std.specs.Option.{ok_or}
-use Rattle.std.specs.Prelude.{flat_map, if◌then◌else◌, nat_le, nat_lt, not, ◌||◌}
-use Rattle.teco_model.specs.Condition.{is_zero}
-use Rattle.teco_model.specs.laws.Whole.{IsWhole}
-use Rattle.teco_base.specs.declared.code.Code.{Code}
+use Rattle.teco_search_outcomes.proofs.Prelude.{◌≡◌, ℕ, zero, suc, ◌+◌, ◌<◌, ◌≤◌, ℤ, pos, negsuc, ◌≤ℤ◌, List, [], ◌∷◌}
+use Rattle.teco_search_outcomes.proofs.Prelude.{◌++◌, length, Bool, true, false, is_some, Option, Some, None, Result}
+use Rattle.teco_search_outcomes.proofs.Prelude.{Ok, Err, drop, refl, sym, ap, subst, ◌∙◌, arith, inl, inr, ints}
+use Rattle.teco_search_outcomes.proofs.Prelude.{nat_tests, All, Any, ok_or, flat_map, is_zero, IsWhole, Code, Term}
+use Rattle.teco_search_outcomes.proofs.Prelude.{Valuation, value, Arguments, levels_after_taking, no_arguments, ◌>>=◌}
+use Rattle.teco_search_outcomes.proofs.Prelude.{Element, element_at, Pattern, items_of, pattern, parts, kept_after}
+use Rattle.teco_search_outcomes.proofs.Prelude.{kept_at, pattern_of, search_text_of, Miss, miss_of, miss_where}
+use Rattle.teco_search_outcomes.proofs.Prelude.{search_reply, Kept, World, outcome_at, reply_of, step}
+use Rattle.teco_search_outcomes.proofs.Prelude.{text_after_replacement, LIMIT, Search, Part, Span, IsFirstFrom, IsMatch}
+use Rattle.teco_search_outcomes.proofs.Prelude.{Case, TakenForms, Guarded, Outcomes, value_if, IsTaken, taken_by}
+use Rattle.teco_search_outcomes.proofs.Prelude.{IsGuarded, Succeeds, Point, IsTrueOf, Describes, among, Aim, Direction}
+use Rattle.teco_search_outcomes.proofs.Prelude.{IsTold, with_kept, Goes, StepsTo, loops_in, place_away, point_of, Aims}
+use Rattle.teco_search_outcomes.proofs.Prelude.{Ends, IsAsked, HasRoom, IsFoundBy, IsMissed, IsOf, IsReplacedBy}
+use Rattle.teco_search_outcomes.proofs.Prelude.{IsWarned, warned}
+use Rattle.std.specs.Prelude.{if◌then◌else◌, nat_le, nat_lt, not, ◌||◌}
 use Rattle.teco_base.specs.declared.code.Code.TheVariants as code
-use Rattle.teco_linear.specs.declared.term.Term.{Term}
-use Rattle.teco_linear.specs.Form.{Valuation, value}
 use Rattle.teco_linear.specs.Implied as linear
 use Rattle.teco_model.specs.Ahead.{Whole, readings}
-use Rattle.teco_model.specs.Arguments.{Arguments, levels_after_taking, no_arguments}
-use Rattle.teco_model.specs.Checked.{◌>>=◌, ◌>>-◌}
-use Rattle.teco_model.specs.Element.{Element, element_at}
+use Rattle.teco_model.specs.Checked.{◌>>-◌}
 use Rattle.teco_model.specs.Flow.{turn_along, turn_to}
 use Rattle.teco_model.specs.Going as going
 use Rattle.teco_model.specs.Match.{backward, forward}
-use Rattle.teco_model.specs.Pattern.{Pattern, items_of, pattern, parts}
-use Rattle.teco_model.specs.Search.{Finding, Found, Missed, count_of, finding_of, kept_after, kept_at, match_of}
-use Rattle.teco_model.specs.Search.{pattern_of, replacement, search}
-use Rattle.teco_model.specs.Search.{search_text_of, text_or}
-use Rattle.teco_model.specs.Searching.{Miss, found, found_in_buffer, has_colon, kept_by_miss, miss_of, miss_where}
-use Rattle.teco_model.specs.Searching.{miss_within, search_reply}
+use Rattle.teco_model.specs.Search.{Finding, Found, Missed, count_of, finding_of, match_of}
+use Rattle.teco_model.specs.Search.{replacement, search}
+use Rattle.teco_model.specs.Search.{text_or}
+use Rattle.teco_model.specs.Searching.{found, found_in_buffer, has_colon, kept_by_miss}
+use Rattle.teco_model.specs.Searching.{miss_within}
 use Rattle.teco_model.specs.Searching as miss
 use Rattle.teco_model.specs.Skip.{route_of, skip_of, skip_on}
-use Rattle.teco_model.specs.State.{Frame, Kept, World}
-use Rattle.teco_model.specs.Step.{outcome_at, reply_of, step}
+use Rattle.teco_model.specs.State.{Frame}
 use Rattle.teco_model.specs.declared.flow.Loop.{Loop}
 use Rattle.teco_model.specs.declared.kind.Kind.{Kind}
 use Rattle.teco_model.specs.declared.kind.Kind.TheVariants as kind
-use Rattle.teco_base.specs.Text.{text_after_replacement}
-use Rattle.teco_base.specs.declared.TheConstants.{LIMIT}
-use Rattle.teco_model.specs.declared.kind.Search.{Search}
-use Rattle.teco_model.specs.declared.pattern.Part.{Part}
-use Rattle.teco_model.specs.declared.pattern.Span.{Span}
 use Rattle.teco_model.specs.declared.skip.Skip.{Skip}
-use Rattle.teco_model.specs.laws.Matching.{Finds, IsFirstFrom, IsForward, IsBackward, IsLastBefore, IsMatch, IsMatchAt}
+use Rattle.teco_model.specs.laws.Matching.{Finds, IsForward, IsBackward, IsLastBefore, IsMatchAt}
 use Rattle.teco_model.specs.laws.Matching.{IsNth}
 use Rattle.teco_model.proofs.Searches.{backward_finds, forward_finds, here_finds}
-use Rattle.teco_rows.specs.declared.case.Case.{Case}
-use Rattle.teco_rows.specs.declared.commands.Taken.{Taken}
-use Rattle.teco_rows.specs.declared.outcomes.Guarded.{Guarded}
-use Rattle.teco_rows.specs.declared.outcomes.Outcomes.{Outcomes}
-use Rattle.teco_rows.specs.Cases.{value_if}
-use Rattle.teco_rows.specs.Commands.{IsTaken, taken_by}
-use Rattle.teco_rows.specs.Foretold.{IsGuarded, Succeeds}
-use Rattle.teco_rows.specs.States.{Point, IsTrueOf, Describes}
-use Rattle.teco_rows.proofs.Describing.{among}
-use Rattle.teco_flow_outcomes.specs.declared.ranges.Range.TheVariants as range
-use Rattle.teco_search_outcomes.specs.declared.searches.Aim.{Aim}
-use Rattle.teco_search_outcomes.specs.declared.searches.Direction.{Direction}
-use Rattle.teco_command_outcomes.specs.Changes.{IsTold, with_kept}
+use Rattle.teco_flow_outcomes.specs.declared.ranges.NumberRange.TheVariants as range
 use Rattle.teco_flow_outcomes.specs.Flow.{IsLeft, turned}
-use Rattle.teco_flow_outcomes.specs.Law.{Goes, Law, StepsTo, loops_in, place_away, point_of}
-use Rattle.teco_search_outcomes.specs.Searches.{Aims, Answers, Ends, HasMissed, IsAsked, IsForeseen}
-use Rattle.teco_search_outcomes.specs.Searches.{HasRoom, IsFoundBy, IsMissed, IsOf, IsReplacedBy, Leaves, Looks}
-use Rattle.teco_search_outcomes.specs.Searches.{IsWarned, SearchLaw, Searches, aimed, warned}
+use Rattle.teco_flow_outcomes.specs.Law.{Law}
+use Rattle.teco_search_outcomes.specs.Searches.{Answers, HasMissed, IsForeseen}
+use Rattle.teco_search_outcomes.specs.Searches.{Leaves, Looks}
+use Rattle.teco_search_outcomes.specs.Searches.{SearchLaw, Searches, aimed}
 use Rattle.teco_search_outcomes.proofs.Matching.{match_lies}
 
 -- ---- where a search looks
@@ -176,7 +157,7 @@ Keeps x e ps direction case behind guarded =
     → (kept : Kept) × (kept_after x e span (record s.kept { search_text = text }) ≡ Ok kept)
     × Describes n behind (with_kept s kept)
 
-module _ (x : Search) (answering : Bool) (e : Element) (taken : Taken) (case behind start : Case) (all : Outcomes)
+module _ (x : Search) (answering : Bool) (e : Element) (taken : TakenForms) (case behind start : Case) (all : Outcomes)
     (ps : List Part) (aim : Aim) (first : is_some taken.first ≡ false) (some : 1 ≤ length e.text)
     (read : parts e.text ≡ Ok ps) (aims : Aims taken.value e.colons aim) (missed : IsMissed e.colons case start)
     (keeps : Keeps x e ps aim.direction case behind all.guarded.items)
@@ -305,7 +286,7 @@ nonempty [] h = absurd (omega arith)
 nonempty (x ∷ xs) h = (x, xs, refl)
 
 -- S and FS do as they are foretold, where they are read
-pub search_law : (x : Search) (answering : Bool) (e : Element) (case : Case) (taken : Taken) (all : Outcomes)
+pub search_law : (x : Search) (answering : Bool) (e : Element) (case : Case) (taken : TakenForms) (all : Outcomes)
     → ((m : Miss) (left : Option ℕ) (arguments : Arguments) (world : World)
     → search_reply x e m left arguments world ≡ found_in_buffer x e m left arguments world)
     → e.kind ≡ kind.Search x → IsTaken case taken → Searches x answering e taken case all

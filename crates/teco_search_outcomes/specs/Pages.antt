@@ -13,7 +13,7 @@ use Rattle.teco_model.specs.Step.{step}
 use Rattle.teco_model.specs.declared.kind.Page.{Page}
 use Rattle.teco_model.specs.declared.kind.Page.TheVariants as page
 use Rattle.teco_rows.specs.declared.case.Case.{Case}
-use Rattle.teco_rows.specs.declared.commands.Taken.{Taken}
+use Rattle.teco_rows.specs.declared.commands.TakenForms.{TakenForms}
 use Rattle.teco_rows.specs.declared.outcomes.Outcomes.{Outcomes}
 use Rattle.teco_rows.specs.Cases.{value_if}
 use Rattle.teco_rows.specs.Commands.{commanded, taken_by}
@@ -48,7 +48,7 @@ Reads done case all =
     → Succeeds (IsPaged n all (point_of steps origin s)) (done s.world)
 
 -- a command takes no first value, and the number 1 or no value
-pub record IsOnce (taken : Taken) : Type 0 where
+pub record IsOnce (taken : TakenForms) : Type 0 where
   pub first : taken.first ≡ None
   pub count : (n : ℕ) (v : Valuation) → unwrap_or (value_if taken.value n v) (pos 1) ≡ pos 1
 
@@ -58,7 +58,7 @@ pub record IsDoneAtOnce (n : ℕ) (all : Outcomes) (s : Point) (progress : Progr
   pub described : IsPaged n all s progress.world
 
 -- Where it begins so and an output is open, what is done page by page takes one step and comes to no code.
-abbrev pub Writes : (World → Result World Code) → Taken → Case → Outcomes → Type 0
+abbrev pub Writes : (World → Result World Code) → TakenForms → Case → Outcomes → Type 0
 Writes one_page taken case all =
     (n : ℕ) (v : Valuation) (s : State) (steps : ℕ) (origin : Origin)
     → is_some s.world.files.output ≡ true → Begins n v case all (point_of steps origin s)
@@ -67,7 +67,7 @@ Writes one_page taken case all =
 -- where it takes the two values that forms are, so does what is done page by page, whatever that is
 abbrev pub WritesRange : List Term → List Term → Case → Outcomes → Type 0
 WritesRange first second case all =
-    (one_page : World → Result World Code) (taken : Taken)
+    (one_page : World → Result World Code) (taken : TakenForms)
     → taken.first ≡ Some first → taken.value ≡ Some second → Writes one_page taken case all
 
 -- the input is open where a page is read by itself, and else the output

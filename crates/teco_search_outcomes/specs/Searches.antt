@@ -24,7 +24,7 @@ use Rattle.teco_model.specs.declared.pattern.Span.{Span}
 use Rattle.teco_model.specs.laws.Matching.{IsMatch}
 use Rattle.teco_model.specs.laws.Whole.{IsWhole}
 use Rattle.teco_rows.specs.declared.case.Case.{Case}
-use Rattle.teco_rows.specs.declared.commands.Taken.{Taken}
+use Rattle.teco_rows.specs.declared.commands.TakenForms.{TakenForms}
 use Rattle.teco_rows.specs.declared.outcomes.Guarded.{Guarded}
 use Rattle.teco_rows.specs.declared.outcomes.Outcomes.{Outcomes}
 use Rattle.teco_rows.specs.declared.row.Clause.{Clause}
@@ -35,7 +35,7 @@ use Rattle.teco_rows.specs.States.{Origin, Point, IsTrueOf, Describes}
 use Rattle.teco_search_outcomes.specs.declared.searches.Aim.{Aim}
 use Rattle.teco_search_outcomes.specs.declared.searches.Direction.{Direction}
 use Rattle.teco_search_outcomes.specs.declared.searches.Direction.TheVariants.{Ahead, Back, Here}
-use Rattle.teco_search_outcomes.specs.declared.searches.Known.{Known}
+use Rattle.teco_search_outcomes.specs.declared.searches.KnownMatch.{KnownMatch}
 use Rattle.teco_search_outcomes.specs.declared.searches.TheConstants as rows
 use Rattle.teco_command_outcomes.specs.Changes.{DescribesFrom, with_kept}
 use Rattle.teco_flow_outcomes.specs.Flow.{turned}
@@ -71,7 +71,7 @@ Aims number colons aim =
 
 -- ---- what is known of a match
 -- what is said to be known of a match of parts is so
-pub record IsKnown (parts : List Part) (direction : Direction) (known : Known) : Type 0 where
+pub record IsKnown (parts : List Part) (direction : Direction) (known : KnownMatch) : Type 0 where
   pub towards : known.direction ≡ direction
   pub exact : known.is_exact ≡ true → All IsSingle parts
   pub ends : known.ends_line ≡ true → EndsLine parts
@@ -83,7 +83,7 @@ direction_clauses Back = rows.BACK
 direction_clauses Here = rows.HERE
 
 -- the clauses of what is known
-abbrev pub extra_clauses : Known → List Clause
+abbrev pub extra_clauses : KnownMatch → List Clause
 extra_clauses known =
     (((rows.LIES ++ direction_clauses known.direction) ++ (if known.is_exact then rows.EXACT else []))
     ++ (if known.ends_line then rows.NEW_LINE else []))
@@ -197,7 +197,7 @@ IsForeseen false n all colons s (Missed kept) =
     all.away.items
 
 -- Where it begins so, a search of these texts comes to no code, and what it comes to is foretold.
-abbrev pub Searches : Search → Bool → Element → Taken → Case → Outcomes → Type 0
+abbrev pub Searches : Search → Bool → Element → TakenForms → Case → Outcomes → Type 0
 Searches kind answers e taken case all =
     (n : ℕ) (v : Valuation) (s : Point)
     → Begins n v case all s

@@ -9,7 +9,7 @@ ghost use Rattle.teco_search_outcomes.specs.PageSearches.{answer_of};
 
 use crate::pages::room;
 use crate::patterns::parts;
-use crate::searches::{Asked, Direction, YES, ended, find, fitted, replace};
+use crate::searches::{AskedSearch, Direction, YES, ended, find, fitted, replace};
 use std::alloc::Global;
 use teco_command_outcomes::changes::{changed, told};
 use teco_command_outcomes::deletions::HELD;
@@ -18,8 +18,8 @@ use teco_linear::Form;
 use teco_model::Element;
 use teco_model::kind::Search;
 use teco_rows::case::Case;
-use teco_rows::commands::{Taken, argument, take_arguments};
-use teco_rows::fault::Fault;
+use teco_rows::commands::{TakenForms, argument, take_arguments};
+use teco_rows::fault::RowFault;
 use teco_rows::levels::NO;
 use teco_rows::measure::Single;
 use teco_rows::outcomes::Outcomes;
@@ -97,21 +97,21 @@ const THROUGH: [Clause; 10] = [
 ];
 
 // The case where a later page is in the place of the buffer.
-fn later_page(case: &Case, alloc: Global) -> Result<Case, Fault>
+fn later_page(case: &Case, alloc: Global) -> Result<Case, RowFault>
     ensures { IfOk result (λ made. IsLaterPage case.now made) }
 {
     changed(case, &LATER_PAGE, &[], alloc)
 }
 
 // The case where no page is left.
-fn through(case: &Case, alloc: Global) -> Result<Case, Fault>
+fn through(case: &Case, alloc: Global) -> Result<Case, RowFault>
     ensures { IfOk result (λ made. IsThrough case.now made) }
 {
     changed(case, &THROUGH, &[], alloc)
 }
 
 // The condition that one match is wanted at least.
-fn positive(number: Option<Form>, alloc: Global) -> Result<Vec<Form>, Fault>
+fn positive(number: Option<Form>, alloc: Global) -> Result<Vec<Form>, RowFault>
     ensures { IfOk result (λ conditions. IsPositive number conditions.items) }
 {
     let count = argument(number, 1, alloc)?;
@@ -123,7 +123,7 @@ fn positive(number: Option<Form>, alloc: Global) -> Result<Vec<Form>, Fault>
 }
 
 // The case behind a match, which is answered or not.
-fn met(found: &Case, answers: bool, alloc: Global) -> Result<Case, Fault>
+fn met(found: &Case, answers: bool, alloc: Global) -> Result<Case, RowFault>
     ensures { IfOk result (λ made. IsTold found.now (answer_of answers) made) }
 {
     if answers {
@@ -134,7 +134,12 @@ fn met(found: &Case, answers: bool, alloc: Global) -> Result<Case, Fault>
 }
 
 // Outcomes with one case more, that of a match on a later page.
-fn with_later(all: Outcomes, later: &Case, answers: bool, alloc: Global) -> Result<Outcomes, Fault>
+fn with_later(
+    all: Outcomes,
+    later: &Case,
+    answers: bool,
+    alloc: Global,
+) -> Result<Outcomes, RowFault>
     ensures { IfOk result (λ more. HasMore answers later.now all more) }
 {
     let made = met(later, answers, alloc)?;
@@ -161,24 +166,24 @@ pub fn search_pages(
     element: &Element,
     answers: bool,
     alloc: Global,
-) -> Result<Outcomes, Fault>
+) -> Result<Outcomes, RowFault>
     ensures { IfOk result (λ all. element.now.kind ≡ kinds.Search kind
         → LongLaw answers (seen element.now) case.now all) }
 {
     let taken = take_arguments(case, alloc)?;
-    let Taken { first, value } = taken;
+    let TakenForms { first, value } = taken;
     if first.is_some() {
-        return Err(Fault::Argument);
+        return Err(RowFault::Argument);
     }
     if element.text.is_empty() {
-        return Err(Fault::NotTold);
+        return Err(RowFault::NotTold);
     }
     let parts = parts(element.text, alloc)?;
     let mut conditions = positive(value, alloc)?;
     conditions.push(room(case, alloc)?)?;
     let on = later_page(case, alloc)?;
     if on.symbols < case.symbols {
-        return Err(Fault::TooMany);
+        return Err(RowFault::TooMany);
     }
     let gone = through(case, alloc)?;
     let mut guarded = Vec::new(alloc);
@@ -186,7 +191,7 @@ pub fn search_pages(
         Search::FindInPages => {
             let here = find(case, &parts, Direction::Ahead, alloc)?;
             let later = find(&on, &parts, Direction::Ahead, alloc)?;
-            let asked = Asked {
+            let asked = AskedSearch {
                 conditions,
                 guarded,
             };
@@ -199,7 +204,7 @@ pub fn search_pages(
             let later = replace(&on, &parts, Direction::Ahead, element.second, alloc)?;
             guarded.push(fitted(case, &here, alloc)?)?;
             guarded.push(fitted(case, &later, alloc)?)?;
-            let asked = Asked {
+            let asked = AskedSearch {
                 conditions,
                 guarded,
             };
@@ -207,6 +212,6 @@ pub fn search_pages(
             let more = with_later(all, &later, answers, alloc)?;
             Ok(more)
         }
-        _ => Err(Fault::NotTold),
+        _ => Err(RowFault::NotTold),
     }
 }

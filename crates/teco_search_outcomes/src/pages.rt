@@ -7,7 +7,7 @@ ghost use Rattle.teco_model.specs.Element as model;
 ghost use Rattle.teco_model.specs.declared.kind.Kind.TheVariants as kinds;
 ghost use Rattle.teco_model.specs.Paging.{append, page_turned, page_written, yank};
 ghost use Rattle.teco_search_outcomes.specs.Pages.{IsOnce, PageLaw, Reads, TurnsPage, Writes, WritesRange};
-ghost use Rattle.teco_rows.specs.declared.commands.Taken.{Taken};
+ghost use Rattle.teco_rows.specs.declared.commands.TakenForms.{TakenForms};
 ghost use Rattle.teco_rows.specs.States.{Point, IsTrueOf};
 
 use std::alloc::Global;
@@ -19,8 +19,8 @@ use teco_command_outcomes::motions::{ANY_BEFORE, ANY_HERE, LINE_END, LINE_START,
 use teco_linear::Form;
 use teco_model::kind::Page;
 use teco_rows::case::Case;
-use teco_rows::commands::{Taken, argument, take_arguments};
-use teco_rows::fault::Fault;
+use teco_rows::commands::{TakenForms, argument, take_arguments};
+use teco_rows::fault::RowFault;
 use teco_rows::forms::{is_number, single};
 use teco_rows::levels::{NO, one};
 use teco_rows::measure::Single;
@@ -124,7 +124,7 @@ const APPENDED: [Clause; 12] = [
 const STAYS: [Clause; 1] = [ALL_READ];
 
 // The cases where the next page is in the place of the buffer.
-fn next_page(case: &Case, alloc: Global) -> Result<Vec<Case>, Fault>
+fn next_page(case: &Case, alloc: Global) -> Result<Vec<Case>, RowFault>
     ensures { IfOk result (λ cases. TurnsPage case.now cases.items) }
 {
     let emptied = changed(case, &EMPTIED, &[], alloc)?;
@@ -138,7 +138,7 @@ fn next_page(case: &Case, alloc: Global) -> Result<Vec<Case>, Fault>
 }
 
 /// The condition that the next page is no longer than a buffer may be.
-pub fn room(case: &Case, alloc: Global) -> Result<Form, Fault>
+pub fn room(case: &Case, alloc: Global) -> Result<Form, RowFault>
     ensures { IfOk result (λ condition. (n : ℕ) (v : Valuation) (s : Point) → IsTrueOf n v case.now s
         → Holds n v condition → s.unread ≤ LIMIT) }
 {
@@ -151,8 +151,8 @@ pub fn room(case: &Case, alloc: Global) -> Result<Form, Fault>
 }
 
 // `P` writes the buffer, and the next page is in its place, if it has room.
-fn turn_one(case: &Case, alloc: Global) -> Result<Outcomes, Fault>
-    ensures { IfOk result (λ all. (taken : Taken) → IsOnce taken → Writes page_turned taken case.now all) }
+fn turn_one(case: &Case, alloc: Global) -> Result<Outcomes, RowFault>
+    ensures { IfOk result (λ all. (taken : TakenForms) → IsOnce taken → Writes page_turned taken case.now all) }
 {
     let left = room(case, alloc)?;
     let mut conditions = Vec::new(alloc);
@@ -167,15 +167,20 @@ fn turn_one(case: &Case, alloc: Global) -> Result<Outcomes, Fault>
 }
 
 // `PW` writes the buffer, and nothing else becomes of it.
-fn write_one(case: &Case, alloc: Global) -> Result<Outcomes, Fault>
-    ensures { IfOk result (λ all. (taken : Taken) → IsOnce taken → Writes page_written taken case.now all) }
+fn write_one(case: &Case, alloc: Global) -> Result<Outcomes, RowFault>
+    ensures { IfOk result (λ all. (taken : TakenForms) → IsOnce taken → Writes page_written taken case.now all) }
 {
     let after = told(case, &[], alloc)?;
     one(after, Vec::new(alloc), alloc)
 }
 
 // With two values either writes the part between them.
-fn write_range(case: &Case, first: &Form, second: &Form, alloc: Global) -> Result<Outcomes, Fault>
+fn write_range(
+    case: &Case,
+    first: &Form,
+    second: &Form,
+    alloc: Global,
+) -> Result<Outcomes, RowFault>
     ensures { IfOk result (λ all. WritesRange first.now second.now case.now all) }
 {
     let conditions = both_in_buffer(case, first, second, alloc)?;
@@ -184,19 +189,19 @@ fn write_range(case: &Case, first: &Form, second: &Form, alloc: Global) -> Resul
 }
 
 // What is done page by page, where that is once.
-fn by_page(case: &Case, turns: bool, taken: Taken, alloc: Global) -> Result<Outcomes, Fault>
+fn by_page(case: &Case, turns: bool, taken: TakenForms, alloc: Global) -> Result<Outcomes, RowFault>
     ensures { IfOk result (λ all. Writes (if turns then page_turned else page_written) taken case.now all) }
 {
-    let Taken { first, value } = taken;
+    let TakenForms { first, value } = taken;
     match first {
         Some(first) => match value {
             Some(second) => write_range(case, &first, &second, alloc),
-            None => Err(Fault::Argument),
+            None => Err(RowFault::Argument),
         },
         None => {
             let count = argument(value, 1, alloc)?;
             if !is_number(&count, 1) {
-                return Err(Fault::NotTold);
+                return Err(RowFault::NotTold);
             }
             if turns {
                 turn_one(case, alloc)
@@ -208,19 +213,19 @@ fn by_page(case: &Case, turns: bool, taken: Taken, alloc: Global) -> Result<Outc
 }
 
 /// What comes of `P` and `PW`, where an output is open. How many pages there are is to be 1.
-pub fn write_pages(case: &Case, page: Page, alloc: Global) -> Result<Outcomes, Fault>
+pub fn write_pages(case: &Case, page: Page, alloc: Global) -> Result<Outcomes, RowFault>
     ensures { IfOk result (λ all. (e : model.Element) → e.kind ≡ kinds.Page page → PageLaw page e case.now all) }
 {
     let taken = take_arguments(case, alloc)?;
     match page {
         Page::Next => by_page(case, true, taken, alloc),
         Page::Write => by_page(case, false, taken, alloc),
-        _ => Err(Fault::NotTold),
+        _ => Err(RowFault::NotTold),
     }
 }
 
 // The condition that the buffer has room for all that is unread.
-fn room_behind(case: &Case, alloc: Global) -> Result<Form, Fault>
+fn room_behind(case: &Case, alloc: Global) -> Result<Form, RowFault>
     ensures { IfOk result (λ condition. (n : ℕ) (v : Valuation) (s : Point) → IsTrueOf n v case.now s
         → Holds n v condition → length s.kept.text + s.unread ≤ LIMIT) }
 {
@@ -231,7 +236,7 @@ fn room_behind(case: &Case, alloc: Global) -> Result<Form, Fault>
 }
 
 // `A` puts the next page behind the buffer, if that has room; where nothing is unread it stays.
-fn append_page(case: &Case, alloc: Global) -> Result<Outcomes, Fault>
+fn append_page(case: &Case, alloc: Global) -> Result<Outcomes, RowFault>
     ensures { IfOk result (λ all. Reads append case.now all) }
 {
     let left = room_behind(case, alloc)?;
@@ -253,7 +258,7 @@ fn append_page(case: &Case, alloc: Global) -> Result<Outcomes, Fault>
 }
 
 // The condition that the buffer is empty.
-fn is_empty(case: &Case, alloc: Global) -> Result<Form, Fault>
+fn is_empty(case: &Case, alloc: Global) -> Result<Form, RowFault>
     ensures { IfOk result (λ condition. (n : ℕ) (v : Valuation) (s : Point) → IsTrueOf n v case.now s
         → Holds n v condition → length s.kept.text ≤ 0) }
 {
@@ -264,7 +269,7 @@ fn is_empty(case: &Case, alloc: Global) -> Result<Form, Fault>
 }
 
 // `Y` reads the next page into the buffer, which is to be empty: it is not lost then.
-fn yank_page(case: &Case, alloc: Global) -> Result<Outcomes, Fault>
+fn yank_page(case: &Case, alloc: Global) -> Result<Outcomes, RowFault>
     ensures { IfOk result (λ all. Reads yank case.now all) }
 {
     let empty = is_empty(case, alloc)?;
@@ -282,20 +287,20 @@ fn yank_page(case: &Case, alloc: Global) -> Result<Outcomes, Fault>
 }
 
 /// What comes of `A` alone and of `Y`, where an input is open.
-pub fn read_pages(case: &Case, page: Page, alloc: Global) -> Result<Outcomes, Fault>
+pub fn read_pages(case: &Case, page: Page, alloc: Global) -> Result<Outcomes, RowFault>
     ensures { IfOk result (λ all. (e : model.Element) → e.kind ≡ kinds.Page page → PageLaw page e case.now all) }
 {
     let taken = take_arguments(case, alloc)?;
-    let Taken {
+    let TakenForms {
         first: _first,
         value,
     } = taken;
     match page {
         Page::Append => match value {
-            Some(_) => Err(Fault::NotTold),
+            Some(_) => Err(RowFault::NotTold),
             None => append_page(case, alloc),
         },
         Page::Yank => yank_page(case, alloc),
-        _ => Err(Fault::NotTold),
+        _ => Err(RowFault::NotTold),
     }
 }

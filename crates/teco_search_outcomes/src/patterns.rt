@@ -15,7 +15,7 @@ use teco_base::bytes::{control, is_letter, to_upper};
 use teco_linear::Form;
 use teco_model::pattern::{Class, Item, Part};
 use teco_rows::case::Case;
-use teco_rows::fault::Fault;
+use teco_rows::fault::RowFault;
 use teco_rows::forms::length;
 
 const CONTROL_E: u8 = 5;
@@ -123,7 +123,7 @@ fn part_at(text: &[u8]) -> Option<(Part, &[u8])>
 }
 
 /// The parts of a search text.
-pub fn parts(text: &[u8], alloc: Global) -> Result<Vec<Part>, Fault>
+pub fn parts(text: &[u8], alloc: Global) -> Result<Vec<Part>, RowFault>
     ensures { IfOk result (λ read. model.parts text.now ≡ Ok read.items) }
 {
     let mut read = Vec::new(alloc);
@@ -131,7 +131,7 @@ pub fn parts(text: &[u8], alloc: Global) -> Result<Vec<Part>, Fault>
     for step in 0..text.len() {
         if !rest.is_empty() {
             let Some((part, behind)) = part_at(rest) else {
-                return Err(Fault::NotTold);
+                return Err(RowFault::NotTold);
             };
             read.push(part)?;
             rest = behind;
@@ -141,7 +141,7 @@ pub fn parts(text: &[u8], alloc: Global) -> Result<Vec<Part>, Fault>
 }
 
 // What a part adds to the length of a match, at least.
-fn length_of(case: &Case, part: Part, alloc: Global) -> Result<Form, Fault>
+fn length_of(case: &Case, part: Part, alloc: Global) -> Result<Form, RowFault>
     ensures { IfOk result (λ form. IsLong (part ∷ []) case.now form) }
 {
     match part {
@@ -154,7 +154,7 @@ fn length_of(case: &Case, part: Part, alloc: Global) -> Result<Form, Fault>
 }
 
 /// How long a match is, at least: 1 for each element, and the text of each register.
-pub fn least(case: &Case, parts: &[Part], alloc: Global) -> Result<Form, Fault>
+pub fn least(case: &Case, parts: &[Part], alloc: Global) -> Result<Form, RowFault>
     ensures { IfOk result (λ form. IsLong parts.now case.now form) }
 {
     let mut sum = Form::zero(alloc);

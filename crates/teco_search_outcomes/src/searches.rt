@@ -24,15 +24,15 @@ use teco_command_outcomes::motions::{
     ANY_BEFORE, ANY_HERE, CODE_BEFORE, LINE_END, LINE_START, POINTER, SIZE, THERE,
 };
 use teco_flow_outcomes::flow::left;
-use teco_flow_outcomes::ranges::Range;
+use teco_flow_outcomes::ranges::NumberRange;
 use teco_linear::Form;
 use teco_model::Element;
 use teco_model::kind::Search;
 use teco_model::pattern::Part;
 use teco_rows::applied::copied_constraints;
 use teco_rows::case::Case;
-use teco_rows::commands::{Taken, take_arguments};
-use teco_rows::fault::Fault;
+use teco_rows::commands::{TakenForms, take_arguments};
+use teco_rows::fault::RowFault;
 use teco_rows::forms::{known, single};
 use teco_rows::levels::{NO, VALUE};
 use teco_rows::measure::Single;
@@ -56,7 +56,7 @@ pub struct Aim {
 
 /// What is asked where a search begins.
 #[derive(Drop)]
-pub struct Asked {
+pub struct AskedSearch {
     pub conditions: Vec<Form>,
     pub guarded: Vec<Guarded>,
 }
@@ -64,7 +64,7 @@ pub struct Asked {
 /// What is known of a match: where it lies, whether it is as long as its parts say and no longer,
 /// whether it ends with a line end, and whether it has none.
 #[derive(Clone, Copy)]
-pub struct Known {
+pub struct KnownMatch {
     pub direction: Direction,
     pub is_exact: bool,
     pub ends_line: bool,
@@ -199,7 +199,7 @@ const OTHER_LINE: [Clause; 2] = [
 const MOST_TERMS: usize = 2;
 
 // Adds the clauses of where a search looks.
-fn add_direction(row: &mut Vec<Clause>, direction: Direction) -> Result<(), Fault>
+fn add_direction(row: &mut Vec<Clause>, direction: Direction) -> Result<(), RowFault>
     ensures { OnOk result (row.new.items ≡ row.old.items ++ direction_clauses direction) }
 {
     match direction {
@@ -211,7 +211,7 @@ fn add_direction(row: &mut Vec<Clause>, direction: Direction) -> Result<(), Faul
 }
 
 // Adds clauses where something is so.
-fn add_if(row: &mut Vec<Clause>, is_so: bool, clauses: &[Clause]) -> Result<(), Fault>
+fn add_if(row: &mut Vec<Clause>, is_so: bool, clauses: &[Clause]) -> Result<(), RowFault>
     ensures { OnOk result (row.new.items ≡ row.old.items ++ (if is_so then clauses.now else [])) }
 {
     if is_so {
@@ -223,7 +223,7 @@ fn add_if(row: &mut Vec<Clause>, is_so: bool, clauses: &[Clause]) -> Result<(), 
 }
 
 // What is wanted of a match besides lying in the buffer.
-fn extras(known: Known, alloc: Global) -> Result<Vec<Clause>, Fault>
+fn extras(known: KnownMatch, alloc: Global) -> Result<Vec<Clause>, RowFault>
     ensures { IfOk result (λ row. row.items ≡ extra_clauses known) }
 {
     let mut row = Vec::new(alloc);
@@ -236,10 +236,10 @@ fn extras(known: Known, alloc: Global) -> Result<Vec<Clause>, Fault>
 }
 
 // What is known of a match of parts.
-fn known_of(parts: &[Part], direction: Direction) -> Known
+fn known_of(parts: &[Part], direction: Direction) -> KnownMatch
     ensures { IsKnown parts.now direction result }
 {
-    Known {
+    KnownMatch {
         direction,
         is_exact: are_single(parts),
         ends_line: end_line(parts),
@@ -266,7 +266,12 @@ fn is_outside(number: &Form, codes: Codes) -> bool
 }
 
 // Whether a constraint plainly keeps a number below a code.
-fn is_kept_below(number: &Form, constraint: &Form, code: u32, alloc: Global) -> Result<bool, Fault>
+fn is_kept_below(
+    number: &Form,
+    constraint: &Form,
+    code: u32,
+    alloc: Global,
+) -> Result<bool, RowFault>
     ensures { IfOk result (λ is_so. is_so ≡ true → (n : ℕ) (v : Valuation)
         → Holds n v constraint.now → (value number.now n v +ℤ pos 1) ≤ℤ pos code) }
 {
@@ -278,7 +283,12 @@ fn is_kept_below(number: &Form, constraint: &Form, code: u32, alloc: Global) -> 
 }
 
 // Whether it plainly keeps it above one.
-fn is_kept_above(number: &Form, constraint: &Form, code: u32, alloc: Global) -> Result<bool, Fault>
+fn is_kept_above(
+    number: &Form,
+    constraint: &Form,
+    code: u32,
+    alloc: Global,
+) -> Result<bool, RowFault>
     ensures { IfOk result (λ is_so. is_so ≡ true → (n : ℕ) (v : Valuation)
         → Holds n v constraint.now → (pos code +ℤ pos 1) ≤ℤ value number.now n v) }
 {
@@ -295,7 +305,7 @@ fn is_kept_outside(
     constraint: &Form,
     codes: Codes,
     alloc: Global,
-) -> Result<bool, Fault>
+) -> Result<bool, RowFault>
     ensures { IfOk result (λ is_so. is_so ≡ true → (n : ℕ) (v : Valuation) (code : ℕ)
         → Holds n v constraint.now → IsIn codes code → value number.now n v ≢ pos code) }
 {
@@ -306,7 +316,7 @@ fn is_kept_outside(
 }
 
 // Whether it plainly is outside them by the constraints of a case.
-fn is_never_in(case: &Case, number: &Form, codes: Codes, alloc: Global) -> Result<bool, Fault>
+fn is_never_in(case: &Case, number: &Form, codes: Codes, alloc: Global) -> Result<bool, RowFault>
     ensures { IfOk result (λ is_so. is_so ≡ true → (n : ℕ) (v : Valuation) (code : ℕ)
         → All (Holds n v) case.now.constraints.items → IsIn codes code
         → value number.now n v ≢ pos code) }
@@ -331,7 +341,7 @@ fn begins_later(
     parts: &[Part],
     direction: Direction,
     alloc: Global,
-) -> Result<bool, Fault>
+) -> Result<bool, RowFault>
     ensures { IfOk result (λ is_so. is_so ≡ true → BeginsLater parts.now direction case.now) }
 {
     if !looks_ahead(direction) {
@@ -343,7 +353,12 @@ fn begins_later(
 }
 
 /// The case where the pointer is behind a match.
-pub fn find(case: &Case, parts: &[Part], direction: Direction, alloc: Global) -> Result<Case, Fault>
+pub fn find(
+    case: &Case,
+    parts: &[Part],
+    direction: Direction,
+    alloc: Global,
+) -> Result<Case, RowFault>
     ensures { IfOk result (λ made. IsFoundBy parts.now direction case.now made) }
 {
     let least = least(case, parts, alloc)?;
@@ -368,11 +383,11 @@ pub fn replace(
     direction: Direction,
     text: &[u8],
     alloc: Global,
-) -> Result<Case, Fault>
+) -> Result<Case, RowFault>
     ensures { IfOk result (λ made. IsReplacedBy parts.now direction text.now case.now made) }
 {
     let start = last_start(text);
-    let known = Known {
+    let known = KnownMatch {
         ends_line: false,
         stays_in_line: start == 0,
         ..known_of(parts, direction)
@@ -389,7 +404,7 @@ pub fn replace(
 }
 
 /// The condition that the buffer of a case that is made of another is not too long.
-pub fn fitted(case: &Case, made: &Case, alloc: Global) -> Result<Guarded, Fault>
+pub fn fitted(case: &Case, made: &Case, alloc: Global) -> Result<Guarded, RowFault>
     ensures { IfOk result (λ guarded. HasRoom case.now made.now guarded) }
 {
     let size = single(made, Single::Size, alloc)?;
@@ -404,7 +419,7 @@ pub fn fitted(case: &Case, made: &Case, alloc: Global) -> Result<Guarded, Fault>
 }
 
 // The case where nothing is found: with two colons the pointer stays.
-fn missed(case: &Case, colons: u8, alloc: Global) -> Result<Case, Fault>
+fn missed(case: &Case, colons: u8, alloc: Global) -> Result<Case, RowFault>
     ensures { IfOk result (λ made. IsMissed colons case.now made) }
 {
     if colons >= 2 {
@@ -415,12 +430,17 @@ fn missed(case: &Case, colons: u8, alloc: Global) -> Result<Case, Fault>
 }
 
 // A search that answers goes on behind itself.
-fn answering(found: &Case, missed: &Case, asked: Asked, alloc: Global) -> Result<Outcomes, Fault>
+fn answering(
+    found: &Case,
+    missed: &Case,
+    asked: AskedSearch,
+    alloc: Global,
+) -> Result<Outcomes, RowFault>
     ensures conditions { IfOk result (λ all. all.conditions.items ≡ asked.conditions.items) }
     ensures guarded { IfOk result (λ all. all.guarded.items ≡ asked.guarded.items) }
     ensures answers { IfOk result (λ all. Answers found.now missed.now all) }
 {
-    let Asked {
+    let AskedSearch {
         conditions,
         guarded,
     } = asked;
@@ -438,25 +458,30 @@ fn answering(found: &Case, missed: &Case, asked: Asked, alloc: Global) -> Result
 }
 
 // The case where the message is typed besides.
-fn warned(missed: &Case, alloc: Global) -> Result<Case, Fault>
+fn warned(missed: &Case, alloc: Global) -> Result<Case, RowFault>
     ensures { IfOk result (λ made. IsWarned missed.now made) }
 {
     changed(missed, &WARNS, &[], alloc)
 }
 
 // Where one that does not answer finds nothing, it leaves its iteration, with a message.
-fn leaving(found: &Case, missed: &Case, asked: Asked, alloc: Global) -> Result<Outcomes, Fault>
+fn leaving(
+    found: &Case,
+    missed: &Case,
+    asked: AskedSearch,
+    alloc: Global,
+) -> Result<Outcomes, RowFault>
     ensures conditions { IfOk result (λ all. all.conditions.items ≡ asked.conditions.items) }
     ensures guarded { IfOk result (λ all. all.guarded.items ≡ asked.guarded.items) }
     ensures leaves { IfOk result (λ all. Leaves found.now missed.now all) }
 {
-    let Asked {
+    let AskedSearch {
         conditions,
         guarded,
     } = asked;
     let behind = told(found, &[], alloc)?;
     let late = warned(missed, alloc)?;
-    let gone = left(&late, Range::Any, &[], alloc)?;
+    let gone = left(&late, NumberRange::Any, &[], alloc)?;
     let mut cases = Vec::new(alloc);
     cases.push(behind)?;
     let mut away = Vec::new(alloc);
@@ -483,7 +508,7 @@ fn directed(is_back: bool, colons: u8) -> Direction
 }
 
 // Where a search looks for so many matches. A number that is not known is to be positive.
-fn sought(number: &Option<Form>, colons: u8, alloc: Global) -> Result<Aim, Fault>
+fn sought(number: &Option<Form>, colons: u8, alloc: Global) -> Result<Aim, RowFault>
     ensures { IfOk result (λ aim. Aims number.now colons aim) }
 {
     let mut conditions = Vec::new(alloc);
@@ -495,7 +520,7 @@ fn sought(number: &Option<Form>, colons: u8, alloc: Global) -> Result<Aim, Fault
         });
     };
     match known(form) {
-        Some(0) => Err(Fault::Argument),
+        Some(0) => Err(RowFault::Argument),
         Some(number) => {
             let direction = directed(number < 0, colons);
             Ok(Aim {
@@ -519,10 +544,10 @@ fn sought(number: &Option<Form>, colons: u8, alloc: Global) -> Result<Aim, Fault
 pub fn ended(
     found: &Case,
     missed: &Case,
-    asked: Asked,
+    asked: AskedSearch,
     answers: bool,
     alloc: Global,
-) -> Result<Outcomes, Fault>
+) -> Result<Outcomes, RowFault>
     ensures conditions { IfOk result (λ all. all.conditions.items ≡ asked.conditions.items) }
     ensures guarded { IfOk result (λ all. all.guarded.items ≡ asked.guarded.items) }
     ensures ends { IfOk result (λ all. Ends answers found.now missed.now all) }
@@ -541,17 +566,17 @@ pub fn search(
     element: &Element,
     answers: bool,
     alloc: Global,
-) -> Result<Outcomes, Fault>
+) -> Result<Outcomes, RowFault>
     ensures { IfOk result (λ all. element.now.kind ≡ kinds.Search kind
         → SearchLaw answers (seen element.now) case.now all) }
 {
     let taken = take_arguments(case, alloc)?;
-    let Taken { first, value } = taken;
+    let TakenForms { first, value } = taken;
     if first.is_some() {
-        return Err(Fault::Argument);
+        return Err(RowFault::Argument);
     }
     if element.text.is_empty() {
-        return Err(Fault::NotTold);
+        return Err(RowFault::NotTold);
     }
     let parts = parts(element.text, alloc)?;
     let aim = sought(&value, element.colons, alloc)?;
@@ -564,7 +589,7 @@ pub fn search(
     match kind {
         Search::Find => {
             let behind = find(case, &parts, direction, alloc)?;
-            let asked = Asked {
+            let asked = AskedSearch {
                 conditions,
                 guarded,
             };
@@ -574,13 +599,13 @@ pub fn search(
         Search::Replace => {
             let behind = replace(case, &parts, direction, element.second, alloc)?;
             guarded.push(fitted(case, &behind, alloc)?)?;
-            let asked = Asked {
+            let asked = AskedSearch {
                 conditions,
                 guarded,
             };
             let all = ended(&behind, &start, asked, answers, alloc)?;
             Ok(all)
         }
-        _ => Err(Fault::NotTold),
+        _ => Err(RowFault::NotTold),
     }
 }

@@ -1,14 +1,8 @@
 -- When the host's count of failures rises in a session.
-use Rattle.std.proofs.Common.{◌≡◌, ℕ, ◌≤◌, Bool, true, false, ◌||◌, Result, Ok, Err, refl, sym, ◌∙◌, arith}
-use Rattle.std.specs.Prelude.{IfOk}
-use Rattle.teco_model.specs.Run.{StopCounts}
-use Rattle.teco_model.specs.Session.{code_of, is_code}
-use Rattle.teco_model.specs.declared.stop.Stop.{Stop}
+use Rattle.teco_session.proofs.Prelude.{◌≡◌, ℕ, ◌≤◌, Bool, true, false, ◌||◌, Result, Ok, Err, refl, sym, ◌∙◌, arith}
+use Rattle.teco_session.proofs.Prelude.{IfOk, StopCounts, code_of, is_code, Stop, Said, SessionFault, Done}
 use Rattle.teco_model.specs.declared.stop.Stop.TheVariants as stop_kind
-use Rattle.teco_session.specs.Answers.{Said}
 use Rattle.teco_session.specs.Sessions.{SessionCounts}
-use Rattle.teco_session.specs.declared.fault.SessionFault.{SessionFault}
-use Rattle.teco_session.specs.declared.sessions.Done.{Done}
 
 -- from f to g, and only where a code came
 pub record RisesCoded (coded : Bool) (f g : ℕ) : Type 0 where

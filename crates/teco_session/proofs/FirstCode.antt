@@ -1,24 +1,14 @@
 -- How a session that the first code ends goes on, ends and breaks off.
-use Rattle.std.proofs.Common.{◌≡◌, ◌≢◌, ℕ, ◌≤◌, ◌⊎◌, inl, inr, List, [], length, Option, Bool, true, false, ◌||◌, Ok}
-use Rattle.std.proofs.Common.{Err, refl, sym, subst, ◌∙◌}
-use Rattle.std.specs.Io.KnownBytes.{Consumes, prepend_known}
-use Rattle.teco_model.specs.Session.{Session, SessionToEnd, IsCommandString}
-use Rattle.teco_model.specs.declared.session.Limits.{Limits}
+use Rattle.teco_session.proofs.Prelude.{◌≡◌, ◌≢◌, ℕ, ◌≤◌, ◌⊎◌, inl, inr, List, [], length, Option, Bool, true, false}
+use Rattle.teco_session.proofs.Prelude.{◌||◌, Ok, Err, refl, sym, subst, ◌∙◌, Consumes, prepend_known, Session}
+use Rattle.teco_session.proofs.Prelude.{SessionToEnd, IsCommandString, Limits, Answers, Runs, Hears, Setting, Serves}
+use Rattle.teco_session.proofs.Prelude.{BreaksOff, Finishes, IsPiece, IsRest, IsUnended, CHUNK, SessionFault, Read}
+use Rattle.teco_session.proofs.Prelude.{Write, Memory, Argument, Done, STRINGS, Piece, Command, Rest}
 use Rattle.teco_session.proofs.Known.{Consumes-ahead}
 use Rattle.teco_session.proofs.SessionSteps.{breaks-behind, breaks-full, cuts-short, Converses-write, Converses-break}
 use Rattle.teco_session.proofs.SessionSteps.{Converses-full, Finishes-exit, Finishes-rest, no_code_at_exit}
 use Rattle.teco_session.proofs.SessionSteps.{string_session, rest_session}
-use Rattle.teco_session.specs.Answers.{Answers, Runs}
-use Rattle.teco_session.specs.FirstCode.{BreaksOffPlain, EndsAtCode, FinishesAtCode, Hears}
-use Rattle.teco_session.specs.Sessions.{Setting, Serves, BreaksOff, Finishes}
-use Rattle.teco_session.specs.Strings.{IsPiece, IsRest, IsUnended}
-use Rattle.teco_session.specs.declared.ahead.TheConstants.{CHUNK}
-use Rattle.teco_session.specs.declared.fault.SessionFault.{SessionFault}
-use Rattle.teco_session.specs.declared.fault.SessionFault.TheVariants.{Read, Write, Memory, Argument}
-use Rattle.teco_session.specs.declared.sessions.Done.{Done}
-use Rattle.teco_session.specs.declared.sessions.TheConstants.{STRINGS}
-use Rattle.teco_session.specs.declared.strings.Piece.{Piece}
-use Rattle.teco_session.specs.declared.strings.Piece.TheVariants.{Command, Rest}
+use Rattle.teco_session.specs.FirstCode.{BreaksOffPlain, EndsAtCode, FinishesAtCode}
 
 -- writing failed
 pub Hears-write : (until : Bool) (limits : Limits) (count : ℕ) (old mid new : Setting) (coded : Bool)

@@ -1,12 +1,10 @@
 -- Known bytes that are consumed and appended in turn.
-use Rattle.std.proofs.Common.{◌≡◌, ℕ, ◌+◌, List, ◌++◌, length, take, drop, Option, Some, None, Result, Ok, Err, sym}
-use Rattle.std.proofs.Common.{subst, ◌∙◌, append_assoc, arith, length-append}
-use Rattle.std.proofs.KnownBytes.{Appends-trans}
+use Rattle.teco_session.proofs.Prelude.{◌≡◌, ℕ, ◌+◌, List, ◌++◌, length, take, drop, Option, Some, None, Result, Ok}
+use Rattle.teco_session.proofs.Prelude.{Err, sym, subst, ◌∙◌, append_assoc, arith, length-append, Appends-trans}
+use Rattle.teco_session.proofs.Prelude.{Appends, Consumes, prepend_known, Writes, SessionFault}
 use Rattle.std.proofs.Math.Seq.{take-add, take-append-add}
 use Rattle.std.proofs.lemmas.List.{take-append-le}
-use Rattle.std.specs.Io.KnownBytes.{Appends, Consumes, prepend_known}
-use Rattle.teco_session.specs.Output.{Writes, WritesPart}
-use Rattle.teco_session.specs.declared.fault.SessionFault.{SessionFault}
+use Rattle.teco_session.specs.Output.{WritesPart}
 
 -- a part that was written, and then more
 pub Appends-part : (a b c : Option (List ℕ)) (bs : List ℕ) (n m : ℕ) → Appends a b (take n bs)

@@ -1,3 +1,4 @@
+mod Prelude
 pub mod Counting
 pub mod FirstCode
 pub mod Known

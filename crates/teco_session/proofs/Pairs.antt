@@ -1,12 +1,12 @@
 -- A string ends where a pair of ESC stands: at the meeting of two pieces, or within one.
-use Rattle.std.proofs.Common.{◌≡◌, ℕ, zero, suc, ◌+◌, ◌-◌, List, [], ◌∷◌, ◌++◌, length, Option, Some, None, Bool}
-use Rattle.std.proofs.Common.{true, false, ◌&&◌, ◌==◌, nat_lt, ◌<◌, take, slice_index, refl, sym, ap, ◌∙◌, arith, ◌⊎◌}
-use Rattle.std.proofs.Common.{inl, inr}
+use Rattle.teco_session.proofs.Prelude.{◌≡◌, ℕ, ◌+◌, ◌-◌, List, [], ◌∷◌, ◌++◌, length, Option, Some, None, Bool, true}
+use Rattle.teco_session.proofs.Prelude.{false, ◌<◌, take, refl, sym, ap, ◌∙◌, arith, ◌⊎◌, inl, inr, string_end}
+use Rattle.std.proofs.Common.{zero, suc}
+use Rattle.std.proofs.Common.{◌&&◌, ◌==◌, nat_lt, slice_index}
 use Rattle.std.proofs.lemmas.Bool.{lt-ltb, eqb-true, false≢true}
 use Rattle.std.proofs.lemmas.List.{length-append, length_push, length-take-le}
 use Rattle.std.specs.Option.{option_map}
 use Rattle.memchr.specs.Find.{FindsNeedle, OccursAt}
-use Rattle.teco_model.specs.Session.{string_end}
 use Rattle.teco_session.specs.Strings.{last_is_esc, first_is_esc, IsEnded}
 
 -- whether the last byte is an ESC, from the front

@@ -1,10 +1,6 @@
 -- What is said of a piece, from what was written of it.
-use Rattle.std.proofs.Common.{◌≡◌, ℕ, List, Option, Bool, Result, Ok, Err, refl}
-use Rattle.std.specs.Prelude.{IfOk}
-use Rattle.teco_session.specs.Answers.{Said}
-use Rattle.teco_session.specs.Output.{Writes}
-use Rattle.teco_session.specs.declared.fault.SessionFault.{SessionFault}
-use Rattle.teco_session.specs.declared.sessions.Done.{Done}
+use Rattle.teco_session.proofs.Prelude.{◌≡◌, ℕ, List, Option, Bool, Result, Ok, Err, refl, IfOk, Said, Writes}
+use Rattle.teco_session.proofs.Prelude.{SessionFault, Done}
 
 pub said-writes : (sink sunk : Option (List ℕ)) (lines : List ℕ) (line : Result Bool SessionFault) (exit : Bool)
     (result : Result Done SessionFault) → Said line exit result → Writes sink sunk lines line

@@ -1,32 +1,27 @@
 -- How a session goes on, ends and breaks off.
-use Rattle.std.proofs.Common.{◌≡◌, ◌≢◌, ℕ, ◌+◌, ◌<◌, ◌≤◌, ◌⊎◌, inl, inr, List, [], ◌∷◌, ◌++◌, length, take, Option}
-use Rattle.std.proofs.Common.{Some, None, Bool, true, false, ◌||◌, nat_le, Ok, Err, IfSome, refl, sym, ap, subst, ◌∙◌}
-use Rattle.std.proofs.Common.{append_assoc, append-nil, arith, length-append}
-use Rattle.std.proofs.KnownBytes.{Appends-nil, Appends-trans, Consumes-nil, Consumes-trans, prepend_known-nil}
+use Rattle.teco_session.proofs.Prelude.{◌≡◌, ◌≢◌, ℕ, ◌+◌, ◌<◌, ◌≤◌, ◌⊎◌, inl, inr, List, [], ◌∷◌, ◌++◌, length, take}
+use Rattle.teco_session.proofs.Prelude.{Option, Some, None, Bool, true, false, ◌||◌, Ok, Err, refl, sym, ap, subst, ◌∙◌}
+use Rattle.teco_session.proofs.Prelude.{append_assoc, append-nil, arith, length-append, Appends-trans, Consumes-nil}
+use Rattle.teco_session.proofs.Prelude.{Consumes-trans, prepend_known-nil, take_all, Consumes, prepend_known, Session}
+use Rattle.teco_session.proofs.Prelude.{SessionToEnd, IsCommandString, string_end, code_line, code_of, is_code, is_exit}
+use Rattle.teco_session.proofs.Prelude.{rest_code, Stops, StopCounts, World, start, Limits, Stop, Runs, Answers}
+use Rattle.teco_session.proofs.Prelude.{Setting, Serves, Finishes, BreaksOff, IsPiece, IsRest, IsUnended, CHUNK}
+use Rattle.teco_session.proofs.Prelude.{SessionFault, Read, Write, Memory, Argument, Done, STRINGS, Piece, Command}
+use Rattle.teco_session.proofs.Prelude.{Rest}
+use Rattle.std.proofs.Common.{nat_le, IfSome}
+use Rattle.std.proofs.KnownBytes.{Appends-nil}
 use Rattle.std.proofs.Math.Bool.{or-false}
 use Rattle.std.proofs.Math.Nat.{eq-or-lt_of_le}
 use Rattle.std.proofs.lemmas.Bool.{le-leb, lt-leb}
-use Rattle.std.proofs.lemmas.List.{take_all, take_at}
-use Rattle.std.specs.Io.KnownBytes.{Consumes, IsAtEnd, prepend_known}
-use Rattle.teco_model.specs.Session.{Executes, none, one_more, Session, SessionToEnd, SessionToExit, IsCommandString}
-use Rattle.teco_model.specs.Session.{string_end, code_line, code_of, is_code, is_exit, lines_of, rest_code}
-use Rattle.teco_model.specs.Run.{Stops, StopCounts}
-use Rattle.teco_model.specs.State.{World, start}
-use Rattle.teco_model.specs.declared.session.Limits.{Limits}
-use Rattle.teco_model.specs.declared.stop.Stop.{Stop}
+use Rattle.std.proofs.lemmas.List.{take_at}
+use Rattle.std.specs.Io.KnownBytes.{IsAtEnd}
+use Rattle.teco_model.specs.Session.{Executes, none, one_more, SessionToExit}
+use Rattle.teco_model.specs.Session.{lines_of}
 use Rattle.teco_model.specs.declared.stop.Stop.TheVariants as stop_kind
 use Rattle.teco_session.proofs.Known.{Consumes-ahead}
 use Rattle.teco_session.proofs.Pairs.{string_end-nil}
-use Rattle.teco_session.specs.Answers.{Runs, RunsNot, MayRun, Answers}
-use Rattle.teco_session.specs.Sessions.{Setting, Serves, Finishes, BreaksOff, CutsShort, Converses}
-use Rattle.teco_session.specs.Strings.{IsPiece, IsRest, IsUnended}
-use Rattle.teco_session.specs.declared.ahead.TheConstants.{CHUNK}
-use Rattle.teco_session.specs.declared.fault.SessionFault.{SessionFault}
-use Rattle.teco_session.specs.declared.fault.SessionFault.TheVariants.{Read, Write, Memory, Argument}
-use Rattle.teco_session.specs.declared.sessions.Done.{Done}
-use Rattle.teco_session.specs.declared.sessions.TheConstants.{STRINGS}
-use Rattle.teco_session.specs.declared.strings.Piece.{Piece}
-use Rattle.teco_session.specs.declared.strings.Piece.TheVariants.{Command, Rest}
+use Rattle.teco_session.specs.Answers.{RunsNot, MayRun}
+use Rattle.teco_session.specs.Sessions.{CutsShort, Converses}
 
 -- before the first string
 pub Serves-start : (limits : Limits) (s : Setting) (ahead : List ℕ) → ahead ≡ []

@@ -1,12 +1,9 @@
 -- What follows of what stays with machine and host together.
-use Rattle.std.proofs.Common.{◌≡◌, [], refl}
+use Rattle.teco_session.proofs.Prelude.{◌≡◌, [], refl, World, Telling, Holdings, Joined}
 use Rattle.teco_model.specs.Session.{without_typed}
-use Rattle.teco_model.specs.State.{World}
 use Rattle.teco_pages.proofs.Told.{told-map}
-use Rattle.teco_pages.specs.HostFiles.{Telling}
 use Rattle.teco_run.proofs.Together.{Beside}
 pub use Rattle.teco_run.proofs.Together.{Joined-on, Joined-stays, Joined-then}
-use Rattle.teco_run.specs.Holdings.{Holdings, Joined}
 
 -- of a relation, where what was typed is taken then
 pub Joined-typed : (R S : World → World → Type 0) (a b c : Holdings) (f g : Telling)

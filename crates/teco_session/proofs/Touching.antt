@@ -1,25 +1,19 @@
 -- What the command strings of a session touch, one behind another.
-use Rattle.std.proofs.Common.{◌≡◌, ℕ, List, [], ◌∷◌, ◌++◌, Bool, Option, Some, None, refl, sym, ap, subst, ◌∙◌}
-use Rattle.std.proofs.Common.{append_assoc, append-nil}
-use Rattle.std.proofs.KnownBytes.{Consumes-nil, Consumes-trans, prepend_known-nil}
-use Rattle.std.specs.Io.KnownBytes.{Consumes, prepend_known}
+use Rattle.teco_session.proofs.Prelude.{◌≡◌, ℕ, List, [], ◌∷◌, ◌++◌, Bool, Option, refl, sym, subst}
+use Rattle.teco_session.proofs.Prelude.{Consumes-nil, Consumes-trans, prepend_known-nil}
+use Rattle.teco_session.proofs.Prelude.{Consumes, prepend_known, Limits, Telling, Holdings, IsPiece, Piece, Command}
+use Rattle.teco_session.proofs.Prelude.{Rest}
 use Rattle.std.specs.List.{AllByRecursion}
-use Rattle.std.specs.Prelude.{IfSome}
-use Rattle.teco_model.specs.declared.session.Limits.{Limits}
 use Rattle.teco_pages.proofs.Touching.{touches-none, touches-on}
 use Rattle.teco_pages.specs.Events.{Event, opened_input, gave, ended, opened_output, wrote, closed, dropped, measured}
-use Rattle.teco_pages.specs.HostFiles.{Telling, Tells, Notes}
+use Rattle.teco_pages.specs.HostFiles.{Tells, Notes}
 use Rattle.teco_pages.specs.Noting.{Touches, openings}
 use Rattle.teco_pages.specs.Possible.{AreOpenedAnew, FitWhere, GivesMeasured, NotesFit}
 use Rattle.teco_run.proofs.Due.{unmeasured-on}
-use Rattle.teco_run.specs.Holdings.{Holdings}
 use Rattle.teco_run.specs.Touched.{IsUnmeasured, TouchesBetween}
 use Rattle.teco_session.proofs.Known.{Consumes-ahead}
-use Rattle.teco_session.specs.Strings.{IsPiece}
-use Rattle.teco_session.specs.Touched.{TouchesByPiece, TouchesByString, TouchesByStrings, TouchesInSession}
+use Rattle.teco_session.specs.Touched.{TouchesByPiece, TouchesByStrings, TouchesInSession}
 use Rattle.teco_session.specs.Touched.{nothing, one_more}
-use Rattle.teco_session.specs.declared.strings.Piece.{Piece}
-use Rattle.teco_session.specs.declared.strings.Piece.TheVariants.{Command, Rest}
 
 -- ---- notes in which nothing is measured
 gives-measured : (events : List Event) → AllByRecursion IsUnmeasured (openings events) → GivesMeasured events

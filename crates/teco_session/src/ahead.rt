@@ -12,13 +12,13 @@ pub const CHUNK: usize = 16_384;
 
 /// Bytes that were read and not yet used.
 #[derive(Drop)]
-pub struct Ahead {
+pub struct ReadAhead {
     chunk: [u8; CHUNK],
     used: usize,
     filled: usize,
 }
 
-impl Model for Ahead {
+impl Model for ReadAhead {
     ghost use Rattle.std.specs.Prelude.{ℕ, ◌≤◌, List, slice_range};
     ghost use Rattle.teco_session.specs.declared.ahead.TheConstants.{CHUNK};
 
@@ -53,12 +53,12 @@ fn read_some<R: Read>(reader: &mut R, chunk: &mut [u8]) -> Result<usize, Session
     Err(SessionFault::Read)
 }
 
-impl Ahead {
+impl ReadAhead {
     /// No bytes.
     pub fn new() -> Self
         ensures { result ≡ [] }
     {
-        Ahead {
+        ReadAhead {
             chunk: [0; CHUNK],
             used: 0,
             filled: 0,

@@ -13,7 +13,7 @@ ghost use Rattle.teco_session.specs.Sessions.{Converses, SessionCounts, setting}
 ghost use Rattle.teco_session.specs.Touched.{TouchesByPiece, TouchesByString, TouchesInSession};
 ghost use Rattle.teco_session.specs.declared.strings.Piece.TheVariants as piece;
 
-use crate::ahead::Ahead;
+use crate::ahead::ReadAhead;
 use crate::fault::SessionFault;
 use crate::listener::{Listener, Silent};
 use crate::output::{write_both, write_bytes};
@@ -51,7 +51,7 @@ pub struct Conduct {
 
 // A piece of the input, with the limits of its session.
 #[derive(Clone, Copy)]
-struct Cut<'a> {
+struct InputPiece<'a> {
     piece: Piece,
     bytes: &'a [u8],
     limits: Limits,
@@ -151,6 +151,10 @@ fn write_lines<T: TextStore, W: Write>(
 }
 
 /// Writes what a run typed and then the line of a code, if its stop is one, and says whether it is.
+///
+/// # Errors
+///
+/// The writer's fault, behind a part of what was to be written.
 pub fn write_stop<T: TextStore, W: Write>(
     machine: &mut Machine<T>,
     stop: Stop,
@@ -180,7 +184,7 @@ fn said(line: Result<bool, SessionFault>, exit: bool) -> Result<Done, SessionFau
 // Runs a command string, and writes what it types and its code line.
 fn answer_command<T: TextStore, W: Write, H: Host, L: Listener<H>>(
     machine: &mut Machine<T>,
-    cut: &Cut<'_>,
+    cut: &InputPiece<'_>,
     writer: &mut W,
     host: &mut H,
     listener: &mut L,
@@ -203,7 +207,7 @@ fn answer_command<T: TextStore, W: Write, H: Host, L: Listener<H>>(
 // Writes the code line of a rest, which is not run.
 fn answer_rest<T: TextStore, W: Write, H: Host, L: Listener<H>>(
     machine: &Machine<T>,
-    cut: &Cut<'_>,
+    cut: &InputPiece<'_>,
     writer: &mut W,
     host: &H,
     listener: &mut L,
@@ -226,7 +230,7 @@ fn answer_rest<T: TextStore, W: Write, H: Host, L: Listener<H>>(
 // Says whether there is such a line, and whether it ends the session.
 fn answer<T: TextStore, W: Write, H: Host, L: Listener<H>>(
     machine: &mut Machine<T>,
-    cut: &Cut<'_>,
+    cut: &InputPiece<'_>,
     writer: &mut W,
     host: &mut H,
     listener: &mut L,
@@ -255,6 +259,20 @@ fn answer<T: TextStore, W: Write, H: Host, L: Listener<H>>(
 /// a fault of reading or of memory, the strings that came before it are executed and written, and
 /// nothing else is. With one of writing, the string whose bytes were being written is the last that
 /// was executed: a part of what it writes is written, from the front and less than all.
+///
+/// # Errors
+///
+/// The fault of the reader or of the writer, or `Memory`.
+///
+/// # Examples
+///
+/// ```
+/// let mut machine = Machine::new(alloc, GapText::new(alloc));
+/// let (mut keys, mut typed) = (b"Iabc\x1bHT\x1b\x1b".as_slice(), Vec::new(alloc));
+/// let (from, to, host) = (&mut keys, &mut typed, &mut MemHost::new(alloc));
+/// let done = session(alloc, &mut machine, from, to, host, 1_000)?;
+/// Ok(!done.coded && typed.as_slice() == b"abc".as_slice())
+/// ```
 pub fn session<T: TextStore, R: Read, W: Write, H: Host>(
     alloc: Global,
     machine: &mut Machine<T>,
@@ -277,6 +295,10 @@ pub fn session<T: TextStore, R: Read, W: Write, H: Host>(
 
 /// A session whose command strings have at most `max` bytes each, their ends included: as many
 /// without an end are `FUL`, and end it.
+///
+/// # Errors
+///
+/// As `session`.
 pub fn session_max<T: TextStore, R: Read, W: Write, H: Host>(
     alloc: Global,
     machine: &mut Machine<T>,
@@ -310,6 +332,10 @@ pub fn session_max<T: TextStore, R: Read, W: Write, H: Host>(
 /// A session that a listener hears: it is told how each command string stopped, once that was run.
 /// Where the conduct says so the first code ends the session: no later string is run, and the end
 /// is not that of a string that ends the session.
+///
+/// # Errors
+///
+/// As `session`.
 pub fn session_heard<T: TextStore, R: Read, W: Write, H: Host, L: Listener<H>>(
     alloc: Global,
     machine: &mut Machine<T>,
@@ -332,11 +358,11 @@ pub fn session_heard<T: TextStore, R: Read, W: Write, H: Host, L: Listener<H>>(
     notes_fit();
     let limits = conduct.limits;
     let mut string = Vec::new(alloc);
-    let mut ahead = Ahead::new();
+    let mut ahead = ReadAhead::new();
     let mut coded = false;
     for _ in 0..STRINGS {
         let piece = next_piece(&mut string, &mut ahead, reader, limits)?;
-        let cut = Cut {
+        let cut = InputPiece {
             piece,
             bytes: string.as_slice(),
             limits,

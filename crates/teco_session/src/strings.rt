@@ -6,7 +6,7 @@ ghost use Rattle.teco_model.specs.Session.{string_end};
 ghost use Rattle.teco_session.specs.Strings.{first_is_esc, last_is_esc, IsEnded, IsPiece, IsUnended};
 ghost use Rattle.teco_session.specs.declared.fault.SessionFault.TheVariants as fault;
 
-use crate::ahead::{Ahead, CHUNK};
+use crate::ahead::{CHUNK, ReadAhead};
 use crate::fault::SessionFault;
 use memchr::memmem;
 use std::io::Read;
@@ -54,7 +54,7 @@ fn end_behind(string: &[u8], bytes: &[u8]) -> Option<usize>
 
 // Moves bytes from those ahead to a string that goes on with them, up to its end or to as many as
 // it may have. Says whether it ended.
-fn extend(string: &mut Vec<u8>, ahead: &mut Ahead, limits: Limits) -> Result<bool, SessionFault>
+fn extend(string: &mut Vec<u8>, ahead: &mut ReadAhead, limits: Limits) -> Result<bool, SessionFault>
     requires { IsUnended limits string.old.items }
     ensures moved { string.new.items ++ ahead.new ≡ string.old.items ++ ahead.old }
     ensures some { OnOk result (ahead.old ≢ [] → vec_len string.old < vec_len string.new) }
@@ -79,7 +79,7 @@ fn extend(string: &mut Vec<u8>, ahead: &mut Ahead, limits: Limits) -> Result<boo
 /// of the read in which it ends; what is read beyond it stays ahead.
 pub fn next_piece<R: Read>(
     string: &mut Vec<u8>,
-    ahead: &mut Ahead,
+    ahead: &mut ReadAhead,
     reader: &mut R,
     limits: Limits,
 ) -> Result<Piece, SessionFault>

@@ -1,4 +1,4 @@
-// The check of values against a program's rows.
+//! The check of values against a program's rows.
 ghost use Rattle.std.specs.Prelude.{◌≡◌, length, IsTrue, IfSome, All};
 ghost use Rattle.teco_simplex.specs.Satisfaction.{Satisfies, Holds, HaveSigns, Stands, total_of};
 

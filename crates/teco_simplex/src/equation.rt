@@ -1,4 +1,4 @@
-// Equations in whole numbers: a sum of terms equals a constant.
+//! Equations in whole numbers: a sum of terms equals a constant.
 use crate::exact::{common_divisor, difference, product, quotient, sum};
 use crate::fault::SimplexFault;
 use crate::program::Summand;

@@ -1,4 +1,4 @@
-// Whole numbers of 128 bits, with a fault where a result leaves them.
+//! Whole numbers of 128 bits, with a fault where a result leaves them.
 ghost use Rattle.std.specs.Prelude.{◌≡◌, ◌+ℤ◌, ◌-ℤ◌, ◌*ℤ◌, IfOk};
 
 use crate::fault::SimplexFault;

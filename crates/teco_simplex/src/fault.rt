@@ -1,4 +1,4 @@
-// Why a program has no answer.
+//! Why a program has no answer.
 use std::alloc::{AllocError, AllocFailed};
 use thiserror::Error;
 

@@ -1,4 +1,4 @@
-// Programs and their answers.
+//! Programs and their answers.
 ghost use Rattle.std.specs.Prelude.{◌≡◌, [], ◌∷◌, ◌++◌, length, IfOk, OnOk, OnErr};
 
 use crate::fault::SimplexFault;

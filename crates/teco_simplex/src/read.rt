@@ -1,4 +1,4 @@
-// The values of a tableau's variables.
+//! The values of a tableau's variables.
 use crate::equation::Equation;
 use crate::exact::{common_divisor, difference, product, quotient};
 use crate::fault::SimplexFault;

@@ -1,4 +1,4 @@
-// The simplex method: pivots that lower an objective while all constants stay at least 0.
+//! The simplex method: pivots that lower an objective while all constants stay at least 0.
 use crate::equation::Equation;
 use crate::exact::product;
 use crate::fault::SimplexFault;

@@ -1,4 +1,4 @@
-// From a program to its answer.
+//! From a program to its answer.
 ghost use Rattle.std.specs.Prelude.{IfOk};
 ghost use Rattle.teco_simplex.specs.Satisfaction.{IsSatisfying};
 

@@ -1,4 +1,4 @@
-// The tableau: the equations that are left of a program, each with its basic variable.
+//! The tableau: the equations that are left of a program, each with its basic variable.
 use crate::equation::{Equation, Pivot};
 use crate::exact::sum;
 use crate::fault::SimplexFault;

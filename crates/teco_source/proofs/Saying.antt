@@ -4,7 +4,7 @@ use Rattle.std.proofs.lemmas.List.{append-nil}
 use Rattle.std.proofs.lemmas.Grind.{common_steps}
 use Rattle.teco_base.specs.declared.bytes.TheConstants.{ESC}
 use Rattle.teco_source.specs.Source.{said, said_behind, spelled, has_source, has_source_behind, begins_with_dollar}
-use Rattle.teco_source.specs.declared.form.Form.TheVariants.{the_data, Marked, Readable}
+use Rattle.teco_source.specs.declared.form.EscapeForm.TheVariants.{the_data, Marked, Readable}
 use Rattle.teco_source.specs.declared.form.TheConstants.{CARET, DOLLAR}
 
 -- behind a caret no text is written that begins with a dollar

@@ -2,7 +2,7 @@
 use Rattle.std.specs.Prelude.{◌≡◌, ℕ, zero, suc, Bool, true, false, ◌&&◌, ◌||◌, ◌==◌, not, if◌then◌else◌, List, []}
 use Rattle.std.specs.Prelude.{◌∷◌, ◌++◌, Option, Some, None}
 use Rattle.teco_base.specs.declared.bytes.TheConstants.{ESC}
-use Rattle.teco_source.specs.declared.form.Form.TheVariants.{the_data, Marked, Readable}
+use Rattle.teco_source.specs.declared.form.EscapeForm.TheVariants.{the_data, Marked, Readable}
 use Rattle.teco_source.specs.declared.form.TheConstants.{CARET, DOLLAR}
 
 -- a dollar comes next

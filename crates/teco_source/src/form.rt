@@ -13,14 +13,14 @@ pub const DOLLAR: u8 = b'$';
 
 /// How a source says ESC.
 #[derive(Clone, Copy, Debug, PartialEq, Eq)]
-pub enum Form {
+pub enum EscapeForm {
     /// By this byte, which then says nothing else.
     Marked(u8),
     /// By a dollar; `^$` says a dollar.
     Readable,
 }
 
-impl Form {
+impl EscapeForm {
     /// The text that a source says. One scan.
     pub fn read(self, alloc: Global, source: &[u8]) -> Result<Vec<u8>, AllocError>
         ensures said { IfOk result (λ text. text.items ≡ sources.said self source.now) }
@@ -43,9 +43,9 @@ impl Form {
         ensures { result ≡ sources.said_by self before byte behind.now }
     {
         match self {
-            Form::Marked(mark) if byte == mark => Some(ESC),
-            Form::Readable if byte == CARET && behind.first() == Some(&DOLLAR) => None,
-            Form::Readable if byte == DOLLAR && before != CARET => Some(ESC),
+            EscapeForm::Marked(mark) if byte == mark => Some(ESC),
+            EscapeForm::Readable if byte == CARET && behind.first() == Some(&DOLLAR) => None,
+            EscapeForm::Readable if byte == DOLLAR && before != CARET => Some(ESC),
             _ => Some(byte),
         }
     }
@@ -76,8 +76,8 @@ impl Form {
         ensures { result ≡ sources.can_say self before byte }
     {
         match self {
-            Form::Marked(mark) => byte != mark || mark == ESC,
-            Form::Readable => byte != ESC || before != CARET,
+            EscapeForm::Marked(mark) => byte != mark || mark == ESC,
+            EscapeForm::Readable => byte != ESC || before != CARET,
         }
     }
 
@@ -87,9 +87,9 @@ impl Form {
             ≡ written.old.items ++ sources.spelling self byte) }
     {
         match self {
-            Form::Marked(mark) if byte == ESC => written.push(mark)?,
-            Form::Readable if byte == ESC => written.push(DOLLAR)?,
-            Form::Readable if byte == DOLLAR => written.extend_from_slice(&[CARET, DOLLAR])?,
+            EscapeForm::Marked(mark) if byte == ESC => written.push(mark)?,
+            EscapeForm::Readable if byte == ESC => written.push(DOLLAR)?,
+            EscapeForm::Readable if byte == DOLLAR => written.extend_from_slice(&[CARET, DOLLAR])?,
             _ => written.push(byte)?,
         }
         Ok(())

@@ -10,8 +10,8 @@ mod shown;
 mod source;
 
 pub use excerpt::Excerpt;
-pub use form::Form;
-pub use position::Position;
+pub use form::EscapeForm;
+pub use position::LineAndByte;
 pub use script::text_begin;
 pub use shown::{Shown, ShownAs};
 pub use source::{Addition, Source};

@@ -4,8 +4,8 @@ ghost use Rattle.teco_source.specs.Scripts.{text_begin as text_begin_of};
 ghost use Rattle.teco_source.specs.Source.{said};
 
 use crate::excerpt::Excerpt;
-use crate::form::Form;
-use crate::position::Position;
+use crate::form::EscapeForm;
+use crate::position::LineAndByte;
 use crate::script::text_begin;
 use std::alloc::{AllocError, Global};
 use std::marker::Model;
@@ -16,20 +16,20 @@ use teco_base::bytes::ESC;
 pub struct Source {
     name: String,
     bytes: Vec<u8>,
-    form: Form,
+    form: EscapeForm,
     // where in the bytes the text begins: behind the first line of a script
     begin: usize,
     // what else says a part of the text, in the order of their parts
-    others: Vec<Part>,
+    others: Vec<SourcePart>,
     text: Vec<u8>,
 }
 
 // A file or a word that says a part of a text.
 #[derive(Drop)]
-struct Part {
+struct SourcePart {
     name: String,
     bytes: Vec<u8>,
-    form: Form,
+    form: EscapeForm,
     // the place of the text where what it says begins
     start: usize,
 }
@@ -40,7 +40,7 @@ pub struct Addition<'a> {
     /// What messages call it by.
     pub name: &'a str,
     pub bytes: Vec<u8>,
-    pub form: Form,
+    pub form: EscapeForm,
     /// What the text has before that part. It stands nowhere in the bytes.
     pub front: &'a [u8],
     /// What the text has behind that part. It stands nowhere in the bytes.
@@ -58,7 +58,12 @@ impl Model for Source {
 impl Source {
     /// The source of a name, which says its text in this form. Takes memory for the text and the
     /// name.
-    pub fn new(alloc: Global, name: &str, bytes: Vec<u8>, form: Form) -> Result<Source, AllocError>
+    pub fn new(
+        alloc: Global,
+        name: &str,
+        bytes: Vec<u8>,
+        form: EscapeForm,
+    ) -> Result<Source, AllocError>
         ensures { IfOk result (λ source. source ≡ said form bytes.items) }
     {
         let text = form.read(alloc, &bytes)?;
@@ -78,7 +83,7 @@ impl Source {
         alloc: Global,
         name: &str,
         bytes: Vec<u8>,
-        form: Form,
+        form: EscapeForm,
     ) -> Result<Source, AllocError>
         ensures { IfOk result (λ source. source
             ≡ said form (drop (text_begin_of bytes.items) bytes.items)) }
@@ -107,7 +112,7 @@ impl Source {
         let start = self.text.len();
         self.text.extend_from_slice(&said)?;
         self.text.extend_from_slice(added.end)?;
-        self.others.push(Part {
+        self.others.push(SourcePart {
             name: String::from_str(alloc, added.name)?,
             bytes: added.bytes,
             form: added.form,
@@ -125,7 +130,7 @@ impl Source {
     }
 
     /// How it says ESC.
-    pub fn form(&self) -> Form {
+    pub fn form(&self) -> EscapeForm {
         self.form
     }
 
@@ -143,7 +148,7 @@ impl Source {
     }
 
     // The last part that begins at a place of its text or before it.
-    fn part_at(&self, place: usize) -> Option<&Part> {
+    fn part_at(&self, place: usize) -> Option<&SourcePart> {
         self.others.iter().rfind(|part| part.start <= place)
     }
 
@@ -168,9 +173,9 @@ impl Source {
     }
 
     /// The position of a place of its text, in what says it.
-    pub fn position(&self, place: usize) -> Position {
+    pub fn position(&self, place: usize) -> LineAndByte {
         let (bytes, at) = self.spot(place);
-        Position::of(bytes, at)
+        LineAndByte::of(bytes, at)
     }
 
     /// The line in which a place of its text stands.

@@ -11,12 +11,12 @@ use std::rc::Rc;
 #[derive(Drop)]
 pub struct Chain<T> {
     height: usize,
-    top: Option<Rc<Link<T>>>,
+    top: Option<Rc<StackLink<T>>>,
 }
 
 #[cycle(stack)]
 #[derive(Drop)]
-struct Link<T> {
+struct StackLink<T> {
     item: T,
     below: Chain<T>,
 }
@@ -227,7 +227,7 @@ impl<T: Copy> Stack<T> {
             unwind(chain);
             return Err(AllocError);
         };
-        match Rc::new(alloc, Link { item, below: chain }) {
+        match Rc::new(alloc, StackLink { item, below: chain }) {
             Ok(link) => {
                 let top = Some(link);
                 let chain = Chain { height, top };

@@ -11,7 +11,7 @@ use std::alloc::Global;
 use std::io;
 use std::io::{ErrorKind, Read, Write};
 use teco_base::LIMIT;
-use teco_pages::{Count, Failed, History, Host, Purpose, Reason, Trouble};
+use teco_pages::{Count, Failed, History, Host, Purpose, Trouble, TroubleReason};
 
 /// What names standard input for a machine. No file can have a name with a NUL.
 pub const INPUT: &[u8] = b"\0input";
@@ -111,7 +111,12 @@ impl<H: Host + Drop, I: Read + Drop, O: Write + Drop> Streams<H, I, O> {
     }
 
     // Counts a failure of a stream, and keeps why it failed.
-    fn failed<T>(&mut self, purpose: Purpose, name: &[u8], reason: Reason) -> Result<T, Failed>
+    fn failed<T>(
+        &mut self,
+        purpose: Purpose,
+        name: &[u8],
+        reason: TroubleReason,
+    ) -> Result<T, Failed>
         ensures failed { IsErr result }
         ensures counted { self.new.failures.value ≡ suc self.old.failures.value }
         ensures history { self.new.history ≡ self.old.history }
@@ -125,7 +130,7 @@ impl<H: Host + Drop, I: Read + Drop, O: Write + Drop> Streams<H, I, O> {
     }
 
     // Standard input could not be read.
-    fn cannot_read<T>(&mut self, reason: Reason) -> Result<T, Failed>
+    fn cannot_read<T>(&mut self, reason: TroubleReason) -> Result<T, Failed>
         ensures failed { IsErr result }
         ensures counted { self.new.failures.value ≡ suc self.old.failures.value }
         ensures history { self.new.history ≡ self.old.history }
@@ -138,7 +143,7 @@ impl<H: Host + Drop, I: Read + Drop, O: Write + Drop> Streams<H, I, O> {
     }
 
     // Standard output could not be written to.
-    fn cannot_write<T>(&mut self, reason: Reason) -> Result<T, Failed>
+    fn cannot_write<T>(&mut self, reason: TroubleReason) -> Result<T, Failed>
         ensures failed { IsErr result }
         ensures counted { self.new.failures.value ≡ suc self.old.failures.value }
         ensures history { self.new.history ≡ self.old.history }
@@ -165,8 +170,8 @@ impl<H: Host + Drop, I: Read + Drop, O: Write + Drop> Streams<H, I, O> {
         if self.given == LIMIT {
             return match read_some(&mut self.reader, &mut [0; 1]) {
                 Ok(0) => Ok(0),
-                Ok(_) => self.cannot_read(Reason::Long),
-                Err(error) => self.cannot_read(Reason::System(error)),
+                Ok(_) => self.cannot_read(TroubleReason::Long),
+                Err(error) => self.cannot_read(TroubleReason::System(error)),
             };
         }
         let room = buf.len().min(LIMIT - self.given);
@@ -175,7 +180,7 @@ impl<H: Host + Drop, I: Read + Drop, O: Write + Drop> Streams<H, I, O> {
                 self.given += n;
                 Ok(n)
             }
-            Err(error) => self.cannot_read(Reason::System(error)),
+            Err(error) => self.cannot_read(TroubleReason::System(error)),
         }
     }
 
@@ -192,7 +197,7 @@ impl<H: Host + Drop, I: Read + Drop, O: Write + Drop> Streams<H, I, O> {
     {
         match self.writer.write_all(bytes) {
             Ok(()) => Ok(bytes.len()),
-            Err(error) => self.cannot_write(Reason::System(error)),
+            Err(error) => self.cannot_write(TroubleReason::System(error)),
         }
     }
 
@@ -207,7 +212,7 @@ impl<H: Host + Drop, I: Read + Drop, O: Write + Drop> Streams<H, I, O> {
     {
         match self.writer.flush() {
             Ok(()) => Ok(()),
-            Err(error) => self.cannot_write(Reason::System(error)),
+            Err(error) => self.cannot_write(TroubleReason::System(error)),
         }
     }
 }

@@ -1,5 +1,5 @@
 //! Sessions over files in memory, by hosts that move few bytes in a call and fail where they are told to.
-use super::trial::{Ran, STORES, Store, expect, run_over};
+use super::trial::{STORES, SessionRan, TrialStore, expect, run_over};
 use std::alloc::{AllocError, Global};
 use std::process::Abort;
 use teco_base::LIMIT;
@@ -25,10 +25,16 @@ const COPIED: &[(&[u8], &str)] = &[
 type Moves = (bool, HostCall, u64);
 
 // What is left of a session over a host with some files.
-type Left = Result<(TestHost, Ran), AllocError>;
+type SessionLeft = Result<(TestHost, SessionRan), AllocError>;
 
 // The session of a row over a host that has the file `in` and may have a file `out`.
-fn run_files(alloc: Global, store: Store, moves: Moves, row: FileRow, out: Option<&[u8]>) -> Left {
+fn run_files(
+    alloc: Global,
+    store: TrialStore,
+    moves: Moves,
+    row: FileRow,
+    out: Option<&[u8]>,
+) -> SessionLeft {
     let mut mem = MemHost::new(alloc);
     mem.put(b"in", row.0)?;
     if let Some(out) = out {
@@ -43,7 +49,7 @@ fn run_files(alloc: Global, store: Store, moves: Moves, row: FileRow, out: Optio
 }
 
 // The session of a row, run once more where it does not write what it is to, and a growth may have been refused.
-fn run_row(alloc: Global, store: Store, moves: Moves, row: FileRow) -> Left {
+fn run_row(alloc: Global, store: TrialStore, moves: Moves, row: FileRow) -> SessionLeft {
     match run_files(alloc, store, moves, row, None) {
         Ok((host, ran)) if ran.written.as_slice() == row.2 || !ran.may_be_refused() => {
             Ok((host, ran))
@@ -53,7 +59,7 @@ fn run_row(alloc: Global, store: Store, moves: Moves, row: FileRow) -> Left {
 }
 
 // Is what is written, what comes of the session, and what the files have as the row says?
-fn is_as_told(host: &TestHost, ran: &Ran, row: FileRow) -> bool {
+fn is_as_told(host: &TestHost, ran: &SessionRan, row: FileRow) -> bool {
     let (bytes, _, written, outcome, out) = row;
     let mem = host.mem();
     ran.is(outcome, written) && mem.file(b"out") == out && mem.file(b"in") == Some(bytes)
@@ -125,7 +131,7 @@ fn is_cut_short(written: &[u8], typed: &[u8], line: &[u8]) -> bool {
 }
 
 // Is a part written and a code, and `out` as it was? Or there are fewer such calls, and all is as the row says.
-fn fails_well(host: &TestHost, ran: &Ran, row: FileRow, call: HostCall) -> bool {
+fn fails_well(host: &TestHost, ran: &SessionRan, row: FileRow, call: HostCall) -> bool {
     let (bytes, _, typed, _, out) = row;
     let mem = host.mem();
     let is_kept = mem.file(b"in") == Some(bytes);
@@ -139,7 +145,7 @@ fn fails_well(host: &TestHost, ran: &Ran, row: FileRow, call: HostCall) -> bool 
 
 // Does the session of a row fail well where a call of the host fails and a file `out` is there already?
 fn fails_as_told(alloc: Global, row: FileRow, moves: Moves) -> bool {
-    match run_files(alloc, Store::Gap, moves, row, Some(b"old")) {
+    match run_files(alloc, TrialStore::Gap, moves, row, Some(b"old")) {
         Ok((host, ran)) => fails_well(&host, &ran, row, moves.1),
         Err(_) => false,
     }

@@ -36,7 +36,7 @@ impl<H: Host> Listener<H> for Notes {
 }
 
 // What comes of a session of an input, which a code ends, or none.
-fn hear(alloc: Global, input: &[u8], until: bool, to: &mut Vec<u8>, notes: &mut Notes) -> Heard {
+fn hear(alloc: Global, input: &[u8], until: bool, to: &mut Vec<u8>, notes: &mut Notes) -> HeardRow {
     let (mut machine, mut host) = (
         Machine::new(alloc, VecText::new(alloc)),
         MemHost::new(alloc),
@@ -48,7 +48,7 @@ fn hear(alloc: Global, input: &[u8], until: bool, to: &mut Vec<u8>, notes: &mut 
     session_heard(alloc, on, from, to, files, conduct, notes)
 }
 
-type Heard = Result<Done, SessionFault>;
+type HeardRow = Result<Done, SessionFault>;
 
 // Does the first code end the session, has what is written a code, does a string end it; how many
 // strings are heard, the length, the steps and the place of the last, and is a rest heard that has a

@@ -4,6 +4,8 @@
 #[cfg(test)]
 mod files;
 #[cfg(test)]
+mod first_steps;
+#[cfg(test)]
 mod heard;
 #[cfg(test)]
 mod long;

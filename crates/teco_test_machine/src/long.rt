@@ -14,13 +14,13 @@ fn input_of(alloc: Global, count: usize, parts: &[&str; 5]) -> Result<String, Al
 }
 
 /// What comes of a session, its parts, and what is written.
-type Row = (&'static str, [&'static str; 5], &'static str);
+type LongRow = (&'static str, [&'static str; 5], &'static str);
 
 // Asserts a row with so many second and fourth parts, and strings of so many bytes at most, in the second try at last.
 fn expect_row(
     rt: &(impl Abort + AllocGlobal),
     (count, max): (usize, usize),
-    (outcome, parts, written): &Row,
+    (outcome, parts, written): &LongRow,
 ) -> Result<(), Fail> {
     let input = match input_of(rt.alloc(), count, parts) {
         Ok(input) => input,
@@ -30,7 +30,7 @@ fn expect_row(
     Ok(())
 }
 
-const NESTED: &[Row] = &[
+const NESTED: &[LongRow] = &[
     // brackets are entered
     ("done", ["", "1<", "2=", ">", "\x1b\x1b"], "2\r\n"),
     ("done", ["", "1\"N", "2=", "'", "\x1b\x1b"], "2\r\n"),
@@ -75,7 +75,7 @@ fn reads_end_at_a_pair(rt: HostRuntime) -> Result<(), Fail> {
 }
 
 /// So many digits, and a row.
-const CAPPED: &[(usize, Row)] = &[
+const CAPPED: &[(usize, LongRow)] = &[
     (64, ("coded", ["", "1", "", "", ""], "?FUL\r\n")),
     (63, ("coded", ["", "1", "", "", ""], "?UTC\r\n")),
     (

@@ -15,9 +15,9 @@ use teco_run::{Machine, Stop};
 use teco_text::VecText;
 
 // The steps of a run that came to its end, or the code that is typed.
-type Answer = Result<u64, Code>;
+type RunAnswer = Result<u64, Code>;
 
-fn answer(stop: Stop) -> Answer {
+fn answer(stop: Stop) -> RunAnswer {
     match stop {
         Stop::Ended { steps } | Stop::Exit { steps } => Ok(steps),
         Stop::Error(code) => Err(code),
@@ -35,7 +35,12 @@ fn new_machine(alloc: Global) -> Machine<VecText> {
 }
 
 // What a command string of at most so many steps comes to on a machine, beside no file.
-fn answer_on(machine: &mut Machine<VecText>, alloc: Global, command: &[u8], limit: u64) -> Answer {
+fn answer_on(
+    machine: &mut Machine<VecText>,
+    alloc: Global,
+    command: &[u8],
+    limit: u64,
+) -> RunAnswer {
     if command.len() > LIMIT {
         return Err(Code::Lim);
     }
@@ -49,7 +54,7 @@ fn has_typed(machine: &mut Machine<VecText>, typed: &[u8]) -> bool {
 }
 
 // How many bytes a machine may type and its texts may take, a command string, what it types, and what it comes to.
-type Capped = (usize, &'static [u8], &'static [u8], Answer);
+type Capped = (usize, &'static [u8], &'static [u8], RunAnswer);
 
 const CAPPED: &[Capped] = &[
     (10, b"<1=>", b"1\r\n1\r\n1\r\n", Err(Code::Mem)),
@@ -92,7 +97,7 @@ fn caps_are_refused_growths(rt: HostRuntime) {
 }
 
 // The texts of a library, each in its register's place.
-type Texts = [Option<&'static [u8]>; REGISTERS];
+type LibraryTexts = [Option<&'static [u8]>; REGISTERS];
 
 fn is_short(text: &Option<&[u8]>) -> bool
     ensures { IsTrue result → IsTextWithinLimit text.now }
@@ -103,7 +108,7 @@ fn is_short(text: &Option<&[u8]>) -> bool
     }
 }
 
-fn load(machine: &mut Machine<VecText>, texts: &Texts) -> Result<(), AllocError> {
+fn load(machine: &mut Machine<VecText>, texts: &LibraryTexts) -> Result<(), AllocError> {
     if texts.iter().all(is_short) {
         machine.load(*texts)?;
     }
@@ -111,19 +116,24 @@ fn load(machine: &mut Machine<VecText>, texts: &Texts) -> Result<(), AllocError>
 }
 
 // What registers have: how many characters with those of the push-down list, and the texts of A, of B and of 9.
-type Held = (u128, [&'static [u8]; 3]);
+type HeldTexts = (u128, [&'static [u8]; 3]);
 
 fn has_text(machine: &Machine<VecText>, name: u8, text: &[u8]) -> bool {
     machine.regs().text(Reg::of(name).unwrap_or_default()) == text
 }
 
-fn holds(machine: &Machine<VecText>, (held, [a, b, nine]): &Held) -> bool {
+fn holds(machine: &Machine<VecText>, (held, [a, b, nine]): &HeldTexts) -> bool {
     let are_letters = has_text(machine, b'A', a) && has_text(machine, b'B', b);
     are_letters && has_text(machine, b'9', nine) && machine.held() == *held
 }
 
 // Are texts loaded, so that registers hold this then? Once more where memory was refused, and nothing loaded.
-fn is_loaded(machine: &mut Machine<VecText>, texts: &Texts, before: &Held, after: &Held) -> bool {
+fn is_loaded(
+    machine: &mut Machine<VecText>,
+    texts: &LibraryTexts,
+    before: &HeldTexts,
+    after: &HeldTexts,
+) -> bool {
     let mut loaded = load(machine, texts);
     if loaded.is_err() && holds(machine, before) {
         loaded = load(machine, texts);
@@ -137,22 +147,22 @@ fn is_done(machine: &mut Machine<VecText>, alloc: Global, command: &[u8]) -> boo
         || answer_on(machine, alloc, command, 100).is_ok()
 }
 
-const TWO: Held = (8, [b"%9=", b"", b"ninth"]);
+const TWO: HeldTexts = (8, [b"%9=", b"", b"ninth"]);
 
-const ALL: Held = (144, [b"some"; 3]);
+const ALL: HeldTexts = (144, [b"some"; 3]);
 
-const BOTH: Held = (148, [b"%9=", b"some", b"ninth"]);
+const BOTH: HeldTexts = (148, [b"%9=", b"some", b"ninth"]);
 
 // The texts of two registers, the first and the last.
-fn two_texts() -> Texts {
-    let mut texts: Texts = [None; REGISTERS];
+fn two_texts() -> LibraryTexts {
+    let mut texts: LibraryTexts = [None; REGISTERS];
     texts[0] = Some(b"%9=");
     texts[REGISTERS - 1] = Some(b"ninth");
     texts
 }
 
 // Are texts loaded into two registers, into all, and into the two again? Numbers, pushed and other texts stay.
-fn are_loaded(machine: &mut Machine<VecText>, alloc: Global, two: &Texts) -> bool {
+fn are_loaded(machine: &mut Machine<VecText>, alloc: Global, two: &LibraryTexts) -> bool {
     is_loaded(machine, two, &(0, [b""; 3]), &TWO)
         && is_loaded(machine, &[Some(b"some"); REGISTERS], &TWO, &ALL)
         && is_done(machine, alloc, b"5U9[B")

@@ -1,5 +1,7 @@
 //! Sessions whose reads, writes or growths fail.
-use super::trial::{Left, Ran, STEPS, STORES, Store, expect, has, run_over, word};
+use super::trial::{
+    BufferLeft, STEPS, STORES, SessionRan, TrialStore, expect, has, run_over, word,
+};
 use std::alloc::Global;
 use std::io;
 use std::io::{ErrorKind, Read, Write};
@@ -68,9 +70,9 @@ impl Write for SlowWriter {
 const AB: &str = "Ia\x1b1=\x1b\x1bIb\x1b2=\x1b\x1b";
 
 /// How many reads and writes do well before one that fails, what comes of it, the input, and what is written and left.
-type Row = (u64, u64, &'static str, &'static str, Left);
+type TransferRow = (u64, u64, &'static str, &'static str, BufferLeft);
 
-const FAILED: &[Row] = &[
+const FAILED: &[TransferRow] = &[
     (0, 99, "read", AB, (b"", b"", 0)),
     (6, 99, "read", AB, (b"", b"", 0)),
     (7, 99, "read", AB, (b"1\r\n", b"a", 1)),
@@ -93,7 +95,7 @@ const FAILED: &[Row] = &[
 type Kinds = (ErrorKind, Option<ErrorKind>);
 
 // Does a session in which these fail come to an outcome, and write and leave what its row says?
-fn is_slow(alloc: Global, row: &Row, kinds: Kinds) -> bool {
+fn is_slow(alloc: Global, row: &TransferRow, kinds: Kinds) -> bool {
     let (reads, writes, outcome, input, (written, text, pointer)) = *row;
     let mut machine = Machine::new(alloc, VecText::new(alloc));
     let mut reader = SlowReader {
@@ -114,7 +116,7 @@ fn is_slow(alloc: Global, row: &Row, kinds: Kinds) -> bool {
 }
 
 // A session comes out as its row says, the second time at the latest: a growth may be refused the first time.
-fn expect_slow(rt: &(impl Abort + AllocGlobal), row: &Row, kinds: Kinds) {
+fn expect_slow(rt: &(impl Abort + AllocGlobal), row: &TransferRow, kinds: Kinds) {
     let is_good = is_slow(rt.alloc(), row, kinds) || is_slow(rt.alloc(), row, kinds);
     let (reads, writes, _, input, _) = row;
     assert!(rt; is_good, "{input}: {reads} reads, {writes} writes");
@@ -133,13 +135,13 @@ fn transfers_fail(rt: HostRuntime) {
 fn interruptions_are_passed(rt: HostRuntime) {
     let kind = ErrorKind::Interrupted;
     for n in 0..16 {
-        let row: Row = (n, n, "done", AB, (b"1\r\n2\r\n", b"ab", 2));
+        let row: TransferRow = (n, n, "done", AB, (b"1\r\n2\r\n", b"ab", 2));
         expect_slow(&rt, &row, (kind, Some(kind)));
     }
 }
 
 /// One string each, the bytes that it types, and the buffer and the pointer before and after it.
-const REFUSED_GROWTHS: &[(&str, Left)] = &[
+const REFUSED_GROWTHS: &[(&str, BufferLeft)] = &[
     (
         "Iab\x1b(((((((((1)))))))))=HT\x1b\x1b",
         (b"1\r\nab", b"ab", 2),
@@ -160,7 +162,7 @@ const REFUSED_GROWTHS: &[(&str, Left)] = &[
 
 // Where a growth is refused, a part of the bytes is typed and then the line for want of memory; or
 // nothing is, and memory is the fault; or the writer wanted it.
-fn is_allowed(ran: &Ran, whole: &[u8]) -> bool {
+fn is_allowed(ran: &SessionRan, whole: &[u8]) -> bool {
     match ran.outcome {
         "done" => ran.written.as_slice() == whole,
         "coded" => match ran.written.strip_suffix(b"?MEM\r\n") {
@@ -174,7 +176,12 @@ fn is_allowed(ran: &Ran, whole: &[u8]) -> bool {
 }
 
 // Is what comes of a session over a store allowed, and left so where it comes to its end?
-fn is_kept(alloc: Global, store: Store, input: &str, (written, text, pointer): Left) -> bool {
+fn is_kept(
+    alloc: Global,
+    store: TrialStore,
+    input: &str,
+    (written, text, pointer): BufferLeft,
+) -> bool {
     let mut host = MemHost::new(alloc);
     let given = (input.as_bytes(), LIMIT);
     let ran = run_over(alloc, store, &mut host, given, (text, pointer));

@@ -12,20 +12,20 @@ pub const STEPS: u64 = 100_000_000;
 
 /// The stores that a machine may edit.
 #[derive(Clone, Copy, Debug)]
-pub enum Store {
+pub enum TrialStore {
     Flat,
     Gap,
 }
 
 /// Every row runs over each.
-pub const STORES: &[Store] = &[Store::Flat, Store::Gap];
+pub const STORES: &[TrialStore] = &[TrialStore::Flat, TrialStore::Gap];
 
 /// What a session is given: an input, and how long a string may be.
-pub type Given<'a> = (&'a [u8], usize);
+pub type SessionInput<'a> = (&'a [u8], usize);
 
 /// What came of a session: an outcome, what was written, and the buffer and the pointer that are left, front and back.
 #[derive(Drop)]
-pub struct Ran {
+pub struct SessionRan {
     pub outcome: &'static str,
     pub written: Vec<u8>,
     pub is_left: bool,
@@ -55,7 +55,7 @@ pub fn has<T: TextStore>(machine: &Machine<T>, text: &[u8], pointer: usize) -> b
 /// The codes that are typed where a growth is refused to the machine or to its host.
 const REFUSALS: &[&[u8]] = &[b"?MEM", b"?FNF", b"?INP", b"?OUT"];
 
-impl Ran {
+impl SessionRan {
     /// Did it come to this, and was this written?
     pub fn is(&self, outcome: &str, written: &[u8]) -> bool {
         self.outcome == outcome && self.written.as_slice() == written
@@ -76,14 +76,14 @@ fn run_with<T: TextStore + Drop, H: Host>(
     alloc: Global,
     store: T,
     host: &mut H,
-    given: Given<'_>,
+    given: SessionInput<'_>,
     left: (&[u8], usize),
-) -> Ran {
+) -> SessionRan {
     let mut machine = Machine::new(alloc, store);
     let (mut reader, mut written) = (given.0, Vec::new(alloc));
     let (from, to, max) = (&mut reader, &mut written, given.1.min(LIMIT));
     let done = session_max(alloc, &mut machine, from, to, host, STEPS, max);
-    Ran {
+    SessionRan {
         outcome: word(done),
         written,
         is_left: has(&machine, left.0, left.1),
@@ -93,28 +93,33 @@ fn run_with<T: TextStore + Drop, H: Host>(
 /// Runs a session over a store and a host; `left` is what the buffer and the pointer are to be.
 pub fn run_over<H: Host>(
     alloc: Global,
-    store: Store,
+    store: TrialStore,
     host: &mut H,
-    given: Given<'_>,
+    given: SessionInput<'_>,
     left: (&[u8], usize),
-) -> Ran {
+) -> SessionRan {
     match store {
-        Store::Flat => run_with(alloc, VecText::new(alloc), host, given, left),
-        Store::Gap => run_with(alloc, GapText::new(alloc), host, given, left),
+        TrialStore::Flat => run_with(alloc, VecText::new(alloc), host, given, left),
+        TrialStore::Gap => run_with(alloc, GapText::new(alloc), host, given, left),
     }
 }
 
 /// What is written, and the buffer and the pointer that are left.
-pub type Left = (&'static [u8], &'static [u8], usize);
+pub type BufferLeft = (&'static [u8], &'static [u8], usize);
 
 /// A session over a store came to what its row says.
-pub fn expect(rt: &impl Abort, is_good: bool, line: &str, store: Store) {
+pub fn expect(rt: &impl Abort, is_good: bool, line: &str, store: TrialStore) {
     assert!(rt; is_good, "{line}, {store:?}");
 }
 
 // What comes of a session over a store, without files, that has no text left. Where it does not write
 // what it is to, or ends for want of memory, and a growth may have been refused, it runs once more.
-fn run_steady(alloc: Global, store: Store, given: Given<'_>, written: &[u8]) -> Ran {
+fn run_steady(
+    alloc: Global,
+    store: TrialStore,
+    given: SessionInput<'_>,
+    written: &[u8],
+) -> SessionRan {
     let ran = run_over(alloc, store, &mut MemHost::new(alloc), given, (b"", 0));
     let is_other = ran.written.as_slice() != written || ran.outcome == "memory";
     if is_other && ran.may_be_refused() {
@@ -125,7 +130,12 @@ fn run_steady(alloc: Global, store: Store, given: Given<'_>, written: &[u8]) -> 
 }
 
 /// A session over both stores, which has no text left, writes this.
-pub fn expect_ran(rt: &(impl Abort + AllocGlobal), given: Given<'_>, outcome: &str, typed: &str) {
+pub fn expect_ran(
+    rt: &(impl Abort + AllocGlobal),
+    given: SessionInput<'_>,
+    outcome: &str,
+    typed: &str,
+) {
     for store in STORES {
         let ran = run_steady(rt.alloc(), *store, given, typed.as_bytes());
         expect(rt, ran.is(outcome, typed.as_bytes()), typed, *store);

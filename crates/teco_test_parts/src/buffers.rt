@@ -1,10 +1,10 @@
-// What is read ahead of an input, what is kept of small writes, and how much may be read and written.
+//! What is read ahead of an input, what is kept of small writes, and how much may be read and written.
 use crate::faulty::{Faulty, LIMITS, faulty_host};
 use crate::scratch::*;
 use std::fs::OpenFile;
 use std::{fs, io};
 use teco_base::LIMIT;
-use teco_pages::{Failed, FileHost, Host, Purpose, Reason};
+use teco_pages::{Failed, FileHost, Host, Purpose, TroubleReason};
 
 const FOLDER: &str = "somleut_test_buffers";
 
@@ -99,9 +99,9 @@ fn is_fault_behind(host: &mut FileHost<Faulty>, text: &[u8], whole: usize) -> bo
 }
 
 // What is tried, the length of the text, how many bytes a call moves at most, and how many the file before it fails.
-type Row = (&'static str, usize, usize, usize);
+type BufferRow = (&'static str, usize, usize, usize);
 
-const ROWS: &[Row] = &[
+const ROWS: &[BufferRow] = &[
     ("pages of small writes", 50 * 4097, usize::MAX, usize::MAX),
     ("pages of small writes", 50 * 4097, 1000, usize::MAX),
     ("a write sends on", 40 * 4096, usize::MAX, 0),
@@ -116,7 +116,7 @@ const ROWS: &[Row] = &[
     ("a fault behind", 140_000, usize::MAX, 100_000),
 ];
 
-fn passes(rt: &HostRuntime, host: &mut FileHost<Faulty>, row: &Row, text: &[u8]) -> bool {
+fn passes(rt: &HostRuntime, host: &mut FileHost<Faulty>, row: &BufferRow, text: &[u8]) -> bool {
     match row.0 {
         "pages of small writes" => put_pages(host, text) && is_file(rt, PATH, text),
         "a write sends on" => is_sent_on(host, text) && is_file(rt, PATH, text),
@@ -127,7 +127,7 @@ fn passes(rt: &HostRuntime, host: &mut FileHost<Faulty>, row: &Row, text: &[u8])
 }
 
 // Does a row hold, in an empty folder?
-fn holds(rt: &HostRuntime, row: &Row) -> bool {
+fn holds(rt: &HostRuntime, row: &BufferRow) -> bool {
     let Ok(text) = long_text(rt.alloc(), row.1) else {
         return false;
     };
@@ -202,7 +202,7 @@ fn is_cut(rt: &HostRuntime, limits: &str, most: usize) -> bool {
         && begin_out(&mut host, PATH, b"");
     let is_whole = write_pieces(&mut host, &text, 4096);
     let is_past_limit =
-        matches!(host.trouble(), Some(told) if matches!(told.reason, Reason::SizeLimit));
+        matches!(host.trouble(), Some(told) if matches!(told.reason, TroubleReason::SizeLimit));
     let is_as_wanted = is_open && is_whole == (most == ALL) && is_whole != is_past_limit;
     let front = text.split_at(text.len().min(most)).0;
     is_as_wanted && host.close_out().is_ok() && is_file(rt, PATH, front)

@@ -1,4 +1,4 @@
-// Files that move few bytes at a call, and fail once; another may stand in for the limits that the system sets.
+//! Files that move few bytes at a call, and fail once; another may stand in for the limits that the system sets.
 use std::alloc::Allocator;
 use std::fs::{File, Files, Metadata, OpenFile, OpenOptions};
 use std::io::{self, Read, Seek, SeekFrom, Write};

@@ -1,4 +1,4 @@
-// What a host of the system's files does step by step with outputs and inputs, and what is then found in their folder.
+//! What a host of the system's files does step by step with outputs and inputs, and what is then found in their folder.
 use crate::scratch::*;
 use std::alloc::Global;
 use std::fs;

@@ -1,9 +1,9 @@
-// A scratch folder, and what tests do with a host there. A call that is refused memory is made once
-// more, so that each test also holds where one allocation fails: then nothing is lost or done twice.
+//! A scratch folder, and what tests do with a host there. A call that is refused memory is made once
+//! more, so that each test also holds where one allocation fails: then nothing is lost or done twice.
 use std::alloc::{AllocError, Global};
 use std::os::unix::fs::PermissionsExt;
 use std::{fs, io};
-use teco_pages::{Failed, FileHost, Host, Reason, System};
+use teco_pages::{Failed, FileHost, Host, System, TroubleReason};
 
 // Removes a folder with all that it has; answers whether it could.
 pub fn remove(rt: &HostRuntime, folder: &str) -> bool {
@@ -69,8 +69,8 @@ pub fn host(rt: &HostRuntime) -> FileHost<HostRuntime> {
 pub fn is_refused<R: System>(host: &FileHost<R>) -> bool {
     match host.trouble() {
         Some(trouble) => match &trouble.reason {
-            Reason::Memory => true,
-            Reason::System(error) => error.kind() == io::ErrorKind::OutOfMemory,
+            TroubleReason::Memory => true,
+            TroubleReason::System(error) => error.kind() == io::ErrorKind::OutOfMemory,
             _ => false,
         },
         None => false,

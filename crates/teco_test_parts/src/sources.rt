@@ -1,11 +1,11 @@
-// Sources and the texts that they say, worked by hand.
+//! Sources and the texts that they say, worked by hand.
 use std::alloc::Global;
 use teco_source::*;
 
-const TILDE: Form = Form::Marked(b'~');
+const TILDE: EscapeForm = EscapeForm::Marked(b'~');
 
 /// A form, a source, and the text that it says.
-type Read = (Form, &'static [u8], &'static [u8]);
+type Read = (EscapeForm, &'static [u8], &'static [u8]);
 
 fn is_read(alloc: Global, (form, source, text): &Read) -> Option<bool> {
     let said = form.read(alloc, source).ok()?;
@@ -13,15 +13,15 @@ fn is_read(alloc: Global, (form, source, text): &Read) -> Option<bool> {
 }
 
 const SOURCES: &[Read] = &[
-    (Form::Readable, b"J<Sfoo$;>$", b"J<Sfoo\x1b;>\x1b"),
-    (Form::Readable, b"I^$5$", b"I$5\x1b"),
-    (Form::Readable, b"^^$$", b"^$\x1b"),
+    (EscapeForm::Readable, b"J<Sfoo$;>$", b"J<Sfoo\x1b;>\x1b"),
+    (EscapeForm::Readable, b"I^$5$", b"I$5\x1b"),
+    (EscapeForm::Readable, b"^^$$", b"^$\x1b"),
     (TILDE, b"I$5~^~", b"I$5\x1b^\x1b"),
-    (Form::Marked(b'^'), b"^^$", b"\x1b\x1b$"),
+    (EscapeForm::Marked(b'^'), b"^^$", b"\x1b\x1b$"),
 ];
 
 // A form, a text, and the source that says it, if there is one.
-type Written = (Form, &'static [u8], Option<&'static [u8]>);
+type Written = (EscapeForm, &'static [u8], Option<&'static [u8]>);
 
 fn is_written(alloc: Global, (form, text, want): &Written) -> Option<bool> {
     match (form.write(alloc, text).ok()?, want) {
@@ -31,9 +31,9 @@ fn is_written(alloc: Global, (form, text, want): &Written) -> Option<bool> {
 }
 
 const WRITTEN: &[Written] = &[
-    (Form::Readable, b"I$5\x1b", Some(b"I^$5$")),
-    (Form::Readable, b"^U$\x1b", Some(b"^U^$$")),
-    (Form::Readable, b"I^\x1b", None),
+    (EscapeForm::Readable, b"I$5\x1b", Some(b"I^$5$")),
+    (EscapeForm::Readable, b"^U$\x1b", Some(b"^U^$$")),
+    (EscapeForm::Readable, b"I^\x1b", None),
     (TILDE, b"I^\x1b$", Some(b"I^~$")),
 ];
 
@@ -48,10 +48,10 @@ fn sources_are_read_and_texts_written(rt: HostRuntime) {
 }
 
 // A form, a source, a place of the text that it says, and the place in the source.
-const PLACES: &[(Form, &[u8], usize, usize)] = &[
-    (Form::Readable, b"I^$5$", 1, 2),
-    (Form::Readable, b"I^$5$", 2, 3),
-    (Form::Readable, b"I^$5$", 4, 5),
+const PLACES: &[(EscapeForm, &[u8], usize, usize)] = &[
+    (EscapeForm::Readable, b"I^$5$", 1, 2),
+    (EscapeForm::Readable, b"I^$5$", 2, 3),
+    (EscapeForm::Readable, b"I^$5$", 4, 5),
     (TILDE, b"I^~5", 3, 3),
 ];
 
@@ -68,7 +68,7 @@ fn places_lines_and_beginnings_are_found(rt: HostRuntime) {
         assert!(rt; form.place_in(source, *place) == *at, "place {number}");
     }
     let (line, column) = (3, 1);
-    assert!(rt; Position::of(b"ab\r\n\ncd", 5) == Position { line, column });
+    assert!(rt; LineAndByte::of(b"ab\r\n\ncd", 5) == LineAndByte { line, column });
     for (number, (file, begin)) in BEGINNINGS.iter().enumerate() {
         assert!(rt; text_begin(file) == *begin, "beginning {number}");
     }
@@ -128,17 +128,17 @@ fn texts_are_shown_and_excerpts_mark_the_place(rt: HostRuntime) {
 // Does a source say its text, and know its places?
 fn is_source(alloc: Global) -> Option<bool> {
     let bytes = b"Ia$\nI^$$5C".to_vec(alloc).ok()?;
-    let source = Source::new(alloc, "in.tes", bytes, Form::Readable).ok()?;
+    let source = Source::new(alloc, "in.tes", bytes, EscapeForm::Readable).ok()?;
     let is_said = source.name() == "in.tes" && source.text() == b"Ia\x1b\nI$\x1b5C".as_slice();
-    let is_there = source.position(5) == Position { line: 2, column: 3 };
+    let is_there = source.position(5) == LineAndByte { line: 2, column: 3 };
     let is_shown = is_printed(alloc, source.excerpt(7), "    I^$$5C\n        ^")?;
     Some(is_said && is_there && is_shown)
 }
 
 fn is_script(alloc: Global) -> Option<bool> {
     let bytes = b"#!teco\n5C".to_vec(alloc).ok()?;
-    let script = Source::script(alloc, "s", bytes, Form::Readable).ok()?;
-    let is_there = script.position(1) == Position { line: 2, column: 2 };
+    let script = Source::script(alloc, "s", bytes, EscapeForm::Readable).ok()?;
+    let is_there = script.position(1) == LineAndByte { line: 2, column: 2 };
     Some(script.text() == b"5C".as_slice() && is_there)
 }
 

@@ -1,11 +1,11 @@
-// Rows of calls on either store, with what each answers and leaves. One that is refused memory is made once more.
+//! Rows of calls on either store, with what each answers and leaves. One that is refused memory is made once more.
 use std::alloc::Global;
 use std::process::Abort;
 use teco_base::LIMIT;
 use teco_text::{GapText, TextFault, TextStore, VecText};
 
 #[derive(Clone, Copy)]
-enum Call {
+enum StoreCall {
     SetDot(usize),
     Insert(&'static [u8]),
     Delete(usize, usize),
@@ -23,14 +23,14 @@ fn exchange<T: TextStore>(store: &mut T, alloc: Global, bytes: &[u8]) -> Result<
     Err(TextFault::Full)
 }
 
-fn answer<T: TextStore>(store: &mut T, alloc: Global, call: Call) -> &'static str {
+fn answer<T: TextStore>(store: &mut T, alloc: Global, call: StoreCall) -> &'static str {
     let done = match call {
-        Call::SetDot(i) => store.set_dot(i),
-        Call::Insert(bytes) => store.insert(bytes),
-        Call::Delete(a, b) => store.delete(a, b),
-        Call::Replace(a, b, bytes) => store.replace(a, b, bytes),
-        Call::Reserve(n) => store.reserve(n),
-        Call::Exchange(bytes) => exchange(store, alloc, bytes),
+        StoreCall::SetDot(i) => store.set_dot(i),
+        StoreCall::Insert(bytes) => store.insert(bytes),
+        StoreCall::Delete(a, b) => store.delete(a, b),
+        StoreCall::Replace(a, b, bytes) => store.replace(a, b, bytes),
+        StoreCall::Reserve(n) => store.reserve(n),
+        StoreCall::Exchange(bytes) => exchange(store, alloc, bytes),
     };
     match done {
         Ok(()) => "ok",
@@ -77,10 +77,15 @@ fn is_state<T: TextStore>(store: &T, alloc: Global, (text, dot): (&[u8], usize))
 }
 
 // A call, its answer, and the text and the pointer then.
-type Row = (Call, &'static str, (&'static [u8], usize));
+type StoreRow = (StoreCall, &'static str, (&'static [u8], usize));
 
 // Whether a call answers and leaves what its row says; one that is refused memory leaves what was.
-fn holds<T: TextStore>(store: &mut T, alloc: Global, before: (&[u8], usize), row: &Row) -> bool {
+fn holds<T: TextStore>(
+    store: &mut T,
+    alloc: Global,
+    before: (&[u8], usize),
+    row: &StoreRow,
+) -> bool {
     let (call, want, after) = row;
     let mut got = answer(store, alloc, *call);
     if got == "memory" && is_state(store, alloc, before) {
@@ -90,7 +95,7 @@ fn holds<T: TextStore>(store: &mut T, alloc: Global, before: (&[u8], usize), row
 }
 
 // Asserts the rows of calls on a store, which is empty at first.
-fn expect_rows<T: TextStore>(rt: &impl Abort, alloc: Global, store: &mut T, rows: &[Row]) {
+fn expect_rows<T: TextStore>(rt: &impl Abort, alloc: Global, store: &mut T, rows: &[StoreRow]) {
     let mut before: (&[u8], usize) = (b"", 0);
     for (number, row) in rows.iter().enumerate() {
         assert!(rt; holds(store, alloc, before, row), "row {number}");
@@ -98,21 +103,21 @@ fn expect_rows<T: TextStore>(rt: &impl Abort, alloc: Global, store: &mut T, rows
     }
 }
 
-const IN_TURN: &[Row] = &[
-    (Call::Insert(b"ab"), "ok", (b"ab", 2)),
-    (Call::Delete(1, 3), "off", (b"ab", 2)),
-    (Call::Replace(1, 3, b"x"), "off", (b"ab", 2)),
-    (Call::Reserve(268_435_457), "full", (b"ab", 2)),
-    (Call::Reserve(64), "ok", (b"ab", 2)),
-    (Call::SetDot(1), "ok", (b"ab", 1)),
-    (Call::Insert(b"cdef"), "ok", (b"acdefb", 5)),
-    (Call::Replace(1, 5, b"--"), "ok", (b"a--b", 3)),
-    (Call::Replace(1, 2, b"12345"), "ok", (b"a12345-b", 6)),
-    (Call::Delete(2, 4), "ok", (b"a145-b", 4)),
-    (Call::Delete(3, 5), "ok", (b"a14b", 3)),
-    (Call::Exchange(b"xyz"), "ok", (b"xyz", 0)),
-    (Call::Insert(b"--"), "ok", (b"--xyz", 2)),
-    (Call::Exchange(b"xyz"), "ok", (b"xyz", 0)),
+const IN_TURN: &[StoreRow] = &[
+    (StoreCall::Insert(b"ab"), "ok", (b"ab", 2)),
+    (StoreCall::Delete(1, 3), "off", (b"ab", 2)),
+    (StoreCall::Replace(1, 3, b"x"), "off", (b"ab", 2)),
+    (StoreCall::Reserve(268_435_457), "full", (b"ab", 2)),
+    (StoreCall::Reserve(64), "ok", (b"ab", 2)),
+    (StoreCall::SetDot(1), "ok", (b"ab", 1)),
+    (StoreCall::Insert(b"cdef"), "ok", (b"acdefb", 5)),
+    (StoreCall::Replace(1, 5, b"--"), "ok", (b"a--b", 3)),
+    (StoreCall::Replace(1, 2, b"12345"), "ok", (b"a12345-b", 6)),
+    (StoreCall::Delete(2, 4), "ok", (b"a145-b", 4)),
+    (StoreCall::Delete(3, 5), "ok", (b"a14b", 3)),
+    (StoreCall::Exchange(b"xyz"), "ok", (b"xyz", 0)),
+    (StoreCall::Insert(b"--"), "ok", (b"--xyz", 2)),
+    (StoreCall::Exchange(b"xyz"), "ok", (b"xyz", 0)),
 ];
 
 // Whether 60 characters are put in and taken out without more memory.

@@ -1,4 +1,4 @@
-// Files that are refused, and what is told of them.
+//! Files that are refused, and what is told of them.
 use crate::scratch::{has_names, host, remove, scratch};
 use std::alloc::Global;
 use std::fs;

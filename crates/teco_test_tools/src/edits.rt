@@ -4,7 +4,7 @@ use std::fs;
 use std::process::Abort;
 use std::test::Fail;
 use teco_applied::{Names, Task, apply_macro};
-use teco_apply::Pages;
+use teco_apply::PageChoice;
 use teco_console::{AnswerFault, Escape, Outcome, Request, Setting};
 use teco_edits::{Change, ChosenFile, InPlaceEdits, Keeping, Naming, choose, edit_files};
 use teco_pages::FileHost;
@@ -69,12 +69,12 @@ fn remove(rt: &HostRuntime, names: &[&str]) -> Result<(), Fail> {
 }
 
 // Which pages are edited, whether strictly and with counts, what is made, and what is said.
-type EditRow = (Pages, bool, &'static [u8], &'static str);
+type EditRow = (PageChoice, bool, &'static [u8], &'static str);
 
 const ROWS: &[EditRow] = &[
-    (Pages::First, false, b"a bar\x0cfoo\x0c\x0cfoo", COPIED),
-    (Pages::Each, false, b"a bar\x0cbar\x0c\x0cbar", ""),
-    (Pages::Whole, true, b"a bar\x0cbar\x0c\x0cbar", COUNTED),
+    (PageChoice::First, false, b"a bar\x0cfoo\x0c\x0cfoo", COPIED),
+    (PageChoice::Each, false, b"a bar\x0cbar\x0c\x0cbar", ""),
+    (PageChoice::Whole, true, b"a bar\x0cbar\x0c\x0cbar", COUNTED),
 ];
 
 const COPIED: &str = "somleut_tools_in: 8 bytes behind the first page were copied unedited; \
@@ -142,7 +142,7 @@ fn streams_are_edited(rt: HostRuntime) -> Result<(), Fail> {
     let request = library_file(&rt, LIBRARY, REPLACES)?;
     for is_strict in [false, true] {
         let each = Task {
-            pages: Pages::Each,
+            pages: PageChoice::Each,
             is_strict,
             ..task(request)
         };

@@ -4,7 +4,7 @@ use std::fs;
 use std::process::Abort;
 use std::test::Fail;
 use teco_applied::Task;
-use teco_apply::Pages;
+use teco_apply::PageChoice;
 use teco_base::Reg;
 use teco_console::{Console, Edition, Escape, Method, Origin, Request};
 use teco_edits::FileChoice;
@@ -54,7 +54,7 @@ pub fn task(library: Request<'static>) -> Task<'static, 'static> {
         entry: Reg::default(),
         certificate: None,
         argument: None,
-        pages: Pages::First,
+        pages: PageChoice::First,
         start: Start::new(),
         cap: 1 << 20,
         is_strict: false,

@@ -1,4 +1,4 @@
-// What is known of macros, element by element, worked out by hand from the rules.
+//! What is known of macros, element by element, worked out by hand from the rules.
 use crate::subjects::{TableRow, expect_all, library_of};
 use std::alloc::Global;
 use std::test::*;

@@ -1,4 +1,4 @@
-// Certificates as the rules print them, and texts that differ in a byte; cases say those that differ in more.
+//! Certificates as the rules print them, and texts that differ in a byte; cases say those that differ in more.
 use crate::subjects::{TableRow, is_so, library_of};
 use std::alloc::Global;
 use std::test::*;

@@ -91,7 +91,7 @@ type EndedEdit = (bool, bool, u64, u64);
 fn edited_by(
     alloc: Global,
     verified: &Verified<'_>,
-    (pages, refused): (Pages, u128),
+    (pages, refused): (PageChoice, u128),
     host: &mut TestHost,
     written: &mut Vec<u8>,
 ) -> Option<(EndedEdit, GuardCounts)> {
@@ -136,7 +136,13 @@ fn edited_first_alone(
 fn edited_first(alloc: Global, verified: &Verified<'_>) -> Option<u64> {
     let mut host = failing_host(alloc, b"foo\x0cbar", NONE)?;
     let mut written = Vec::new(alloc);
-    match edited_by(alloc, verified, (Pages::First, 0), &mut host, &mut written)? {
+    match edited_by(
+        alloc,
+        verified,
+        (PageChoice::First, 0),
+        &mut host,
+        &mut written,
+    )? {
         ((false, false, 1, steps), _) => Some(steps),
         _ => None,
     }
@@ -149,7 +155,7 @@ type FileThere = Option<&'static [u8]>;
 fn edited(
     alloc: Global,
     file: &[u8],
-    (pages, refused): (Option<Pages>, u128),
+    (pages, refused): (Option<PageChoice>, u128),
     failing: Failing,
     (wanted, out): (&[u8], FileThere),
 ) -> Option<(EndedEdit, GuardCounts, bool)> {
@@ -187,7 +193,7 @@ const GUARDED: &[GuardedEdit] = &[
 
 impl TableRow for GuardedEdit {
     fn holds(&self, alloc: Global) -> Option<bool> {
-        let how = (Some(Pages::Each), self.0);
+        let how = (Some(PageChoice::Each), self.0);
         let (ended, seen, is_left) = edited(alloc, MARKS, how, NONE, (b"", self.4))?;
         let (asked, held, unread) = self.2;
         let is_seen = (seen.asked, seen.held, seen.unread) == (asked, held, Some(unread));
@@ -198,15 +204,15 @@ impl TableRow for GuardedEdit {
 }
 
 // Which call fails, which pages are edited, what is written, and the pages and steps before the output is dropped.
-struct Dropped(HostCall, u64, Pages, &'static [u8], u64, u64);
+struct Dropped(HostCall, u64, PageChoice, &'static [u8], u64, u64);
 
 const DROPPED: &[Dropped] = &[
-    Dropped(HostCall::OpenIn, 1, Pages::Each, b"?FNF\r\n", 0, 0),
-    Dropped(HostCall::Read, 6, Pages::Each, b"?INP\r\n", 1, 3),
-    Dropped(HostCall::Write, 1, Pages::Each, b"?OUT\r\n", 1, 3),
-    Dropped(HostCall::CloseOut, 1, Pages::Each, b"?OUT\r\n", 2, 6),
-    Dropped(HostCall::Read, 6, Pages::Whole, b"?INP\r\n", 0, 0),
-    Dropped(HostCall::Write, 1, Pages::Whole, b"?OUT\r\n", 1, 3),
+    Dropped(HostCall::OpenIn, 1, PageChoice::Each, b"?FNF\r\n", 0, 0),
+    Dropped(HostCall::Read, 6, PageChoice::Each, b"?INP\r\n", 1, 3),
+    Dropped(HostCall::Write, 1, PageChoice::Each, b"?OUT\r\n", 1, 3),
+    Dropped(HostCall::CloseOut, 1, PageChoice::Each, b"?OUT\r\n", 2, 6),
+    Dropped(HostCall::Read, 6, PageChoice::Whole, b"?INP\r\n", 0, 0),
+    Dropped(HostCall::Write, 1, PageChoice::Whole, b"?OUT\r\n", 1, 3),
 ];
 
 impl TableRow for Dropped {

@@ -1,11 +1,11 @@
-// Long texts of A: of some nodes the place, and where their last ways lead; and where what was pushed
-// lies. What is expanded of short texts, and why there is no expansion, is said by cases.
+//! Long texts of A: of some nodes the place, and where their last ways lead; and where what was pushed
+//! lies. What is expanded of short texts, and why there is no expansion, is said by cases.
 use crate::subjects::{TableRow, expect_all, library_of};
 use std::alloc::{AllocError, Global};
 use std::test::*;
 use teco_base::Reg;
 use teco_check::{Table, derive};
-use teco_expansion::{ExpandFault, Reason, expand};
+use teco_expansion::{ExpandFault, ExpandReason, expand};
 use teco_library::Library;
 
 /// Texts, and how often each of them stands in the text of A, one after another.
@@ -82,8 +82,8 @@ impl TableRow for LongRefused {
         let library = library_in(alloc, self.0)?;
         match expand(alloc, &library, Reg::default()) {
             Err(ExpandFault::Refused(refusal)) => {
-                let is_recursion = matches!(refusal.reason, Reason::Recursion);
-                let is_large = matches!(refusal.reason, Reason::TooLarge);
+                let is_recursion = matches!(refusal.reason, ExpandReason::Recursion);
+                let is_large = matches!(refusal.reason, ExpandReason::TooLarge);
                 let is_why = (is_recursion, is_large) == (self.1, !self.1);
                 Some(is_why && (refusal.register, refusal.place) == (0, self.2))
             }

@@ -1,11 +1,11 @@
-// Names of codes and refusals, their notes, and hints.
+//! Names of codes and refusals, their notes, and hints.
 use crate::subjects::{TableRow, expect, expect_all, is_text};
 use std::alloc::{AllocError, Global};
 use std::test::*;
 use teco_base::{Code, Reg};
 use teco_explain::*;
 use teco_lex::element;
-use teco_source::{Form, Source};
+use teco_source::{EscapeForm, Source};
 use teco_verifier::Refusal;
 
 // The number of the refusal of a name.
@@ -197,7 +197,7 @@ const MISSING: &str = "lib.tec: refused X11: the library has no such macro";
 impl TableRow for Said {
     fn holds(&self, alloc: Global) -> Option<bool> {
         let file = self.0.as_bytes().to_vec(alloc).ok()?;
-        let source = Source::new(alloc, "lib.tec", file, Form::Readable).ok()?;
+        let source = Source::new(alloc, "lib.tec", file, EscapeForm::Readable).ok()?;
         let explained = Explained {
             source: &source,
             why: self.1,

@@ -12,6 +12,8 @@ mod expansions;
 #[cfg(test)]
 mod explanations;
 #[cfg(test)]
+mod first_steps;
+#[cfg(test)]
 mod printed;
 #[cfg(test)]
 mod subjects;

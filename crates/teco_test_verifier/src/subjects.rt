@@ -1,4 +1,4 @@
-// Tables of cases, and what the tests share of libraries and texts.
+//! Tables of cases, and what the tests share of libraries and texts.
 use std::alloc::Global;
 use std::fmt;
 use std::process::Abort;

@@ -1,4 +1,4 @@
-// Polynomials, worked by hand from sums and products of numbers, and stacks that share.
+//! Polynomials, worked by hand from sums and products of numbers, and stacks that share.
 use crate::subjects::{TableRow, expect_all};
 use std::alloc::{AllocError, Global};
 use std::test::*;

@@ -1,4 +1,4 @@
-// A block of memory with a gap in it.
+//! A block of memory with a gap in it.
 ghost use Rattle.std.specs.Prelude.{◌≡◌, ◌+◌, ◌-◌, ◌^◌, ◌<◌, ◌≤◌, [], ◌++◌, length, take, drop, OnOk, OnErr, vec_len};
 ghost use Rattle.std.specs.Prelude.{vec_capacity};
 ghost use Rattle.teco_base.specs.declared.TheConstants.{LIMIT};

@@ -1,4 +1,4 @@
-// Why a call on a text is refused.
+//! Why a call on a text is refused.
 ghost use Rattle.std.specs.Prelude.{◌≡◌};
 ghost use Rattle.teco_text.specs.declared.fault.TextFault.TheVariants.{Memory};
 

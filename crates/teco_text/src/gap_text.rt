@@ -1,4 +1,4 @@
-// A store in one block with a gap.
+//! A store in one block with a gap.
 ghost use Rattle.std.specs.Prelude.{◌≡◌, []};
 
 use crate::block::Block;

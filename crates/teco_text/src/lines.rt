@@ -1,4 +1,4 @@
-// Line places.
+//! Line places.
 ghost use Rattle.std.specs.Prelude.{◌≡◌, ℕ, ◌+◌, ◌-◌, ◌<◌, ◌≤◌, ◌^◌, ◌++◌, length, reverse, take, drop, IfOk};
 ghost use Rattle.teco_base.specs.Lines as lines;
 ghost use Rattle.teco_base.specs.declared.TheConstants.{LIMIT};

@@ -1,5 +1,5 @@
-// Moves of characters within a block. Its gap lies between two places, and what is behind the gap
-// at the block's end.
+//! Moves of characters within a block. Its gap lies between two places, and what is behind the gap
+//! at the block's end.
 ghost use Rattle.std.specs.Prelude.{◌≡◌, ◌+◌, ◌-◌, ◌≤◌, length, take, drop, vec_capacity};
 ghost use Rattle.std.specs.List.{copy_within};
 ghost use Rattle.teco_text.specs.Answers.{IsPart};

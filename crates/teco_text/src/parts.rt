@@ -1,4 +1,4 @@
-// Parts of a text, in two pieces as the text is.
+//! Parts of a text, in two pieces as the text is.
 ghost use Rattle.std.specs.Prelude.{◌≡◌, ◌≤◌, ◌++◌, length, take, drop};
 ghost use Rattle.teco_base.specs.Text.{range};
 ghost use Rattle.teco_text.specs.Answers.{IsPart};

@@ -1,4 +1,4 @@
-// What every store of a text promises.
+//! What every store of a text promises.
 ghost use Rattle.std.specs.Prelude.{◌≡◌, ℕ, ◌+◌, ◌-◌, ◌≤◌, List, [], ◌++◌, length, slice_get, OnOk, OnErr, vec_len};
 ghost use Rattle.std.specs.Prelude.{vec_capacity};
 ghost use Rattle.teco_base.specs.Text.{range, text_after_replacement, text_after_deletion, text_after_insertion};
@@ -15,6 +15,15 @@ use crate::fault::TextFault;
 /// call is refused with `Off` where a place lies outside the text or `a` behind `b`, with `Full`
 /// where the text would have more than `LIMIT` characters, and with `Memory` where it needs more
 /// memory and that is refused. A refused call leaves text and pointer as they are.
+///
+/// # Examples
+///
+/// ```
+/// let mut text = GapText::new(alloc);
+/// text.insert(b"one two")?;
+/// text.delete(3, 7)?;
+/// Ok(text.dot() == 3 && text.at(0) == Some(b'o') && text.at(3).is_none())
+/// ```
 pub trait TextStore {
     // the characters
     ghost list: { Self → List ℕ };
@@ -41,6 +50,10 @@ pub trait TextStore {
         ensures { result ≡ slice_get (list self.now) i };
 
     /// Moves the pointer to place `i`.
+    ///
+    /// # Errors
+    ///
+    /// `Off` where `i` lies behind the end of the text.
     fn set_dot(&mut self, i: usize) -> Result<(), TextFault>
         ensures answer { OkWhere result (i ≤ length (list self.old)) }
         ensures pointer { OnOk result (pointer self.new ≡ i) }
@@ -49,6 +62,11 @@ pub trait TextStore {
         ensures room { room self.old ≤ room self.new };
 
     /// Puts `bytes` in before the pointer, which moves past them.
+    ///
+    /// # Errors
+    ///
+    /// `Full` where the text would have more than `LIMIT` characters; `Memory` where it needs
+    /// more and is refused it.
     fn insert(&mut self, bytes: &[u8]) -> Result<(), TextFault>
         ensures answer { OkWithin result
             (length (text_after_insertion (list self.old) (pointer self.old) bytes.now))
@@ -62,6 +80,10 @@ pub trait TextStore {
 
     /// Takes out the characters from `a` up to `b`. A pointer inside them goes to `a`, one behind
     /// them back with the text.
+    ///
+    /// # Errors
+    ///
+    /// `Off` where `a` lies behind `b`, or `b` behind the end of the text.
     fn delete(&mut self, a: usize, b: usize) -> Result<(), TextFault>
         ensures answer { OkWhere result (IsPart (list self.old) a b) }
         ensures list { OnOk result (list self.new ≡ text_after_deletion (list self.old) a b) }
@@ -73,6 +95,10 @@ pub trait TextStore {
 
     /// Puts `bytes` in the stead of the characters from `a` up to `b`. The pointer goes behind
     /// them, wherever it was.
+    ///
+    /// # Errors
+    ///
+    /// `Off`, `Full` and `Memory`, as at `delete` and `insert`, the first that holds.
     fn replace(&mut self, a: usize, b: usize, bytes: &[u8]) -> Result<(), TextFault>
         ensures answer { OkWhereWithin result (IsPart (list self.old) a b)
             (length (text_after_replacement (list self.old) a b bytes.now)) (room self.old) }
@@ -85,6 +111,10 @@ pub trait TextStore {
 
     /// Appends the characters from `a` up to `b` to `out`, which grows by its own allocator and
     /// gives no capacity back. A refusal leaves its items.
+    ///
+    /// # Errors
+    ///
+    /// `Off` as at `delete`; `Memory` where `out` cannot grow.
     fn copy_range(&self, a: usize, b: usize, out: &mut Vec<u8>) -> Result<(), TextFault>
         ensures answer { OkWhereSpare result (IsPart (list self.now) a b) (b - a)
             (vec_capacity out.old - vec_len out.old) }
@@ -94,6 +124,10 @@ pub trait TextStore {
 
     /// Makes room for `n` characters in all: until the text is longer, `insert` and `replace` need
     /// no memory.
+    ///
+    /// # Errors
+    ///
+    /// `Full` where `n` is more than `LIMIT`; `Memory` where memory is refused.
     fn reserve(&mut self, n: usize) -> Result<(), TextFault>
         ensures answer { OkWithin result n (room self.old) }
         ensures room { OnOk result (n ≤ room self.new) }

@@ -1,4 +1,4 @@
-// A store in one vector.
+//! A store in one vector.
 ghost use Rattle.std.specs.Prelude.{◌≡◌, ◌+◌, ◌≤◌, [], length, IsOk, OnOk, OnErr, vec_len, vec_capacity};
 ghost use Rattle.teco_base.specs.Text.{text_after_replacement, text_after_deletion, text_after_insertion};
 ghost use Rattle.teco_text.specs.Answers.{IsPart};

@@ -13,7 +13,7 @@ use Rattle.teco_session.specs.declared.fault.SessionFault.{SessionFault}
 use Rattle.teco_session.specs.declared.sessions.Done.{Done}
 use Rattle.teco_source.specs.Scripts.{text_begin}
 use Rattle.teco_source.specs.Source.{said}
-use Rattle.teco_source.specs.declared.form.Form.{Form}
+use Rattle.teco_source.specs.declared.form.EscapeForm.{EscapeForm}
 use Rattle.teco_session.specs.declared.sessions.Conduct.{Conduct}
 use Rattle.teco_base.specs.declared.TheConstants.{LIMIT}
 use Rattle.teco_tools.specs.declared.fault.ToolFault.{ToolFault}
@@ -28,7 +28,7 @@ use Rattle.teco_console.specs.declared.outcome.Outcome.TheVariants as outcomes
 -- what a file says as a script, where what it has is told
 pub record FileSays (holds : List ℕ → Option (List ℕ)) (escape : Escape) (name text : List ℕ) : Type 0 where
   pub bytes : List ℕ
-  pub form : Form
+  pub form : EscapeForm
   pub told : IfSome (holds name) (λ known. bytes ≡ known)
   pub by_name : IsFileForm escape name form
   pub says : text ≡ said form (drop (text_begin bytes) bytes)

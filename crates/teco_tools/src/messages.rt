@@ -2,7 +2,7 @@
 use std::fmt;
 use std::io::Write;
 use teco_console::Voice;
-use teco_pages::{Purpose, Reason, Trouble};
+use teco_pages::{Purpose, Trouble, TroubleReason};
 use teco_source::Shown;
 
 // The code that is typed for it.
@@ -28,7 +28,7 @@ pub fn tell<E: Write + Drop>(voice: &mut Voice<E>, trouble: &Trouble) {
     let reason = &trouble.reason;
     let code = code_of(purpose);
     voice.complain(format_args!("cannot {purpose} {name}: {reason} ({code})"));
-    if let Reason::Kept = trouble.reason {
+    if let TroubleReason::Kept = trouble.reason {
         voice.say("  --force-backup lets a backup take the place of a file that has its name");
     }
 }

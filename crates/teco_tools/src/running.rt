@@ -24,7 +24,7 @@ use teco_model::Limits;
 use teco_pages::Host;
 use teco_run::{Machine, Stop, Stopped};
 use teco_session::{Conduct, Done, Listener, SessionFault, session_heard};
-use teco_source::{Position, Shown, Source};
+use teco_source::{LineAndByte, Shown, Source};
 use teco_text::{GapText, TextStore};
 
 /// What command strings are read from.
@@ -96,7 +96,7 @@ impl<'a, E: Write + Drop> Teller<'a, E> {
         let name = scene.letters();
         let at = self.begin.saturating_add(place);
         let file = Shown(source.name().as_bytes());
-        let Position { line, column } = source.position(at);
+        let LineAndByte { line, column } = source.position(at);
         let excerpt = source.excerpt(at);
         self.voice.say(format_args!("{file}:{line}:{column}: ?{name} at {scene}\n{excerpt}"));
     }
@@ -132,7 +132,7 @@ impl<'a, E: Write + Drop> Teller<'a, E> {
     // Says that the last command string of a source has no end.
     fn tell_open_source(&mut self, source: &Source, name: &str) {
         let file = Shown(source.name().as_bytes());
-        let Position { line, column } = source.position(self.begin);
+        let LineAndByte { line, column } = source.position(self.begin);
         self.voice.say(format_args!(
             "{file}:{line}:{column}: ?{name}: the command string that begins here has no end, \
                 which is two ESC"

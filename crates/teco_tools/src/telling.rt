@@ -6,7 +6,7 @@ use teco_console::{Voice, element_at, letters};
 use teco_explain::note_of_code;
 use teco_model::HostFault;
 use teco_run::{Machine, Stop, Stopped};
-use teco_source::{Position, Shown};
+use teco_source::{LineAndByte, Shown};
 use teco_text::TextStore;
 
 /// The code that is typed for a stop.
@@ -88,7 +88,7 @@ pub fn tell_macro<T: TextStore, E: Write + Drop>(
     let text = machine.regs().text(register);
     let scene = Scene::of(text, place, machine, code);
     let name = scene.letters();
-    let Position { line, column } = Position::of(text, place);
+    let LineAndByte { line, column } = LineAndByte::of(text, place);
     let register = char::from(register.name());
     match file {
         None => voice.say(format_args!("?{name} at {line}:{column} in macro {register}: {scene}")),

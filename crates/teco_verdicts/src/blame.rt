@@ -11,7 +11,7 @@ use teco_console::{AnswerFault, Console, Edition, Grouped, Outcome, Premise, Sou
 use teco_explain::position_in;
 use teco_poly::Poly;
 use teco_promise::Promise;
-use teco_source::{Position, Shown, Source};
+use teco_source::{LineAndByte, Shown, Source};
 use teco_verify::{Account, account_of};
 
 /// How large a count is, at the least, that is to blame.
@@ -43,7 +43,7 @@ fn largest_count(account: &Account<'_>) -> Option<BlamedCount> {
 }
 
 // The position of a count in the library file.
-fn position_of(source: &Source, account: &Account<'_>, count: BlamedCount) -> Option<Position> {
+fn position_of(source: &Source, account: &Account<'_>, count: BlamedCount) -> Option<LineAndByte> {
     let place = account.begin(count.number)?;
     position_in(source, account.register(count.number), place)
 }
@@ -52,7 +52,7 @@ fn position_of(source: &Source, account: &Account<'_>, count: BlamedCount) -> Op
 #[derive(Clone, Copy)]
 enum Blame {
     // a count at a position
-    Count(Position, u64),
+    Count(LineAndByte, u64),
     // what is held, or the number of commands, grows too fast for the texts of the library alone
     Growth(Premise),
 }
@@ -73,7 +73,7 @@ impl Blame {
 impl fmt::Display for Blame {
     fn fmt<W: fmt::Write>(&self, f: &mut fmt::Formatter<W>) -> fmt::Result {
         match self {
-            Blame::Count(Position { line, column }, most) => {
+            Blame::Count(LineAndByte { line, column }, most) => {
                 let most = Grouped(*most);
                 write!(f, "the count at {line}:{column} may be up to {most}")
             }

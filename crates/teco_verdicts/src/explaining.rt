@@ -16,7 +16,7 @@ use teco_console::{
     AnswerFault, Console, Edition, Method, Outcome, Request, Shelf, Sourced, element_at, written,
 };
 use teco_library::Library;
-use teco_source::{Position, Shown};
+use teco_source::{LineAndByte, Shown};
 use teco_verify::{Account, account_of};
 
 /// The name of a register, or a hyphen.
@@ -44,7 +44,7 @@ pub fn shown_place(
     place: usize,
     is_end: bool,
 ) -> Result<String, AllocError> {
-    let Position { line, column } = Position::of(text, place);
+    let LineAndByte { line, column } = LineAndByte::of(text, place);
     if is_end {
         return format!(in alloc; "{name}:{line}:{column}\t(return)");
     }
@@ -194,12 +194,18 @@ fn explain_by_either<O: Write + Drop, E: Write + Drop>(
 ) -> Result<Outcome, AnswerFault> {
     match verify_linear(&sourced.library, entry, console.alloc) {
         Ok(claimed) => list_claimed(console, sourced, &claimed),
-        Err(refused) => {
+        Err(unverified) => {
             let account = account_of(console.alloc, &sourced.library, entry)?;
             if account.verdict().is_ok() {
                 return list_account(console, sourced, &account);
             }
-            tell_refused(console, &sourced.source, &sourced.library, entry, &refused)
+            tell_refused(
+                console,
+                &sourced.source,
+                &sourced.library,
+                entry,
+                &unverified,
+            )
         }
     }
 }
@@ -212,7 +218,13 @@ fn explain_claims<O: Write + Drop, E: Write + Drop>(
 ) -> Result<Outcome, AnswerFault> {
     match verify_linear(&sourced.library, entry, console.alloc) {
         Ok(claimed) => list_claimed(console, sourced, &claimed),
-        Err(refused) => tell_refused(console, &sourced.source, &sourced.library, entry, &refused),
+        Err(unverified) => tell_refused(
+            console,
+            &sourced.source,
+            &sourced.library,
+            entry,
+            &unverified,
+        ),
     }
 }
 

@@ -13,7 +13,7 @@ use teco_explain::{number_of, position_in};
 use teco_library::Library;
 use teco_poly::Poly;
 use teco_promise::Promise;
-use teco_source::{Position, Source};
+use teco_source::{LineAndByte, Source};
 use teco_verify::Refusal;
 
 /// How many coefficients a polynomial has at most.
@@ -135,9 +135,9 @@ fn answer_accepted<O: Write + Drop, E: Write + Drop>(
 }
 
 // The line and the column of a place, if the file says it.
-fn numbers_of(position: Option<Position>) -> (Nullable, Nullable) {
+fn numbers_of(position: Option<LineAndByte>) -> (Nullable, Nullable) {
     match position {
-        Some(Position { line, column }) => {
+        Some(LineAndByte { line, column }) => {
             (Nullable(Some(line as u64)), Nullable(Some(column as u64)))
         }
         None => (Nullable(None), Nullable(None)),
@@ -145,7 +145,7 @@ fn numbers_of(position: Option<Position>) -> (Nullable, Nullable) {
 }
 
 // The position in its file that a refusal is at, if the file says it.
-fn position_at(source: &Source, refusal: &Refusal) -> Option<Position> {
+fn position_at(source: &Source, refusal: &Refusal) -> Option<LineAndByte> {
     match refusal {
         Refusal::No {
             register,

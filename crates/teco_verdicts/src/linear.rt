@@ -11,12 +11,12 @@ ghost use Rattle.teco_verify.specs.Refusing.{IsOfCertificate};
 use crate::blame::tell_premise;
 use crate::checking::{other_edition, tell_other_edition};
 use crate::claim::ClaimedCertificate;
-use crate::reasoning::{moved_too_far, reason_of};
+use crate::reasoning::{RefusedMacro, reason_of};
 use crate::verifying::refuse;
 use std::alloc::Global;
 use std::io::Write;
 use teco_base::Reg;
-use teco_claimed::{Claimed, LinearRefusal, NodePlace, check_linear, verify_linear};
+use teco_claimed::{Claimed, LinearRefusal, NodePlace, Unverified, check_linear, verify_linear};
 use teco_console::{
     AnswerFault, Console, Edition, NAMES, Outcome, SearchDoubts, Sourced, write_bytes,
 };
@@ -150,7 +150,7 @@ pub fn verified_by_claims<'l>(
 {
     match verify_linear(library, entry, alloc) {
         Ok(claimed) => Ok(claimed),
-        Err(refused) => Err(refusal_of(alloc, library, entry, &refused)),
+        Err(unverified) => Err(refusal_of(alloc, library, entry, &unverified.refusal)),
     }
 }
 
@@ -227,15 +227,26 @@ pub fn tell_refused<O: Write + Drop, E: Write + Drop>(
     source: &Source,
     library: &Library,
     entry: Reg,
-    refused: &LinearRefusal,
+    unverified: &Unverified,
 ) -> Result<Outcome, AnswerFault>
     ensures { Answers (VerdictByClaims library.now entry)
         (O.contents console.old.out) (O.contents console.new.out) result }
 {
-    let refusal = refusal_of(console.alloc, library, entry, refused);
-    let far = moved_too_far(&refusal);
-    let reason = reason_of(console.alloc, source, library, entry, far);
-    refuse_claims(console, source, refusal, refused, reason.as_str())
+    let refusal = refusal_of(console.alloc, library, entry, &unverified.refusal);
+    let refused = RefusedMacro {
+        source,
+        library,
+        entry,
+        refusal: &refusal,
+    };
+    let reason = reason_of(console.alloc, &refused, &unverified.unshown);
+    refuse_claims(
+        console,
+        source,
+        refusal,
+        &unverified.refusal,
+        reason.as_str(),
+    )
 }
 
 /// Prints the certificate of a macro of a library by claims that were found, or why there are none.
@@ -244,7 +255,7 @@ pub fn answer_claims<O: Write + Drop, E: Write + Drop>(
     source: &Source,
     library: &Library,
     entry: Reg,
-    found: Result<Claimed<'_>, LinearRefusal>,
+    found: Result<Claimed<'_>, Unverified>,
 ) -> Result<Outcome, AnswerFault>
     requires library { IfOk found (λ claimed. claimed.library ≡ library.now) }
     requires declared { IfOk found (λ claimed. TakesDeclared library.now claimed.certificate) }
@@ -257,7 +268,7 @@ pub fn answer_claims<O: Write + Drop, E: Write + Drop>(
             claimed.is_checked();
             accept(console, source, &claimed)
         }
-        Err(refused) => tell_refused(console, source, library, entry, &refused),
+        Err(unverified) => tell_refused(console, source, library, entry, &unverified),
     }
 }
 

@@ -1,7 +1,7 @@
 //! Changes by which a refused macro would be accepted.
 use std::alloc::{AllocError, Global};
 use teco_base::{LIMIT, Reg};
-use teco_claimed::verify_linear;
+use teco_claimed::verify_quickly;
 use teco_explain::place_in;
 use teco_library::Library;
 use teco_source::Source;
@@ -52,7 +52,7 @@ fn changed_text(alloc: Global, source: &Source, change: MacroChange) -> Option<V
     text_with(alloc, source.text(), place, change.mend.words()).ok()
 }
 
-/// Is a macro of a source accepted by claims with a change?
+/// Is a macro of a source accepted with a change, by claims that the quickest way finds?
 pub fn is_mended(alloc: Global, source: &Source, entry: Reg, change: MacroChange) -> bool {
     let Some(text) = changed_text(alloc, source, change) else {
         return false;
@@ -61,7 +61,7 @@ pub fn is_mended(alloc: Global, source: &Source, entry: Reg, change: MacroChange
         return false;
     }
     match Library::read(alloc, &text) {
-        Ok(library) => verify_linear(&library, entry, alloc).is_ok(),
+        Ok(library) => verify_quickly(&library, entry, alloc).is_ok(),
         Err(_) => false,
     }
 }

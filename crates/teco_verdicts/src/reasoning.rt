@@ -6,7 +6,7 @@ use std::alloc::{AllocError, Global};
 use std::fmt;
 use teco_base::Reg;
 use teco_base::bytes::{LF, is_blank};
-use teco_claimed::{NodePlace, Unshown, why_unshown};
+use teco_claimed::{NodePlace, Unshown};
 use teco_claims::Claim;
 use teco_console::{Stated, all_stated, element_at};
 use teco_explain::place_in;
@@ -222,8 +222,8 @@ fn is_mended_at(alloc: Global, source: &Source, entry: Reg, at: NodePlace, mend:
     }
 }
 
-/// Where the element stands at which a macro is refused that may move or delete too far.
-pub fn moved_too_far(refusal: &Refusal) -> Option<NodePlace> {
+// Where the element stands at which a macro is refused that may move or delete too far.
+fn moved_too_far(refusal: &Refusal) -> Option<NodePlace> {
     match refusal {
         Refusal::No {
             why,
@@ -237,20 +237,23 @@ pub fn moved_too_far(refusal: &Refusal) -> Option<NodePlace> {
     }
 }
 
-// What would do at the place of an element, if there is one, or at this point, if that is found.
-fn mend_of(
-    alloc: Global,
-    source: &Source,
-    entry: Reg,
-    far: Option<NodePlace>,
-    point: NodePlace,
-) -> Option<Mend> {
-    if let Some(at) = far {
-        if is_mended_at(alloc, source, entry, at, Mend::Colon) {
+/// A macro of a library that is refused, and why.
+#[derive(Drop)]
+pub struct RefusedMacro<'a> {
+    pub source: &'a Source,
+    pub library: &'a Library,
+    pub entry: Reg,
+    pub refusal: &'a Refusal,
+}
+
+// What would do at the element at which it is refused, or at this point, if that is found.
+fn mend_of(alloc: Global, refused: &RefusedMacro<'_>, point: NodePlace) -> Option<Mend> {
+    if let Some(at) = moved_too_far(refused.refusal) {
+        if is_mended_at(alloc, refused.source, refused.entry, at, Mend::Colon) {
             return Some(Mend::Colon);
         }
     }
-    if is_mended_at(alloc, source, entry, point, Mend::Test) {
+    if is_mended_at(alloc, refused.source, refused.entry, point, Mend::Test) {
         return Some(Mend::Test);
     }
     None
@@ -259,16 +262,14 @@ fn mend_of(
 // What is known, and what would do.
 fn lines_of(
     alloc: Global,
-    source: &Source,
-    library: &Library,
+    refused: &RefusedMacro<'_>,
     found: &Unshown,
-    mend: Option<Mend>,
 ) -> Result<String, AllocError> {
     let mut lines = String::new(alloc);
-    let point = shown_at(alloc, source, library, found.at)?;
+    let point = shown_at(alloc, refused.source, refused.library, found.at)?;
     push_known(alloc, &mut lines, &found.reason, point.as_str())?;
-    push_ways(alloc, &mut lines, library, &found.ways)?;
-    match mend {
+    push_ways(alloc, &mut lines, refused.library, &found.ways)?;
+    match mend_of(alloc, refused, found.at) {
         Some(Mend::Colon) => push_line(
             alloc,
             &mut lines,
@@ -285,20 +286,10 @@ fn lines_of(
 }
 
 /// What would show a condition that could not be shown of a macro that is refused, what is known, and
-/// what change would do, in lines, as far as that can be told; `far` is where it may move or delete too
-/// far.
-pub fn reason_of(
-    alloc: Global,
-    source: &Source,
-    library: &Library,
-    entry: Reg,
-    far: Option<NodePlace>,
-) -> String {
-    match why_unshown(library, entry, alloc) {
-        Some(found) => {
-            let mend = mend_of(alloc, source, entry, far, found.at);
-            lines_of(alloc, source, library, &found, mend).unwrap_or(String::new(alloc))
-        }
+/// what change would do, in lines, as far as that can be told.
+pub fn reason_of(alloc: Global, refused: &RefusedMacro<'_>, found: &Option<Unshown>) -> String {
+    match found {
+        Some(found) => lines_of(alloc, refused, found).unwrap_or(String::new(alloc)),
         None => String::new(alloc),
     }
 }

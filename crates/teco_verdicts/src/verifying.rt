@@ -12,11 +12,12 @@ use crate::blame::{Held, tell_premise};
 use crate::explaining::tell_known;
 use crate::library::{explained, library_of, read_library};
 use crate::linear::{answer_claims, verify_claims};
-use crate::reasoning::{moved_too_far, reason_of};
+use crate::reasoning::{RefusedMacro, reason_of};
 use crate::verdict::Verdict;
+use std::alloc::Global;
 use std::io::Write;
 use teco_base::Reg;
-use teco_claimed::verify_linear;
+use teco_claimed::{verify_linear, verify_quickly};
 use teco_console::{
     AnswerFault, Console, Edition, Method, NAMES, Outcome, Request, SearchDoubts, Shelf, Sourced,
     macro_named, read_source, tell_dollars, write_bytes,
@@ -89,6 +90,20 @@ fn refuse_known<O: Write + Drop, E: Write + Drop>(
     Ok(outcome)
 }
 
+// What more would do for a macro that is refused, by the quickest way of looking.
+fn reason_anew(alloc: Global, sourced: &Sourced, entry: Reg, refusal: &Refusal) -> String {
+    let refused = RefusedMacro {
+        source: &sourced.source,
+        library: &sourced.library,
+        entry,
+        refusal,
+    };
+    match verify_quickly(&sourced.library, entry, alloc) {
+        Ok(_) => String::new(alloc),
+        Err(unverified) => reason_of(alloc, &refused, &unverified.unshown),
+    }
+}
+
 /// Says why a macro of a library is refused, and what is known there.
 #[tactic(auto, using(teco_console::proofs::Fronts::nothing))]
 pub fn refuse_macro<O: Write + Drop, E: Write + Drop>(
@@ -107,10 +122,8 @@ pub fn refuse_macro<O: Write + Drop, E: Write + Drop>(
             refuse_known(console, &sourced.source, &account, refusal)
         }
         Edition::Second => {
-            let far = moved_too_far(&refusal);
-            let (source, library) = (&sourced.source, &sourced.library);
-            let reason = reason_of(console.alloc, source, library, entry, far);
-            let outcome = refuse(console, source, refusal, Edition::Second)?;
+            let reason = reason_anew(console.alloc, sourced, entry, &refusal);
+            let outcome = refuse(console, &sourced.source, refusal, Edition::Second)?;
             if !reason.is_empty() {
                 console.say(reason.as_str());
             }

@@ -1,28 +1,20 @@
 -- A library that is accepted with nothing chosen.
-use Rattle.std.proofs.Common.{◌≡◌, subst, refl, sym, ap, ◌∙◌, ℕ, zero, suc, ◌<◌, ◌≤◌, List, [], ◌∷◌, length, map}
-use Rattle.std.proofs.Common.{false, Option, Some, None, Result, Ok, Err, slice_index_or, Bor, All, arith}
+use Rattle.teco_verify.proofs.Prelude.{◌≡◌, subst, refl, sym, ap, ◌∙◌, ℕ, zero, suc, ◌<◌, List, [], ◌∷◌, length, false}
+use Rattle.teco_verify.proofs.Prelude.{Option, Some, None, Result, Ok, Err, arith, AllByRecursion, list_any, REGISTERS}
+use Rattle.teco_verify.proofs.Prelude.{AreKept, RowIsKept, IfSome, ArgumentRange, begins, expansion, Library, Node}
+use Rattle.teco_verify.proofs.Prelude.{Polynomial, Facts, BeginsNoIteration, IsAccepted, check, derive, Table}
+use Rattle.teco_verify.proofs.Prelude.{plain_fields}
+use Rattle.std.proofs.Common.{◌≤◌, map}
+use Rattle.std.proofs.Common.{slice_index_or, Bor, All}
 use Rattle.std.proofs.lemmas.List.Elements.{All-nil}
-use Rattle.std.specs.List.{AllByRecursion, list_any}
 use Rattle.std.specs.Option.{option_copied, ForSome}
-use Rattle.teco_base.specs.declared.TheConstants.{LIMIT, REGISTERS}
+use Rattle.teco_base.specs.declared.TheConstants.{LIMIT}
 use Rattle.teco_certificate.specs.WellFormed.{IsWellFormed}
-use Rattle.teco_check.specs.Kept.{AreKept, RowIsKept}
-use Rattle.std.specs.Prelude.{IfSome}
-use Rattle.teco_model.specs.Macros.{ArgumentRange}
-use Rattle.teco_verifier.specs.table.Loops.{begins, loops_from, loops_of}
-use Rattle.teco_verifier.specs.expansion.Expansion.{expansion}
-use Rattle.teco_model.specs.Macros.{Library}
-use Rattle.teco_verifier.specs.expansion.Node.{Node}
+use Rattle.teco_verifier.specs.table.Loops.{loops_from, loops_of}
 use Rattle.teco_verifier.specs.expansion.Refusal as expanding
 use Rattle.teco_facts.specs.Numbers.{AreSmall, IsSmallFall}
 use Rattle.teco_facts.specs.declared.few.TheConstants.{DEPTH}
-use Rattle.teco_poly.specs.Polynomial.{Polynomial}
-use Rattle.teco_verifier.specs.facts.Facts.{Facts}
-use Rattle.teco_law_tables.specs.straight_text.Accepted.{BeginsNoIteration, Prints, RowIsOutside, IsAccepted}
-use Rattle.teco_verifier.specs.table.Closed.{check}
-use Rattle.teco_verifier.specs.table.Deriving.{derive}
-use Rattle.teco_verifier.specs.table.Table.{Table}
-use Rattle.teco_verify.specs.Straight.{plain_fields}
+use Rattle.teco_law_tables.specs.straight_text.Accepted.{Prints, RowIsOutside}
 
 -- the texts of a library
 pub within : (texts : List (Option (Bor (List ℕ)))) (r : ℕ) (text : List ℕ)

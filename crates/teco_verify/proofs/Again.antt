@@ -1,38 +1,21 @@
 -- What is made with choices is found with them, and so is what is made again from its text.
-use Rattle.std.proofs.Common.{◌≡◌, refl, ◌⊎◌, inl, inr, sym, ap, ◌∙◌, subst, ℕ, zero, suc, List, [], ◌∷◌, Bool, true}
-use Rattle.std.proofs.Common.{false, Option, Some, None, Result, Ok, Err, IsOk, ◌||◌, ◌<◌, arith}
-use Rattle.std.specs.List.{AllByRecursion, list_any}
-use Rattle.std.specs.Prelude.{IfOk, IfSome}
-use Rattle.teco_base.specs.declared.TheConstants.{REGISTERS}
-use Rattle.teco_certificate.specs.Reads.{IsTextOf}
+use Rattle.teco_verify.proofs.Prelude.{◌≡◌, refl, ◌⊎◌, inl, inr, sym, ap, ◌∙◌, subst, ℕ, zero, suc, List, [], ◌∷◌, true}
+use Rattle.teco_verify.proofs.Prelude.{false, Option, Some, None, Result, Ok, Err, IsOk, ◌<◌, arith, AllByRecursion}
+use Rattle.teco_verify.proofs.Prelude.{list_any, IfOk, IfSome, REGISTERS, IsTextOf, Derives, AreKept, RowIsKept}
+use Rattle.teco_verify.proofs.Prelude.{NotDerived, BeginsNoIteration, IsAccepted, LibraryFile, argument_of, Polynomial}
+use Rattle.teco_verify.proofs.Prelude.{ArgumentRange, Fields, Finding, expansion, Node, Facts, Chosen, check, derive}
+use Rattle.teco_verify.proofs.Prelude.{begins, commands, size, Table, AreMadeBy, AreFieldsOf, Certifies, IsJudged}
+use Rattle.teco_verify.proofs.Prelude.{IsPlain, fields_of, IsFound, plain_fields, CertificateFlaw, Refusal}
+use Rattle.std.proofs.Common.{Bool}
+use Rattle.std.proofs.Common.{◌||◌}
 use Rattle.teco_certificate.specs.WellFormed.{HasText, IsInOrder}
-use Rattle.teco_check.specs.Derived.{AreLarge, Derives}
-use Rattle.teco_check.specs.Kept.{AreKept, RowIsKept}
-use Rattle.teco_check.specs.declared.derivation.NotDerived.{NotDerived}
+use Rattle.teco_check.specs.Derived.{AreLarge}
 use Rattle.teco_check.specs.declared.derivation.NotDerived.TheVariants as fault
-use Rattle.teco_law_tables.specs.straight_text.Accepted.{BeginsNoIteration, IsAccepted}
-use Rattle.teco_library.specs.Library.{LibraryFile, argument_of}
-use Rattle.teco_poly.specs.Polynomial.{Polynomial}
-use Rattle.teco_model.specs.Macros.{ArgumentRange}
-use Rattle.teco_verifier.specs.certificate.Fields.{Fields, Finding}
-use Rattle.teco_verifier.specs.expansion.Expansion.{expansion}
-use Rattle.teco_verifier.specs.expansion.Node.{Node}
-use Rattle.teco_verifier.specs.facts.Facts.{Facts}
-use Rattle.teco_verifier.specs.table.Choices.{Chosen}
-use Rattle.teco_verifier.specs.table.Closed.{check}
-use Rattle.teco_verifier.specs.table.Deriving.{derive}
-use Rattle.teco_verifier.specs.table.Loops.{begins}
-use Rattle.teco_verifier.specs.table.Printed.{commands, size}
-use Rattle.teco_verifier.specs.table.Table.{Table, facts_at}
+use Rattle.teco_verifier.specs.table.Table.{facts_at}
 use Rattle.teco_verify.proofs.Accepted.{all_kept, is_well_formed, no_lines, these}
 use Rattle.teco_verify.specs.Accepting.{AcceptedIsChecked, AcceptedIsFound}
-use Rattle.teco_verify.specs.Again.{AreMadeAgain, AreMadeBy, AreMadeFrom, AreMadePlain, IsFoundAgain, PrintedIsAccepted}
-use Rattle.teco_verify.specs.Certifying.{AreFieldsOf, Certifies}
-use Rattle.teco_verify.specs.Refusing.{IsJudged, IsPlain, fields_of}
-use Rattle.teco_verify.specs.Straight.{IsFound, plain_fields}
-use Rattle.teco_verify.specs.declared.certifying.Flaw.{Flaw}
-use Rattle.teco_verify.specs.declared.certifying.Flaw.TheVariants as flaw
-use Rattle.teco_verify.specs.declared.refusal.Refusal.{Refusal}
+use Rattle.teco_verify.specs.Again.{AreMadeAgain, AreMadeFrom, AreMadePlain, IsFoundAgain, PrintedIsAccepted}
+use Rattle.teco_verify.specs.declared.certifying.CertificateFlaw.TheVariants as flaw
 
 -- ---- kept facts are not too large
 row_not_large : (known : Option Facts) → IfSome known AreKept → AreLarge known → ⊥
@@ -77,7 +60,8 @@ module _ (argument : Option ArgumentRange) (nodes : List Node) (chosen : List Ch
     none_overflows number (inl is) = let no : Ok fields.commands ≡ Err number = sym printed.commands_are ∙ is in cc
     none_overflows number (inr is) = let no : Ok fields.size ≡ Err number = sym printed.size_is ∙ is.1 in cc
 
-    pub flawed_only_memory : (why : Flaw) → Certifies argument nodes table entry (Err why) → why ≡ flaw.Memory
+    pub flawed_only_memory : (why : CertificateFlaw) → Certifies argument nodes table entry (Err why)
+        → why ≡ flaw.Memory
     flawed_only_memory (flaw.Open number) f = let no : Ok tt ≡ Err number = sym closed ∙ f in absurd (cc)
     flawed_only_memory (flaw.Overflow number) f = absurd (none_overflows number f.here)
     flawed_only_memory flaw.Memory f = refl

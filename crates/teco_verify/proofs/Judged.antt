@@ -1,33 +1,19 @@
 -- Where nothing has to be chosen, what is refused is what the rules, the check and the printed numbers refuse.
-use Rattle.std.proofs.Common.{◌≡◌, ◌⊎◌, inl, inr, sym, ap, ◌∙◌, subst, ℕ, List, [], false, Result, Ok, Err, IsOk}
-use Rattle.std.proofs.Common.{Option}
-use Rattle.std.specs.List.{list_any}
-use Rattle.teco_check.specs.declared.derivation.NotDerived.{NotDerived}
+use Rattle.teco_verify.proofs.Prelude.{◌≡◌, ◌⊎◌, inl, inr, sym, ap, ◌∙◌, subst, ℕ, List, [], false, Result, Ok, Err}
+use Rattle.teco_verify.proofs.Prelude.{IsOk, Option, list_any, NotDerived, Derives, DerivesUpTo, node_at, begins}
+use Rattle.teco_verify.proofs.Prelude.{expansion, Node, LibraryFile, argument_of, ArgumentRange, check, Chosen, derive}
+use Rattle.teco_verify.proofs.Prelude.{commands, size, Polynomial, Finding, Table, IsFound, AreFieldsOf, Certifies}
+use Rattle.teco_verify.proofs.Prelude.{CertificateFlaw, Refusal, IsJudged, IsPlain, fields_of, refusal_of_unfit}
+use Rattle.teco_verify.proofs.Prelude.{unfit_by, unfit_of}
 use Rattle.teco_check.specs.declared.derivation.NotDerived.TheVariants as fault
-use Rattle.teco_check.specs.Derived.{Derives, DerivesUpTo, IsNotLarge, IsRefusedAt}
-use Rattle.teco_check.specs.Here.{node_at}
-use Rattle.teco_verifier.specs.table.Loops.{begins}
-use Rattle.teco_verifier.specs.expansion.Expansion.{expansion}
-use Rattle.teco_verifier.specs.expansion.Node.{Node}
-use Rattle.teco_library.specs.Library.{LibraryFile, argument_of}
-use Rattle.teco_model.specs.Macros.{ArgumentRange}
+use Rattle.teco_check.specs.Derived.{IsNotLarge, IsRefusedAt}
 use Rattle.teco_verifier.specs.declared.refusal.Refusal as rules
 use Rattle.teco_verifier.specs.declared.refusal.Refusal.TheVariants as why
-use Rattle.teco_verifier.specs.table.Closed.{check}
-use Rattle.teco_verifier.specs.table.Choices.{Chosen}
-use Rattle.teco_verifier.specs.table.Deriving.{derive}
-use Rattle.teco_verifier.specs.table.Printed.{commands, size, IsPrinted}
-use Rattle.teco_poly.specs.Polynomial.{Polynomial}
-use Rattle.teco_verifier.specs.certificate.Fields.{Finding}
-use Rattle.teco_verifier.specs.table.Table.{Table}
+use Rattle.teco_verifier.specs.table.Printed.{IsPrinted}
 use Rattle.teco_verify.proofs.Again.{fields_are}
-use Rattle.teco_verify.specs.Straight.{IsFound}
-use Rattle.teco_verify.specs.Certifying.{AreFieldsOf, Certifies, Overflows}
-use Rattle.teco_verify.specs.declared.certifying.Flaw.{Flaw}
-use Rattle.teco_verify.specs.declared.certifying.Flaw.TheVariants as flaw
-use Rattle.teco_verify.specs.declared.refusal.Refusal.{Refusal}
-use Rattle.teco_verify.specs.Refusing.{IsJudged, IsPlain, IsRefused, IsToldByRules, fields_of, refusal_at}
-use Rattle.teco_verify.specs.Refusing.{refusal_of_unfit, unfit_by, unfit_of}
+use Rattle.teco_verify.specs.Certifying.{Overflows}
+use Rattle.teco_verify.specs.declared.certifying.CertificateFlaw.TheVariants as flaw
+use Rattle.teco_verify.specs.Refusing.{IsRefused, IsToldByRules, refusal_at}
 
 module _ (library : LibraryFile) (entry : ℕ) where
   module _ (nodes : List Node) (expanded : expansion library.texts entry ≡ Ok nodes) where
@@ -150,7 +136,7 @@ module _ (library : LibraryFile) (entry : ℕ) where
           cc in
           fields_are argument nodes table entry steps most found.fields f first second
 
-      flawed_here : (entry : ℕ) (flaw : Flaw) → Certifies argument nodes table entry (Err flaw)
+      flawed_here : (entry : ℕ) (flaw : CertificateFlaw) → Certifies argument nodes table entry (Err flaw)
           → IsJudgedHere argument (Err (refusal_of_unfit nodes (unfit_by flaw)))
       flawed_here entry (flaw.Open number) f = record {
         derived = λ none reason e. absurd (not_refused reason e);
@@ -216,7 +202,7 @@ module _ (library : LibraryFile) (entry : ℕ) where
       derived_so : derive (argument_of library entry) nodes [] ≡ Ok table
       derived_so = subst (λ those. derive (argument_of library entry) nodes those ≡ Ok table) nothing derived
 
-      pub flawed_judged : (flaw : Flaw) → Certifies (argument_of library entry) nodes table entry (Err flaw)
+      pub flawed_judged : (flaw : CertificateFlaw) → Certifies (argument_of library entry) nodes table entry (Err flaw)
           → IsJudged library entry (Err (refusal_of_unfit nodes (unfit_by flaw)))
       flawed_judged flaw f = judged_so (Err (refusal_of_unfit nodes (unfit_by flaw)))
           (flawed_here (argument_of library entry) table derived_so entry flaw f)

@@ -1,4 +1,5 @@
 -- Lemmas of verdicts.
+mod Prelude
 mod Accepted
 mod Refused
 mod Telling

@@ -1,10 +1,10 @@
 -- An expansion has a node at least, that of the call of the entry.
-use Rattle.std.proofs.Common.{◌≡◌, subst, ℕ, suc, ◌+◌, ◌<◌, List, [], ◌∷◌, length, Result, Ok, Err, arith}
-use Rattle.teco_verifier.specs.expansion.Expansion.{MOST_ELEMENTS, Visit, Walk, expansion, first_visit, next_visit}
+use Rattle.teco_verify.proofs.Prelude.{◌≡◌, subst, ℕ, suc, ◌<◌, List, [], ◌∷◌, length, Result, Ok, Err, arith}
+use Rattle.teco_verify.proofs.Prelude.{expansion, Library, Node}
+use Rattle.std.proofs.Common.{◌+◌}
+use Rattle.teco_verifier.specs.expansion.Expansion.{MOST_ELEMENTS, Visit, Walk, first_visit, next_visit}
 use Rattle.teco_verifier.specs.expansion.Expansion.{nodes_at, node_at, unless_refused, walk, walk_behind, walk_while}
 use Rattle.teco_verifier.specs.expansion.Expansion.{whole_walk_of}
-use Rattle.teco_model.specs.Macros.{Library}
-use Rattle.teco_verifier.specs.expansion.Node.{Node}
 use Rattle.teco_verifier.specs.expansion.Refusal.{Reason, Refusal, ◌>>=◌}
 
 -- a walk visits what it begins with

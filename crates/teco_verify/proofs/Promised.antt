@@ -1,11 +1,9 @@
 -- What is certified is promised.
-use Rattle.std.proofs.Common.{subst}
+use Rattle.teco_verify.proofs.Prelude.{subst, Finding, IsCertified}
 use Rattle.teco_law_expansion.specs.Linked.{ExpansionsAreLinked}
 use Rattle.teco_law_facts.specs.SoundSteps.{AreOpen}
 use Rattle.teco_law_tables.specs.Verified.{RunsAreVerified, n_of}
 use Rattle.teco_promise.specs.Promise.{EachRunEnds}
-use Rattle.teco_verifier.specs.certificate.Fields.{Finding}
-use Rattle.teco_verify.specs.Certified.{IsCertified}
 use Rattle.teco_verify.specs.Promised.{promise_of}
 
 pub certified_ends : ExpansionsAreLinked → RunsAreVerified → (found : Finding) → IsCertified found.library found.fields

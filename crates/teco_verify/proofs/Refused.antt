@@ -1,9 +1,6 @@
 -- Where memory alone is refused, that is still so.
-use Rattle.std.proofs.Common.{◌≡◌, subst, sym, refl, Result, Err}
-use Rattle.teco_verifier.specs.certificate.Fields.{Fields, Finding}
-use Rattle.teco_verify.specs.declared.refusal.Refusal.{Refusal}
+use Rattle.teco_verify.proofs.Prelude.{◌≡◌, subst, sym, refl, Result, Err, Fields, Finding, Refusal, IsFound}
 use Rattle.teco_verify.specs.declared.refusal.Refusal.TheVariants.{No, Memory}
-use Rattle.teco_verify.specs.Straight.{IsFound}
 
 pub still_refused : (fields : Fields) (why new : Refusal) → (why ≡ Memory → new ≡ Memory) → IsFound fields (Err why)
     → IsFound fields (Err new)

@@ -10,8 +10,8 @@ use Rattle.teco_model.specs.Macros.{ArgumentRange}
 use Rattle.teco_verifier.specs.table.Closed.{check}
 use Rattle.teco_verifier.specs.table.Printed.{commands, size, needs_in}
 use Rattle.teco_verifier.specs.table.Table.{Table}
-use Rattle.teco_verify.specs.declared.certifying.Flaw.{Flaw}
-use Rattle.teco_verify.specs.declared.certifying.Flaw.TheVariants as flaw
+use Rattle.teco_verify.specs.declared.certifying.CertificateFlaw.{CertificateFlaw}
+use Rattle.teco_verify.specs.declared.certifying.CertificateFlaw.TheVariants as flaw
 
 -- its argument, numbers, needs and lines
 pub record AreFieldsOf (argument : Option ArgumentRange) (nodes : List Node) (table : Table) (entry : ℕ)
@@ -30,19 +30,19 @@ pub record Overflows (argument : Option ArgumentRange) (nodes : List Node) (tabl
       ⊎ (IsOk (commands argument nodes table) × (size nodes table ≡ Err number))
 
 -- These, or the node at which it is not closed or a number overflows.
-abbrev pub Certifies : Option ArgumentRange → List Node → Table → ℕ → Result Finding Flaw → Type 0
+abbrev pub Certifies : Option ArgumentRange → List Node → Table → ℕ → Result Finding CertificateFlaw → Type 0
 Certifies argument nodes table entry (Ok found) = AreFieldsOf argument nodes table entry found.fields
 Certifies argument nodes table entry (Err (flaw.Open number)) = check argument nodes table ≡ Err number
 Certifies argument nodes table entry (Err (flaw.Overflow number)) = Overflows argument nodes table number
 Certifies argument nodes table entry (Err flaw.Memory) = ⊤
 
 -- why, where it is not closed
-abbrev pub flaw_by : Bad → Flaw
+abbrev pub flaw_by : Bad → CertificateFlaw
 flaw_by (bad.Edge number) = flaw.Open number
 flaw_by bad.Memory = flaw.Memory
 
 -- there is a node of the number that is told
-abbrev pub IsFlawIn : List Node → Flaw → Type 0
+abbrev pub IsFlawIn : List Node → CertificateFlaw → Type 0
 IsFlawIn nodes (flaw.Open number) = IsNumberOf nodes number
 IsFlawIn nodes (flaw.Overflow number) = IsNumberOf nodes number
 IsFlawIn nodes flaw.Memory = ⊤

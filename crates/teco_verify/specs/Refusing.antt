@@ -27,8 +27,8 @@ use Rattle.teco_verifier.specs.table.Deriving.{derive}
 use Rattle.teco_verifier.specs.table.Printed.{needs_in, IsPrinted}
 use Rattle.teco_verifier.specs.table.Table.{Table}
 use Rattle.teco_verify.specs.Certifying.{Overflows}
-use Rattle.teco_verify.specs.declared.certifying.Flaw.{Flaw}
-use Rattle.teco_verify.specs.declared.certifying.Flaw.TheVariants as flaw
+use Rattle.teco_verify.specs.declared.certifying.CertificateFlaw.{CertificateFlaw}
+use Rattle.teco_verify.specs.declared.certifying.CertificateFlaw.TheVariants as flaw
 use Rattle.teco_verify.specs.declared.refusal.Refusal.{Refusal}
 use Rattle.teco_verify.specs.declared.refusal.Refusal.TheVariants as refusal
 use Rattle.teco_verify.specs.Straight.{IsFound}
@@ -164,7 +164,7 @@ unfit_of (underived.Refused reason number) = unfits.Refused reason number
 unfit_of (underived.Large number) = unfits.Refused why.Bound number
 unfit_of underived.Memory = unfits.Memory
 
-abbrev pub unfit_by : Flaw → Unfit
+abbrev pub unfit_by : CertificateFlaw → Unfit
 unfit_by (flaw.Open number) = unfits.Refused why.Bound number
 unfit_by (flaw.Overflow number) = unfits.Refused why.Overflow number
 unfit_by flaw.Memory = unfits.Memory

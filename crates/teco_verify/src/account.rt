@@ -19,7 +19,7 @@ ghost use Rattle.teco_verify.specs.Straight.{StraightIsVerified};
 ghost use Rattle.teco_verify.specs.Accepting.{AcceptedIsFound};
 ghost use Rattle.teco_verify.specs.Telling.{AcceptedIsTold, IsVerdict, expanded, node_in};
 
-use crate::asked::Asked;
+use crate::asked::AskedMacro;
 use crate::known::Known;
 use crate::refusal::{Refusal, register_at};
 use crate::verdict::{found_of, texts_are_within};
@@ -29,7 +29,7 @@ use std::alloc::{AllocError, Global};
 use std::marker::Model;
 use teco_base::Reg;
 use teco_check::{Table, begins_iteration, turns};
-use teco_expansion::{ExpandFault, Nodes, Refusal as Unexpanded, expand};
+use teco_expansion::{ExpandFault, Nodes, PlacedReason as Unexpanded, expand};
 use teco_facts::Choice;
 use teco_law_tables::straight::straight_texts_are_accepted;
 use teco_library::Library;
@@ -85,6 +85,10 @@ impl<'l> Account<'l> {
     }
 
     /// Whether it is accepted, as `verify` says it.
+    ///
+    /// # Errors
+    ///
+    /// The refusal of the macro, as `verify` gives it.
     pub fn verdict(&self) -> Result<&Verified<'l>, Refusal>
         ensures { IsVerdict self.now.verdict result }
     {
@@ -211,7 +215,7 @@ fn table_of(
 }
 
 // What is known of a macro.
-fn accounted<'l>(alloc: Global, asked: &Asked<'l>) -> Result<Account<'l>, AllocError>
+fn accounted<'l>(alloc: Global, asked: &AskedMacro<'l>) -> Result<Account<'l>, AllocError>
     ensures nodes { IfOk result (λ told. told.nodes
         ≡ expanded (expansion asked.now.library.now.texts asked.now.entry)) }
     ensures library { IfOk result (λ told. IfOk told.verdict
@@ -250,6 +254,10 @@ fn accounted<'l>(alloc: Global, asked: &Asked<'l>) -> Result<Account<'l>, AllocE
 
 /// Tells what the verifier knows of a macro: the verdict of `verify`, and what it rests on. Where
 /// the macro is refused, it passes each element once more than `verify` does.
+///
+/// # Errors
+///
+/// `AllocError` where memory is refused.
 pub fn account_of<'l>(
     alloc: Global,
     library: &'l Library,
@@ -275,6 +283,6 @@ pub fn account_of<'l>(
 {
     straight_texts_are_accepted();
     texts_are_within(library);
-    let asked = Asked { library, entry };
+    let asked = AskedMacro { library, entry };
     accounted(alloc, &asked)
 }

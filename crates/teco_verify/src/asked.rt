@@ -8,12 +8,12 @@ use teco_model::ArgumentRange;
 
 /// A macro of a library.
 #[derive(Clone, Copy)]
-pub struct Asked<'l> {
+pub struct AskedMacro<'l> {
     pub library: &'l Library,
     pub entry: Reg,
 }
 
-impl<'l> Asked<'l> {
+impl<'l> AskedMacro<'l> {
     /// The argument that the library declares for the macro, if it declares one.
     pub fn argument(&self) -> Option<ArgumentRange>
         ensures { result ≡ argument_of self.now.library.now self.now.entry }

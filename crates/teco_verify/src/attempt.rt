@@ -1,6 +1,6 @@
 //! A try at the choice for the body of an iteration.
 
-use crate::memo::{Body, Memo};
+use crate::memo::{BodyText, Memo};
 use std::alloc::{AllocError, Global};
 use teco_check::{choice_for, line_of};
 use teco_facts::{Changes, Choice, Facts, body_start, growth_of, held_last, joined_lengths};
@@ -30,7 +30,7 @@ pub struct Attempt {
 }
 
 /// What the facts at a `>` say of a try.
-pub enum Verdict {
+pub enum Judgement {
     /// The choice stands.
     Stands,
     /// Another one is to be tried.
@@ -39,7 +39,7 @@ pub enum Verdict {
 
 impl Attempt {
     /// The first try: the iteration is kept, and no more is held than at its `<`.
-    pub fn first(begin: usize, body: &Body, turns: Poly, entering: Facts) -> Attempt {
+    pub fn first(begin: usize, body: &BodyText, turns: Poly, entering: Facts) -> Attempt {
         let choice = Choice {
             held: entering.held(),
             kept: true,
@@ -133,19 +133,19 @@ impl Attempt {
     }
 
     /// What the facts at the `>` say of this try. Where another choice is to be tried, it is made.
-    pub fn judged(&mut self, end: &mut Facts) -> Result<Verdict, Refusal> {
+    pub fn judged(&mut self, end: &mut Facts) -> Result<Judgement, Refusal> {
         if let Some(why) = self.fault(end) {
             return Err(why);
         }
         if self.stands_here(end) {
-            return Ok(Verdict::Stands);
+            return Ok(Judgement::Stands);
         }
         if self.tries >= TRIES {
             return Err(Refusal::Bound);
         }
         self.tries += 1;
         self.choice = self.next_choice(end)?;
-        Ok(Verdict::Again)
+        Ok(Judgement::Again)
     }
 
     /// Keeps the choice, if it took more than one try.

@@ -6,9 +6,9 @@ ghost use Rattle.teco_library.specs.Library.{argument_of};
 ghost use Rattle.teco_verify.specs.Certifying.{flaw_by, Certifies, IsFlawIn};
 ghost use Rattle.teco_verify.specs.Certified.{TakesDeclared};
 ghost use Rattle.teco_verify.specs.Telling.{Tells};
-ghost use Rattle.teco_verify.specs.declared.certifying.Flaw.TheVariants as flaw;
+ghost use Rattle.teco_verify.specs.declared.certifying.CertificateFlaw.TheVariants as flaw;
 
-use crate::asked::Asked;
+use crate::asked::AskedMacro;
 use crate::verified::Verified;
 use std::alloc::{AllocError, Global};
 use teco_certificate::Certificate;
@@ -17,7 +17,7 @@ use teco_expansion::Nodes;
 
 /// Why a table certifies nothing.
 #[derive(Clone, Copy)]
-pub enum Flaw {
+pub enum CertificateFlaw {
     /// The table is not closed at a node.
     Open { number: usize },
     /// A printed number overflows at a node.
@@ -26,30 +26,30 @@ pub enum Flaw {
     Memory,
 }
 
-impl From<AllocError> for Flaw {
+impl From<AllocError> for CertificateFlaw {
     ghost from_gives = { λ _ why. why ≡ flaw.Memory };
 
-    fn from(_refused: AllocError) -> Flaw {
-        Flaw::Memory
+    fn from(_refused: AllocError) -> CertificateFlaw {
+        CertificateFlaw::Memory
     }
 }
 
-impl From<Bad> for Flaw {
+impl From<Bad> for CertificateFlaw {
     ghost from_gives = { λ bad why. why ≡ flaw_by bad };
 
-    fn from(bad: Bad) -> Flaw {
+    fn from(bad: Bad) -> CertificateFlaw {
         match bad {
-            Bad::Edge { node } => Flaw::Open { number: node },
-            Bad::Memory => Flaw::Memory,
+            Bad::Edge { node } => CertificateFlaw::Open { number: node },
+            Bad::Memory => CertificateFlaw::Memory,
         }
     }
 }
 
-impl From<Overflow> for Flaw {
+impl From<Overflow> for CertificateFlaw {
     ghost from_gives = { λ overflow why. why ≡ flaw.Overflow overflow.node };
 
-    fn from(overflow: Overflow) -> Flaw {
-        Flaw::Overflow {
+    fn from(overflow: Overflow) -> CertificateFlaw {
+        CertificateFlaw::Overflow {
             number: overflow.node,
         }
     }
@@ -59,10 +59,10 @@ impl From<Overflow> for Flaw {
 #[tactic(auto, using(crate::proofs::Nodes::begins))]
 pub fn certified<'l>(
     alloc: Global,
-    asked: &Asked<'l>,
+    asked: &AskedMacro<'l>,
     nodes: &Nodes<'_>,
     table: &Table,
-) -> Result<Verified<'l>, Flaw>
+) -> Result<Verified<'l>, CertificateFlaw>
     requires { expansion asked.now.library.now.texts asked.now.entry ≡ Ok nodes.now }
     ensures library { IfOk result (λ verified. verified.library ≡ asked.now.library.now.texts) }
     ensures argument { IfOk result (λ verified. TakesDeclared asked.now.library.now

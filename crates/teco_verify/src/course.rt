@@ -11,7 +11,7 @@ const WAYS: usize = 2;
 
 // What is read at a node, and the numbers of the nodes that its ways lead to.
 #[derive(Drop)]
-struct Stop<'a> {
+struct NodeReading<'a> {
     here: Here<'a>,
     ways: [Option<usize>; WAYS],
 }
@@ -19,12 +19,12 @@ struct Stop<'a> {
 /// The nodes, and what is read at each, since a pass may come to a node some hundred times. A node
 /// takes much memory, so the little that each pass needs of them lies together.
 #[derive(Drop)]
-pub struct Course<'n, 'a> {
+pub struct ReadNodes<'n, 'a> {
     pub nodes: &'n Nodes<'a>,
-    stops: Vec<Stop<'a>>,
+    stops: Vec<NodeReading<'a>>,
 }
 
-impl<'n, 'a> Model for Course<'n, 'a> {
+impl<'n, 'a> Model for ReadNodes<'n, 'a> {
     ghost use Rattle.std.specs.Prelude.{◌≡◌, List, length};
     ghost use Rattle.teco_verifier.specs.expansion.Node.{Node};
 
@@ -35,19 +35,19 @@ impl<'n, 'a> Model for Course<'n, 'a> {
     ghost invariant = { λ c. length c.stops.items ≡ length c.nodes.now };
 }
 
-impl<'n, 'a> Course<'n, 'a> {
+impl<'n, 'a> ReadNodes<'n, 'a> {
     /// Reads each node, if there is memory.
-    pub fn new(alloc: Global, nodes: &'n Nodes<'a>) -> Result<Course<'n, 'a>, AllocError>
+    pub fn new(alloc: Global, nodes: &'n Nodes<'a>) -> Result<ReadNodes<'n, 'a>, AllocError>
         ensures { IfOk result (λ course. course ≡ nodes.now) }
     {
         let mut stops = Vec::new(alloc);
         for at in 0..nodes.len() {
-            stops.push(Stop {
+            stops.push(NodeReading {
                 here: Here::at(nodes, at + 1),
                 ways: [nodes.way(at + 1, 0), nodes.way(at + 1, 1)],
             })?;
         }
-        Ok(Course { nodes, stops })
+        Ok(ReadNodes { nodes, stops })
     }
 
     /// What is read at the node of a number.

@@ -6,7 +6,7 @@
 //! by comparing all of them.
 
 use std::alloc::{AllocError, Global};
-use teco_facts::{Facts, Fault, Pushed, joined_pair};
+use teco_facts::{FactFault, Facts, Pushed, joined_pair};
 use teco_stack::{Chain, Stack};
 use teco_verifier::Refusal;
 
@@ -33,7 +33,7 @@ fn met_pairs(
     alloc: Global,
     first: &Chain<Pushed>,
     second: &Chain<Pushed>,
-) -> Result<Stack<Pushed>, Fault> {
+) -> Result<Stack<Pushed>, FactFault> {
     let mut pairs = Vec::new(alloc);
     let mut changed = 0;
     let (mut one, mut two, mut shared) = (first, second, first);
@@ -42,10 +42,10 @@ fn met_pairs(
             break;
         }
         let Some((of_one, one_below)) = one.parts() else {
-            return Err(Fault::Refused(Refusal::Pop));
+            return Err(FactFault::Refused(Refusal::Pop));
         };
         let Some((of_two, two_below)) = two.parts() else {
-            return Err(Fault::Refused(Refusal::Pop));
+            return Err(FactFault::Refused(Refusal::Pop));
         };
         let pair = joined_pair(of_one, of_two)?;
         push_pair(&mut pairs, pair)?;
@@ -72,7 +72,7 @@ pub fn may_meet(facts: &Facts, more: &Facts) -> bool {
 }
 
 /// What is known where two edges meet.
-pub fn met(alloc: Global, mut facts: Facts, mut more: Facts) -> Result<Facts, Fault> {
+pub fn met(alloc: Global, mut facts: Facts, mut more: Facts) -> Result<Facts, FactFault> {
     let first = facts.take_pushes();
     let second = more.take_pushes();
     let mut joined = if facts.has_registers_of(&more) {

@@ -23,7 +23,7 @@ const NODES: usize = 32;
 
 // A choice that was found, and from what.
 #[derive(Drop)]
-struct Found {
+struct FoundChoice {
     turns: Poly,
     entering: Facts,
     choice: Choice,
@@ -31,7 +31,7 @@ struct Found {
 
 /// What the text of an iteration tells of its body.
 #[derive(Clone, Copy)]
-pub struct Body {
+pub struct BodyText {
     /// The number of its `>`.
     pub end: usize,
     /// What it changes.
@@ -42,29 +42,29 @@ pub struct Body {
 
 // A body, and the choices that were found for it.
 #[derive(Drop)]
-struct Known {
-    body: Body,
-    found: Vec<Box<Found>>,
+struct KnownBody {
+    body: BodyText,
+    found: Vec<Box<FoundChoice>>,
 }
 
 /// The choices that were found, by the numbers of the `<`.
 #[derive(Drop)]
 pub struct Memo {
     alloc: Global,
-    bodies: Vec<Option<Box<Known>>>,
+    bodies: Vec<Option<Box<KnownBody>>>,
 }
 
 // What the text tells of the body of a `<`.
-fn body_of(nodes: &Nodes<'_>, begin: usize) -> Body {
+fn body_of(nodes: &Nodes<'_>, begin: usize) -> BodyText {
     let end = end_of(nodes, begin);
-    Body {
+    BodyText {
         end,
         changes: changes_in(nodes, begin),
         named: named_between(nodes, begin, end),
     }
 }
 
-impl Body {
+impl BodyText {
     // How many choices are kept for it, by the number of its `<`.
     fn kept(&self, begin: usize) -> usize
         ensures { 0 < result }
@@ -135,7 +135,7 @@ impl Memo {
     }
 
     // What is known of the body of a `<`.
-    fn known(&self, begin: usize) -> Option<&Known> {
+    fn known(&self, begin: usize) -> Option<&KnownBody> {
         match self.bodies.get(begin) {
             Some(Some(known)) => Some(&**known),
             _ => None,
@@ -143,14 +143,14 @@ impl Memo {
     }
 
     // What its text told of the body of a `<`, if that was looked through.
-    fn body_known(&self, begin: usize) -> Option<Body> {
+    fn body_known(&self, begin: usize) -> Option<BodyText> {
         self.known(begin).map(|known| known.body)
     }
 
     // What the text tells of the body of a `<` is known from now on.
-    fn put(&mut self, begin: usize, body: Body) -> Result<(), AllocError> {
+    fn put(&mut self, begin: usize, body: BodyText) -> Result<(), AllocError> {
         let found = Vec::new(self.alloc);
-        let known = Box::new(self.alloc, Known { body, found })?;
+        let known = Box::new(self.alloc, KnownBody { body, found })?;
         if let Some(slot) = self.bodies.get_mut(begin) {
             *slot = Some(known);
         }
@@ -166,7 +166,7 @@ impl Memo {
     }
 
     /// What the text tells of the body of a `<`.
-    pub fn body(&self, nodes: &Nodes<'_>, begin: usize) -> Body {
+    pub fn body(&self, nodes: &Nodes<'_>, begin: usize) -> BodyText {
         match self.body_known(begin) {
             Some(body) => body,
             None => body_of(nodes, begin),
@@ -213,7 +213,7 @@ impl Memo {
         }
         let found = Box::new(
             self.alloc,
-            Found {
+            FoundChoice {
                 turns,
                 entering,
                 choice,

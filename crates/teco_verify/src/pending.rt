@@ -16,22 +16,22 @@ struct Arrival {
 
 /// The edges that lead to nodes ahead, in the order in which they came.
 #[derive(Drop)]
-pub struct Pending {
+pub struct PendingEdges {
     alloc: Global,
     arrivals: Vec<Arrival>,
     // for each number of a node, the place of the last that waits there
     newest: Vec<Option<usize>>,
 }
 
-impl Pending {
+impl PendingEdges {
     /// No edge leads to any of so many nodes, if there is memory.
-    pub fn new(alloc: Global, nodes: usize) -> Result<Pending, AllocError> {
+    pub fn new(alloc: Global, nodes: usize) -> Result<PendingEdges, AllocError> {
         let mut newest = Vec::new(alloc);
         newest.push(None)?;
         for _at in 0..nodes {
             newest.push(None)?;
         }
-        Ok(Pending {
+        Ok(PendingEdges {
             alloc,
             arrivals: Vec::new(alloc),
             newest,

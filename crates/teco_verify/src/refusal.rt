@@ -6,12 +6,12 @@ ghost use Rattle.teco_expansion.specs.Refused.{reason_seen};
 ghost use Rattle.teco_verify.specs.Refusing as rules;
 ghost use Rattle.teco_verify.specs.declared.refusal.Refusal.TheVariants as refusal;
 
-use crate::certifying::Flaw;
+use crate::certifying::CertificateFlaw;
 use crate::unfit::Unfit;
 use std::alloc::AllocError;
 use teco_base::{REGISTERS, Reg};
 use teco_check::NotDerived;
-use teco_expansion::{ExpandFault, Nodes, Reason};
+use teco_expansion::{ExpandFault, ExpandReason, Nodes};
 use teco_verifier::Refusal as Why;
 
 /// Why a macro or a certificate is refused.
@@ -50,15 +50,15 @@ pub fn register_at(place: usize) -> Option<Reg>
 }
 
 // Why an element is not expanded.
-fn why_of(reason: Reason) -> Why
+fn why_of(reason: ExpandReason) -> Why
     ensures { result ≡ rules.why_of (reason_seen reason) }
 {
     match reason {
-        Reason::Fault => Why::Fault,
-        Reason::Unpaired => Why::Partner,
-        Reason::NoMacro => Why::Missing,
-        Reason::Recursion => Why::Recursion,
-        Reason::TooLarge => Why::Size,
+        ExpandReason::Fault => Why::Fault,
+        ExpandReason::Unpaired => Why::Partner,
+        ExpandReason::NoMacro => Why::Missing,
+        ExpandReason::Recursion => Why::Recursion,
+        ExpandReason::TooLarge => Why::Size,
     }
 }
 
@@ -130,18 +130,18 @@ pub fn unfit_underived(why: NotDerived) -> Unfit
 }
 
 /// Why a table that was derived certifies nothing, in the same way.
-pub fn unfit_flawed(flaw: Flaw) -> Unfit
+pub fn unfit_flawed(flaw: CertificateFlaw) -> Unfit
     ensures { result ≡ rules.unfit_by flaw }
 {
     match flaw {
-        Flaw::Open { number } => Unfit::Refused {
+        CertificateFlaw::Open { number } => Unfit::Refused {
             why: Why::Bound,
             number,
         },
-        Flaw::Overflow { number } => Unfit::Refused {
+        CertificateFlaw::Overflow { number } => Unfit::Refused {
             why: Why::Overflow,
             number,
         },
-        Flaw::Memory => Unfit::Memory,
+        CertificateFlaw::Memory => Unfit::Memory,
     }
 }

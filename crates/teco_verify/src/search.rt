@@ -4,11 +4,11 @@ ghost use Rattle.std.specs.Result.{IfErr};
 ghost use Rattle.teco_check.specs.Kept.{AreKept};
 ghost use Rattle.teco_verify.specs.Unfit.{IsAt, IsIn};
 
-use crate::attempt::{Attempt, Verdict};
-use crate::course::Course;
+use crate::attempt::{Attempt, Judgement};
+use crate::course::ReadNodes;
 use crate::meeting::met;
 use crate::memo::Memo;
-use crate::pending::Pending;
+use crate::pending::PendingEdges;
 use crate::unfit::{Unfit, Unfound};
 use std::alloc::{AllocError, Global};
 use teco_check::{Edges, are_kept, turns};
@@ -29,11 +29,11 @@ pub fn most_passed(nodes: usize) -> u64 {
 
 // A pass over the nodes, in their order, with what is tried for the iterations that are open.
 #[derive(Drop)]
-pub struct Search {
+pub struct NodePass {
     alloc: Global,
     // what comes from the node before
     carried: Option<Facts>,
-    pending: Pending,
+    pending: PendingEdges,
     memo: Memo,
     attempts: Vec<Attempt>,
     found: Vec<LoopLine>,
@@ -41,7 +41,7 @@ pub struct Search {
     given: Vec<LoopLine>,
 }
 
-impl Search {
+impl NodePass {
     /// None of so many nodes is passed. Choices that are given are the only ones that are tried for
     /// their iterations.
     pub fn new(
@@ -49,11 +49,11 @@ impl Search {
         argument: Option<ArgumentRange>,
         nodes: usize,
         given: Vec<LoopLine>,
-    ) -> Result<Search, AllocError> {
-        Ok(Search {
+    ) -> Result<NodePass, AllocError> {
+        Ok(NodePass {
             alloc,
             carried: Some(Facts::entry(alloc, argument)?),
-            pending: Pending::new(alloc, nodes)?,
+            pending: PendingEdges::new(alloc, nodes)?,
             memo: Memo::new(alloc, nodes)?,
             attempts: Vec::new(alloc),
             found: Vec::new(alloc),
@@ -144,7 +144,7 @@ impl Search {
             return Ok(None);
         };
         let verdict = match known {
-            None => Verdict::Stands,
+            None => Judgement::Stands,
             Some(end) => match attempt.judged(end) {
                 Ok(verdict) => verdict,
                 Err(why) => {
@@ -155,8 +155,8 @@ impl Search {
             },
         };
         match verdict {
-            Verdict::Stands => self.settle(&attempt)?,
-            Verdict::Again => return Ok(Some(self.again(attempt)?)),
+            Judgement::Stands => self.settle(&attempt)?,
+            Judgement::Again => return Ok(Some(self.again(attempt)?)),
         }
         Ok(None)
     }
@@ -184,7 +184,7 @@ impl Search {
     // Follows the ways of a node that is reached, but for those that begin a turn.
     fn depart(
         &mut self,
-        course: &Course<'_, '_>,
+        course: &ReadNodes<'_, '_>,
         number: usize,
         edges: &mut Edges,
     ) -> Result<(), Unfit>
@@ -208,7 +208,12 @@ impl Search {
     }
 
     // Goes on from a node that is reached.
-    fn go_on(&mut self, course: &Course<'_, '_>, number: usize, facts: Facts) -> Result<(), Unfit>
+    fn go_on(
+        &mut self,
+        course: &ReadNodes<'_, '_>,
+        number: usize,
+        facts: Facts,
+    ) -> Result<(), Unfit>
         requires one { 0 < number }
         requires last { number ≤ length course.now }
         requires kept { AreKept facts }
@@ -232,7 +237,7 @@ impl Search {
     }
 
     // Passes a node, and answers the number of the next.
-    fn pass(&mut self, course: &Course<'_, '_>, number: usize) -> Result<usize, Unfit>
+    fn pass(&mut self, course: &ReadNodes<'_, '_>, number: usize) -> Result<usize, Unfit>
         requires one { 0 < number }
         requires last { number ≤ length course.now }
         ensures next { IfOk result (λ next. 0 < next) }
@@ -246,7 +251,7 @@ impl Search {
     /// next.
     pub fn leave(
         &mut self,
-        course: &Course<'_, '_>,
+        course: &ReadNodes<'_, '_>,
         number: usize,
         mut known: Option<Facts>,
     ) -> Result<usize, Unfit>
@@ -270,7 +275,7 @@ impl Search {
     }
 
     // Passes all nodes, up to the end or to the first refusal, but no more than so many in all.
-    fn pass_all(&mut self, course: &Course<'_, '_>, most: u64) -> Result<(), Unfit>
+    fn pass_all(&mut self, course: &ReadNodes<'_, '_>, most: u64) -> Result<(), Unfit>
         ensures { IfErr result (IsIn course.now) }
     {
         let count = course.nodes.len();
@@ -331,10 +336,10 @@ pub fn choose(
 ) -> Result<Vec<LoopLine>, Unfound>
     ensures { IfErr result (λ unfound. IsIn nodes.now unfound.why) }
 {
-    let Ok(course) = Course::new(alloc, nodes) else {
+    let Ok(course) = ReadNodes::new(alloc, nodes) else {
         return Err(Unfound::memory(alloc));
     };
-    let Ok(mut search) = Search::new(alloc, argument, nodes.len(), Vec::new(alloc)) else {
+    let Ok(mut search) = NodePass::new(alloc, argument, nodes.len(), Vec::new(alloc)) else {
         return Err(Unfound::memory(alloc));
     };
     match search.pass_all(&course, most_passed(nodes.len())) {

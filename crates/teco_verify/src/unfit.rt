@@ -4,7 +4,7 @@ ghost use Rattle.teco_verify.specs.Unfit.{IsAt};
 ghost use Rattle.teco_verify.specs.declared.unfit.Unfit.TheVariants.{Memory};
 
 use std::alloc::{AllocError, AllocFailed, Global};
-use teco_facts::Fault;
+use teco_facts::FactFault;
 use teco_verifier::{LoopLine, Refusal};
 
 /// Why no choices are found.
@@ -27,12 +27,12 @@ impl Unfit {
     }
 
     // What a call on facts answers at a node.
-    pub fn by(fault: Fault, number: usize) -> Unfit
+    pub fn by(fault: FactFault, number: usize) -> Unfit
         ensures { IsAt number result }
     {
         match fault {
-            Fault::Refused(why) => Unfit::at(why, number),
-            Fault::Memory => Unfit::Memory,
+            FactFault::Refused(why) => Unfit::at(why, number),
+            FactFault::Memory => Unfit::Memory,
         }
     }
 }

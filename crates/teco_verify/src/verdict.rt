@@ -21,7 +21,7 @@ ghost use Rattle.teco_verify.specs.Telling.{Tells};
 ghost use Rattle.teco_verify.specs.Unfit.{IsIn};
 ghost use Rattle.teco_verify.specs.declared.refusal.Refusal.TheVariants as refusals;
 
-use crate::asked::Asked;
+use crate::asked::AskedMacro;
 use crate::certifying::certified;
 use crate::refusal::{Refusal, unfit_flawed, unfit_underived};
 use crate::search::choose;
@@ -95,7 +95,7 @@ impl<'l> Found<'l> {
 /// What is found with these choices.
 pub fn found_with<'l>(
     alloc: Global,
-    asked: &Asked<'l>,
+    asked: &AskedMacro<'l>,
     nodes: &Nodes<'_>,
     chosen: &[LoopLine],
 ) -> Found<'l>
@@ -147,7 +147,7 @@ fn choices(
 }
 
 // What is found of the nodes that a macro comes to, with the choices that the search finds.
-fn found_by_search<'l>(alloc: Global, asked: &Asked<'l>, nodes: &Nodes<'_>) -> Found<'l>
+fn found_by_search<'l>(alloc: Global, asked: &AskedMacro<'l>, nodes: &Nodes<'_>) -> Found<'l>
     requires { expansion asked.now.library.now.texts asked.now.entry ≡ Ok nodes.now }
     ensures library { IfOk result.verdict (λ verified. verified.library
         ≡ asked.now.library.now.texts) }
@@ -170,7 +170,7 @@ fn found_by_search<'l>(alloc: Global, asked: &Asked<'l>, nodes: &Nodes<'_>) -> F
 // What is found with the choices of a certificate, if what is found has its text.
 fn found_from<'l>(
     alloc: Global,
-    asked: &Asked<'l>,
+    asked: &AskedMacro<'l>,
     nodes: &Nodes<'_>,
     claimed: &Certificate,
     bytes: &[u8],
@@ -206,7 +206,7 @@ fn found_from<'l>(
 // choices that make it is not printed.
 fn found_again<'l>(
     alloc: Global,
-    asked: &Asked<'l>,
+    asked: &AskedMacro<'l>,
     nodes: &Nodes<'_>,
     first: &Verified<'l>,
 ) -> Found<'l>
@@ -236,7 +236,7 @@ fn found_again<'l>(
 }
 
 /// What is found of the nodes that a macro comes to, with the choices that are found for them.
-pub fn found_of<'l>(alloc: Global, asked: &Asked<'l>, nodes: &Nodes<'_>) -> Found<'l>
+pub fn found_of<'l>(alloc: Global, asked: &AskedMacro<'l>, nodes: &Nodes<'_>) -> Found<'l>
     requires { expansion asked.now.library.now.texts asked.now.entry ≡ Ok nodes.now }
     ensures library { IfOk result.verdict (λ verified. verified.library
         ≡ asked.now.library.now.texts) }
@@ -258,7 +258,7 @@ pub fn found_of<'l>(alloc: Global, asked: &Asked<'l>, nodes: &Nodes<'_>) -> Foun
 }
 
 // What is found of a macro.
-fn verified<'l>(alloc: Global, asked: &Asked<'l>) -> Result<Verified<'l>, Refusal>
+fn verified<'l>(alloc: Global, asked: &AskedMacro<'l>) -> Result<Verified<'l>, Refusal>
     ensures library { IfOk result (λ verified. verified.library ≡ asked.now.library.now.texts) }
     ensures argument { IfOk result (λ verified. TakesDeclared asked.now.library.now
         verified.fields) }
@@ -282,6 +282,19 @@ fn verified<'l>(alloc: Global, asked: &Asked<'l>) -> Result<Verified<'l>, Refusa
 ///
 /// Takes time by the elements of the texts that are called, and for each iteration up to four
 /// times those in its body.
+///
+/// # Errors
+///
+/// The reason of the refusal with its place, or `Memory`.
+///
+/// # Examples
+///
+/// ```
+/// let library = Library::read(alloc, b"@^UA/J<:Sa\x1b;-D>/").ok()?;
+/// let verified = verify(alloc, &library, Reg::of(b'A')?).ok()?;
+/// let certificate = verified.certificate(alloc).ok()?;
+/// Some(check_certificate(alloc, &library, &certificate).is_ok())
+/// ```
 pub fn verify<'l>(alloc: Global, library: &'l Library, entry: Reg) -> Result<Verified<'l>, Refusal>
     ensures library { IfOk result (λ verified. verified.library ≡ library.now.texts) }
     ensures argument { IfOk result (λ verified. TakesDeclared library.now verified.fields) }
@@ -296,7 +309,7 @@ pub fn verify<'l>(alloc: Global, library: &'l Library, entry: Reg) -> Result<Ver
 {
     straight_texts_are_accepted();
     texts_are_within(library);
-    let asked = Asked { library, entry };
+    let asked = AskedMacro { library, entry };
     verified(alloc, &asked)
 }
 
@@ -329,7 +342,7 @@ fn certified_by<'l>(
         Err(CertificateFault::Memory) => return Err(Refusal::Memory),
     };
     let nodes = expand(alloc, library, claimed.entry)?;
-    let asked = Asked {
+    let asked = AskedMacro {
         library,
         entry: claimed.entry,
     };
@@ -351,6 +364,10 @@ fn checked<'l>(alloc: Global, library: &'l Library, bytes: &[u8]) -> Result<Veri
 /// Checks a certificate for a library: its choices make a table that is closed for the argument that
 /// the library declares, and it is the text of that table's certificate. That of straight text is
 /// not refused.
+///
+/// # Errors
+///
+/// The reason of the refusal with its place, or `Memory`.
 pub fn check_certificate<'l>(
     alloc: Global,
     library: &'l Library,

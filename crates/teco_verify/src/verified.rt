@@ -114,6 +114,10 @@ impl<'l> Verified<'l> {
     }
 
     /// The text of its certificate.
+    ///
+    /// # Errors
+    ///
+    /// `AllocError` where memory is refused.
     pub fn certificate(&self, alloc: Global) -> Result<Vec<u8>, AllocError>
         ensures text { IfOk result (λ text. text.items ≡ certificate_text self.now.fields) }
         ensures parts { OnOk result (HasText self.now.fields) }

@@ -1,8 +1,8 @@
 //! What is known at the nodes, as far as the pass that finds the choices comes.
 ghost use Rattle.std.specs.Prelude.{◌<◌, ◌≤◌, length, IfOk};
 
-use crate::course::Course;
-use crate::search::{Search, most_passed};
+use crate::course::ReadNodes;
+use crate::search::{NodePass, most_passed};
 use crate::unfit::Unfit;
 use std::alloc::{AllocError, Global};
 use teco_check::{Row, Table, are_kept, choice_for};
@@ -13,11 +13,11 @@ use teco_verifier::LoopLine;
 
 // What was known at each node that was passed, in the order of their numbers.
 #[derive(Drop)]
-struct Trail {
+struct PassedNodes {
     known: Vec<Option<Facts>>,
 }
 
-impl Trail {
+impl PassedNodes {
     // Forgets what was known at a node, and behind it.
     fn forget_from(&mut self, number: usize) {
         self.known.truncate(number.saturating_sub(1));
@@ -59,13 +59,13 @@ fn row_of(number: usize, known: Option<Facts>, chosen: &[LoopLine]) -> Row {
     }
 }
 
-impl Search {
+impl NodePass {
     // Passes a node, and keeps what is known there.
     fn pass_seen(
         &mut self,
-        course: &Course<'_, '_>,
+        course: &ReadNodes<'_, '_>,
         number: usize,
-        trail: &mut Trail,
+        trail: &mut PassedNodes,
     ) -> Result<usize, Unfit>
         requires one { 0 < number }
         requires last { number ≤ length course.now }
@@ -78,7 +78,7 @@ impl Search {
     }
 
     // Passes the nodes up to the end or the first refusal, and keeps what is known.
-    fn follow(&mut self, course: &Course<'_, '_>, trail: &mut Trail) -> Result<(), Unfit> {
+    fn follow(&mut self, course: &ReadNodes<'_, '_>, trail: &mut PassedNodes) -> Result<(), Unfit> {
         let count = course.nodes.len();
         let mut number = 1;
         for _ in 0..most_passed(count) {
@@ -98,9 +98,9 @@ fn followed(
     nodes: &Nodes<'_>,
     given: Vec<LoopLine>,
 ) -> Result<Table, Unfit> {
-    let course = Course::new(alloc, nodes)?;
-    let mut search = Search::new(alloc, argument, nodes.len(), given)?;
-    let mut trail = Trail {
+    let course = ReadNodes::new(alloc, nodes)?;
+    let mut search = NodePass::new(alloc, argument, nodes.len(), given)?;
+    let mut trail = PassedNodes {
         known: Vec::new(alloc),
     };
     if let Err(Unfit::Memory) = search.follow(&course, &mut trail) {

@@ -6,12 +6,12 @@ use crate::arguments::CommandLine;
 use crate::fault::WordsFault;
 use clap::ArgMatches;
 use std::alloc::{AllocError, Global};
-use teco_apply::{NAME, Pages};
+use teco_apply::{NAME, PageChoice};
 use teco_base::Reg;
 use teco_base::bytes::ESC;
 use teco_console::{Edition, Escape, Method, Origin, STREAM, Setting};
 use teco_edits::{Change, FileChoice, Keeping, Look, Naming};
-use teco_source::{Form, Shown};
+use teco_source::{EscapeForm, Shown};
 use teco_tools::{INPUT, LetterCase, OUTPUT, Script};
 
 /// The register of the macro where an option names the library, and none the register.
@@ -169,19 +169,19 @@ pub fn mark_of(escape: Escape) -> u8 {
 }
 
 /// The form of a source that is printed.
-pub fn form_of_source(escape: Escape) -> Form {
+pub fn form_of_source(escape: Escape) -> EscapeForm {
     match escape {
-        Escape::Mark(mark) => Form::Marked(mark),
-        Escape::ByName => Form::Readable,
+        Escape::Mark(mark) => EscapeForm::Marked(mark),
+        Escape::ByName => EscapeForm::Readable,
     }
 }
 
 /// Which pages are edited.
-pub fn pages(words: &ArgMatches<'_>) -> Result<Pages, WordsFault> {
+pub fn pages(words: &ArgMatches<'_>) -> Result<PageChoice, WordsFault> {
     match word(words, "pages") {
-        "first" => Ok(Pages::First),
-        "each" => Ok(Pages::Each),
-        "whole" => Ok(Pages::Whole),
+        "first" => Ok(PageChoice::First),
+        "each" => Ok(PageChoice::Each),
+        "whole" => Ok(PageChoice::Whole),
         _ => Err(WordsFault::Pages),
     }
 }

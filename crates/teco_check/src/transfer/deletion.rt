@@ -6,7 +6,7 @@ ghost use Rattle.teco_check.specs.Shifts as shifts;
 
 use crate::transfer::count_of;
 use crate::transfer::motion::shift_by_lines;
-use teco_facts::{Facts, Foreseen, Margins, Number, Range, Shift, Taken};
+use teco_facts::{Facts, Foreseen, Margins, Number, Range, Shift, TakenFacts};
 use teco_model::kind::Unit;
 use teco_verifier::Refusal;
 
@@ -40,7 +40,7 @@ fn range_deletion(m: Number, n: Number, margins: Margins) -> Result<Shift, Refus
 }
 
 // Such a part, or so many characters or lines.
-fn shift_of(unit: Unit, taken: Taken, margins: Margins) -> Result<Shift, Refusal>
+fn shift_of(unit: Unit, taken: TakenFacts, margins: Margins) -> Result<Shift, Refusal>
     ensures { result ≡ shifts.deleting unit taken.first taken.value margins }
 {
     match (taken.first, taken.value, unit) {
@@ -51,7 +51,7 @@ fn shift_of(unit: Unit, taken: Taken, margins: Margins) -> Result<Shift, Refusal
 }
 
 /// A deletion of a number of characters, or of a part.
-pub fn deletion(unit: Unit, taken: Taken, facts: Facts) -> Result<Foreseen, Refusal>
+pub fn deletion(unit: Unit, taken: TakenFacts, facts: Facts) -> Result<Foreseen, Refusal>
     requires { AreSmall facts.position.falls }
     ensures { result ≡ deletions.deletion unit taken facts }
 {

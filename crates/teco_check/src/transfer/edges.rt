@@ -15,7 +15,8 @@ ghost use Rattle.teco_check.specs.Placed.{seen};
 use crate::transfer::{Edges, deletion, flow, motion, pages, query, search, storage, typing};
 use teco_base::LIMIT;
 use teco_facts::{
-    Answer, Facts, Fault, Foreseen, Level, Margins, Number, Range, Taken, run_value, stack,
+    Answer, FactFault, Facts, Foreseen, LevelFacts, Margins, Number, Range, TakenFacts, run_value,
+    stack,
 };
 use teco_model::kind::{Argument, Command, Flow, Kind, Page, Search, Stack, Value};
 use teco_model::{Element, Operator};
@@ -42,7 +43,11 @@ fn last_length() -> Number
 }
 
 // The level with a value that the machine has.
-fn level_with_value(value: Value, level: Level, margins: Margins) -> Result<Level, Refusal>
+fn level_with_value(
+    value: Value,
+    level: LevelFacts,
+    margins: Margins,
+) -> Result<LevelFacts, Refusal>
     ensures { result ≡ rules.level_with_value value margins level }
 {
     let given = match value {
@@ -71,9 +76,9 @@ fn facts_after_value(value: Value, facts: Facts) -> Result<Facts, Refusal>
 fn execution(
     command: Command,
     placed: &Placed<'_>,
-    taken: Taken,
+    taken: TakenFacts,
     facts: Facts,
-) -> Result<Foreseen, Fault>
+) -> Result<Foreseen, FactFault>
     requires { AreSmall facts.position.falls }
     ensures { Gives (rules.execution command (seen placed.now) taken facts) result }
 {
@@ -116,7 +121,7 @@ fn facts_parted(facts: Facts) -> Result<Facts, Refusal>
 }
 
 // The facts behind an element that changes arguments alone.
-fn facts_after_argument(argument: Argument, text: &[u8], facts: Facts) -> Result<Facts, Fault>
+fn facts_after_argument(argument: Argument, text: &[u8], facts: Facts) -> Result<Facts, FactFault>
     ensures { Gives (rules.facts_after_argument argument text.now facts) result }
 {
     let known = match argument {
@@ -142,7 +147,7 @@ fn search_allowed(inside: bool, colon: bool) -> Result<(), Refusal>
 }
 
 // The edges behind a search, if there is memory. With a colon its answer tells its outcomes apart.
-fn search_edges(kind: Search, placed: &Placed<'_>, facts: Facts) -> Result<Edges, Fault>
+fn search_edges(kind: Search, placed: &Placed<'_>, facts: Facts) -> Result<Edges, FactFault>
     requires small { AreSmall facts.position.falls }
     requires within { length placed.now.element.text.now ≤ LIMIT }
     requires second_within { length placed.now.element.second.now ≤ LIMIT }
@@ -171,7 +176,7 @@ fn flow_edges(
     leaves: usize,
     answer: &Option<Answer>,
     facts: Facts,
-) -> Result<Edges, Fault>
+) -> Result<Edges, FactFault>
     requires room { kind ≡ flow.Iterate → HasRoom facts }
     ensures { Gives (flows.flow_edges kind colons leaves answer.now facts) result }
 {
@@ -199,7 +204,11 @@ fn answer_for(kind: &Kind, facts: &mut Facts) -> Option<Answer>
 }
 
 // The facts behind a command, which takes its arguments, if there is memory.
-fn facts_after_command(command: Command, placed: &Placed<'_>, facts: Facts) -> Result<Facts, Fault>
+fn facts_after_command(
+    command: Command,
+    placed: &Placed<'_>,
+    facts: Facts,
+) -> Result<Facts, FactFault>
     requires { AreSmall facts.position.falls }
     ensures { Gives (rules.facts_after_command command (seen placed.now) facts) result }
 {
@@ -229,7 +238,7 @@ fn refusal_of_file(facts: &Facts) -> Refusal
 }
 
 // The edges behind an element, with a search's answer, if that is told apart; if there is memory.
-fn edges_of(placed: &Placed<'_>, answer: &Option<Answer>, facts: Facts) -> Result<Edges, Fault>
+fn edges_of(placed: &Placed<'_>, answer: &Option<Answer>, facts: Facts) -> Result<Edges, FactFault>
     requires small { AreSmall facts.position.falls }
     requires room { placed.now.element.kind ≡ kind.Flow flow.Iterate → HasRoom facts }
     requires within { length placed.now.element.text.now ≤ LIMIT }
@@ -253,13 +262,13 @@ fn edges_of(placed: &Placed<'_>, answer: &Option<Answer>, facts: Facts) -> Resul
         Kind::Command(kind) => Ok(Edges::on(facts_after_command(kind, placed, facts)?)),
         Kind::Page(kind) => Ok(Edges::on(facts_after_page(kind, facts)?)),
         Kind::Search(kind) => search_edges(kind, placed, facts),
-        Kind::File(_) => Err(Fault::Refused(refusal_of_file(&facts))),
+        Kind::File(_) => Err(FactFault::Refused(refusal_of_file(&facts))),
     }
 }
 
 /// The edges behind an element, from what is known before it, which is taken, if there is memory.
 #[tactic(auto, unfolding(teco_verifier::specs::facts::Transfer::transfer))]
-pub fn transfer_from(placed: &Placed<'_>, mut facts: Facts) -> Result<Edges, Fault>
+pub fn transfer_from(placed: &Placed<'_>, mut facts: Facts) -> Result<Edges, FactFault>
     requires small { AreSmall facts.position.falls }
     requires room { placed.now.element.kind ≡ kind.Flow flow.Iterate → HasRoom facts }
     requires within { length placed.now.element.text.now ≤ LIMIT }

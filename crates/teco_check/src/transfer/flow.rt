@@ -12,7 +12,7 @@ use crate::transfer::ways::both_ways;
 use crate::transfer::{Numbers, needed_value};
 use std::alloc::AllocError;
 use std::marker::Model;
-use teco_facts::{Answer, Facts, Fault, Number, sum_of};
+use teco_facts::{Answer, FactFault, Facts, Number, sum_of};
 use teco_model::kind::Test;
 use teco_poly::Poly;
 use teco_verifier::Refusal;
@@ -111,7 +111,7 @@ pub fn turns(facts: &Facts) -> Result<Poly, Refusal>
 }
 
 /// < enters its body where there may be a turn, and skips it where there may be none.
-pub fn iterate(facts: Facts) -> Result<Edges, Fault>
+pub fn iterate(facts: Facts) -> Result<Edges, FactFault>
     requires falls { length facts.position.falls < DEPTH }
     requires iterations { length facts.iterations < DEPTH }
     ensures { Gives (flows.iterate facts) result }
@@ -149,11 +149,11 @@ fn counted(count: Number, facts: Facts) -> Result<Edges, AllocError>
 }
 
 /// The end of a turn goes back, and where turns are counted on, too.
-pub fn turn_end(facts: Facts) -> Result<Edges, Fault>
+pub fn turn_end(facts: Facts) -> Result<Edges, FactFault>
     ensures { Gives (flows.turn_end facts.iterations facts) result }
 {
     let Some(innermost) = facts.innermost() else {
-        return Err(Fault::Refused(Refusal::Partner));
+        return Err(FactFault::Refused(Refusal::Partner));
     };
     if !innermost.counted {
         return Ok(Edges::away(facts.turned()));
@@ -185,7 +185,7 @@ fn tested(facts: &Facts) -> Result<Number, Refusal>
 }
 
 /// A conditional goes on where its test holds.
-pub fn test(test: Test, answer: &Option<Answer>, facts: Facts) -> Result<Edges, Fault>
+pub fn test(test: Test, answer: &Option<Answer>, facts: Facts) -> Result<Edges, FactFault>
     ensures { Gives (flows.conditional (ways.holding test) answer.now facts) result }
 {
     let n = tested(&facts)?;
@@ -213,7 +213,7 @@ pub fn go_to(leaves: usize, facts: Facts) -> Result<Edges, Refusal>
 }
 
 /// Semicolons leave their iteration, or go on: with a colon on a negative number.
-pub fn leave(colons: u8, answer: &Option<Answer>, facts: Facts) -> Result<Edges, Fault>
+pub fn leave(colons: u8, answer: &Option<Answer>, facts: Facts) -> Result<Edges, FactFault>
     ensures { Gives (flows.leave colons answer.now facts) result }
 {
     let n = tested(&facts)?;

@@ -4,7 +4,9 @@ ghost use Rattle.teco_verifier.specs.facts.Motions as motions;
 ghost use Rattle.teco_verifier.specs.facts.Shifts as shifts;
 ghost use Rattle.teco_facts.specs.Numbers.{IsPlace, IsNear, AreSmall};
 
-use teco_facts::{Facts, Foreseen, Margins, Number, Range, Shift, Taken, minus, plus, success};
+use teco_facts::{
+    Facts, Foreseen, Margins, Number, Range, Shift, TakenFacts, minus, plus, success,
+};
 use teco_model::kind::Motion;
 use teco_verifier::{Refusal, Value};
 
@@ -121,7 +123,12 @@ fn motion_to(
 }
 
 /// A motion of the pointer.
-pub fn motion(motion: Motion, colons: u8, taken: Taken, facts: Facts) -> Result<Foreseen, Refusal>
+pub fn motion(
+    motion: Motion,
+    colons: u8,
+    taken: TakenFacts,
+    facts: Facts,
+) -> Result<Foreseen, Refusal>
     requires { AreSmall facts.position.falls }
     ensures { result ≡ motions.motion motion colons taken facts }
 {

@@ -5,7 +5,7 @@ ghost use Rattle.teco_facts.specs.Numbers.{AreSmall};
 
 use crate::transfer::query::character;
 use crate::transfer::{Numbers, count_of, part_named};
-use teco_facts::{Facts, Foreseen, Margins, Number, Range, Shift, Taken};
+use teco_facts::{Facts, Foreseen, Margins, Number, Range, Shift, TakenFacts};
 use teco_model::kind::Page;
 use teco_verifier::Refusal;
 
@@ -25,7 +25,7 @@ fn part_written(m: Number, n: Number, facts: Facts) -> Result<Foreseen, Refusal>
     ensures { result ≡ pages.writing (Some m) (Some n) facts }
 {
     let (first, value) = (Some(m), Some(n));
-    part_named(Taken { first, value }, facts.margins())?;
+    part_named(TakenFacts { first, value }, facts.margins())?;
     Ok(Foreseen::silent(facts))
 }
 
@@ -47,7 +47,7 @@ fn pages_turned(n: Option<Number>, facts: Facts) -> Result<Foreseen, Refusal>
 }
 
 // To the begin of another page, or pages are written, or a part.
-fn turning(goes_on: bool, taken: Taken, facts: Facts) -> Result<Foreseen, Refusal>
+fn turning(goes_on: bool, taken: TakenFacts, facts: Facts) -> Result<Foreseen, Refusal>
     requires { AreSmall facts.position.falls }
     ensures { result ≡ (if goes_on then pages.turning taken.first taken.value facts else
         pages.writing taken.first taken.value facts) }
@@ -60,7 +60,7 @@ fn turning(goes_on: bool, taken: Taken, facts: Facts) -> Result<Foreseen, Refusa
 }
 
 /// What is done with pages: A gives the code of a character, or adds a page behind the buffer.
-pub fn page(page: Page, taken: Taken, facts: Facts) -> Result<Foreseen, Refusal>
+pub fn page(page: Page, taken: TakenFacts, facts: Facts) -> Result<Foreseen, Refusal>
     requires { AreSmall facts.position.falls }
     ensures { result ≡ pages.pages page taken facts }
 {

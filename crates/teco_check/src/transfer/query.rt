@@ -4,7 +4,7 @@ ghost use Rattle.teco_verifier.specs.facts.Queries as queries;
 ghost use Rattle.teco_facts.specs.Numbers.{AreSmall};
 
 use teco_base::LIMIT;
-use teco_facts::{Facts, Foreseen, Level, Number, Range, Shift};
+use teco_facts::{Facts, Foreseen, LevelFacts, Number, Range, Shift};
 use teco_model::kind::Query;
 use teco_poly::Poly;
 use teco_verifier::Refusal;
@@ -45,7 +45,7 @@ fn facts_at_query(query: Query, facts: Facts) -> Result<Facts, Refusal>
 }
 
 // The value that is taken, if one stands and is taken.
-fn value_for(query: &Query, colons: u8, level: Level) -> Option<Number>
+fn value_for(query: &Query, colons: u8, level: LevelFacts) -> Option<Number>
     ensures { result ≡ queries.value_for query.now colons level }
 {
     let gives = matches!(query, Query::Number(_)) && colons != 0;

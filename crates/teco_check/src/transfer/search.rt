@@ -8,7 +8,7 @@ ghost use Rattle.teco_facts.specs.Numbers.{AreSmall};
 ghost use Rattle.teco_check.specs.Searched as searched;
 
 use crate::transfer::{Numbers, count_of};
-use teco_facts::{Facts, Margins, Position, Range, Shift, Taken};
+use teco_facts::{Facts, Margins, Position, Range, Shift, TakenFacts};
 use teco_find::minimum;
 use teco_model::kind::Search;
 use teco_poly::Poly;
@@ -39,7 +39,7 @@ fn count_in_pages(n: Range) -> Result<(), Refusal>
 }
 
 // The count, and no first value.
-fn count_checked(search: Search, taken: Taken, margins: Margins) -> Result<(), Refusal>
+fn count_checked(search: Search, taken: TakenFacts, margins: Margins) -> Result<(), Refusal>
     ensures { result ≡ searches.count_checked search taken.first taken.value margins }
 {
     if taken.first.is_some() {

@@ -9,7 +9,7 @@ ghost use Rattle.teco_check.specs.Allowed as allowed;
 use crate::transfer::{Placed, count_of, needed_value, part_named};
 use std::alloc::AllocError;
 use teco_base::Reg;
-use teco_facts::{Facts, Fault, Foreseen, Number, Shift, Taken, sum_of};
+use teco_facts::{FactFault, Facts, Foreseen, Number, Shift, TakenFacts, sum_of};
 use teco_model::Element;
 use teco_model::kind::Storage;
 use teco_poly::Poly;
@@ -27,7 +27,12 @@ fn not_of_library(library: bool) -> Result<(), Refusal>
 }
 
 // A text at most so long is stored, or with a colon appended, if there is memory.
-fn text_storage(colons: u8, register: Reg, length: Poly, facts: Facts) -> Result<Foreseen, Fault>
+fn text_storage(
+    colons: u8,
+    register: Reg,
+    length: Poly,
+    facts: Facts,
+) -> Result<Foreseen, FactFault>
     ensures { Gives (storages.text_storage colons register length facts) result }
 {
     if colons == 0 {
@@ -38,7 +43,7 @@ fn text_storage(colons: u8, register: Reg, length: Poly, facts: Facts) -> Result
 }
 
 // A number is set, and saved where it is a place of the buffer.
-fn set_number(register: Reg, taken: Taken, facts: Facts) -> Result<Foreseen, Fault>
+fn set_number(register: Reg, taken: TakenFacts, facts: Facts) -> Result<Foreseen, FactFault>
     ensures { Gives (storages.storage (kind.SetNumber register) false 0 [] taken facts) result }
 {
     let n = needed_value(taken.value)?;
@@ -58,7 +63,7 @@ fn add(register: Reg, value: Option<Number>, facts: Facts) -> Result<Foreseen, A
 }
 
 // A part of the buffer is named, and the register's text is none of the library's.
-fn may_copy(library: bool, taken: Taken, facts: &Facts) -> Result<(), Refusal>
+fn may_copy(library: bool, taken: TakenFacts, facts: &Facts) -> Result<(), Refusal>
     ensures { result ≡ allowed.may_copy library taken facts.now }
 {
     part_named(taken, facts.margins())?;
@@ -94,9 +99,9 @@ fn retrieval(colons: u8, register: Reg, facts: Facts) -> Result<Foreseen, Refusa
 pub fn storage(
     storage: Storage,
     placed: &Placed<'_>,
-    taken: Taken,
+    taken: TakenFacts,
     facts: Facts,
-) -> Result<Foreseen, Fault>
+) -> Result<Foreseen, FactFault>
     requires { AreSmall facts.position.falls }
     ensures { let element = placed.now.element in
         Gives (storages.storage storage placed.now.library element.colons element.text.now taken

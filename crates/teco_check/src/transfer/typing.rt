@@ -6,13 +6,13 @@ ghost use Rattle.teco_verifier.specs.facts.Typings as typings;
 ghost use Rattle.teco_facts.specs.Numbers.{AreSmall};
 ghost use Rattle.teco_check.specs.Shifts as shifts;
 
-use teco_facts::{Facts, Foreseen, Margins, Number, Shift, Taken};
+use teco_facts::{Facts, Foreseen, Margins, Number, Shift, TakenFacts};
 use teco_model::kind::{Insertion, Typing};
 use teco_poly::Poly;
 use teco_verifier::Refusal;
 
 /// Two places that are known to lie in the buffer, if there are two.
-pub fn part_named(taken: Taken, margins: Margins) -> Result<(), Refusal>
+pub fn part_named(taken: TakenFacts, margins: Margins) -> Result<(), Refusal>
     ensures { result ≡ typings.part_named taken.first taken.value margins }
 {
     if let (Some(m), Some(n)) = (taken.first, taken.value) {
@@ -30,7 +30,7 @@ pub fn needed_value(value: Option<Number>) -> Result<Number, Refusal>
 }
 
 /// What types changes nothing.
-pub fn typing(typing: Typing, taken: Taken, facts: Facts) -> Result<Foreseen, Refusal>
+pub fn typing(typing: Typing, taken: TakenFacts, facts: Facts) -> Result<Foreseen, Refusal>
     ensures { result ≡ typings.typing typing taken facts }
 {
     match typing {
@@ -60,7 +60,7 @@ fn inserted(insertion: Insertion, text: &[u8], value: Option<Number>) -> Result<
 pub fn insertion(
     insertion: Insertion,
     text: &[u8],
-    taken: Taken,
+    taken: TakenFacts,
     facts: Facts,
 ) -> Result<Foreseen, Refusal>
     requires { AreSmall facts.position.falls }

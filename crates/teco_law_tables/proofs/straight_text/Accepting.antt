@@ -1,11 +1,7 @@
 -- Straight text is accepted.
-use Rattle.std.proofs.Common.{ℕ, ◌+◌, List, [], ◌∷◌, refl}
-use Rattle.std.specs.List.{AllByRecursion}
-use Rattle.teco_model.specs.Element.{Element}
+use Rattle.teco_law_tables.proofs.Prelude.{ℕ, ◌+◌, List, [], ◌∷◌, refl, AllByRecursion, Element, rows_in_text}
+use Rattle.teco_law_tables.proofs.Prelude.{straight_table, inserted_by, straight_nodes}
 use Rattle.teco_law_tables.specs.straight_text.Accepted.{RowIsOutside, StraightTextsAreAccepted}
-use Rattle.teco_law_tables.specs.straight_text.Facts.{rows_in_text, straight_table}
-use Rattle.teco_law_tables.specs.straight_text.Straight.{inserted_by}
-use Rattle.teco_law_tables.specs.straight_text.Nodes.{straight_nodes}
 use Rattle.teco_law_tables.proofs.straight_text.Closing.{straight_tables_are_closed}
 use Rattle.teco_law_tables.proofs.straight_text.Deriving.{straight_tables_are_derived}
 use Rattle.teco_law_tables.proofs.straight_text.Expanding.{straight_texts_are_expanded}

@@ -1,13 +1,12 @@
 -- A stand compares alike to itself, and so a way to the next node has the next number.
-use Rattle.std.proofs.Common.{◌≡◌, ℕ, zero, suc, ◌<◌, ◌≤◌, List, [], ◌∷◌, drop, Bool, true, false, ◌&&◌, ◌==◌}
-use Rattle.std.proofs.Common.{bytes_eq, Option, Some, None, refl, sym, ap, ◌∙◌, ⊎_elim, eqb-true, rules, arith}
+use Rattle.teco_law_tables.proofs.Prelude.{◌≡◌, ℕ, zero, suc, ◌<◌, ◌≤◌, List, [], ◌∷◌, drop, Bool, true, false, ◌&&◌}
+use Rattle.teco_law_tables.proofs.Prelude.{◌==◌, Option, Some, None, refl, sym, ap, ◌∙◌, eqb-true, rules, arith}
+use Rattle.teco_law_tables.proofs.Prelude.{REGISTERS, Stand, Spot}
+use Rattle.std.proofs.Common.{bytes_eq, ⊎_elim}
 use Rattle.std.proofs.lemmas.Bool.{cases_lt}
 use Rattle.std.proofs.lemmas.Slice.Eq.{bytes_eq-Decides}
-use Rattle.teco_base.specs.declared.TheConstants.{REGISTERS}
 use Rattle.teco_base.specs.Register.{register_of, register_name}
 use Rattle.teco_verifier.specs.expansion.Expansion.{same_spot, same_spots, same_stand, number_behind}
-use Rattle.teco_verifier.specs.expansion.Node.{Stand}
-use Rattle.teco_verifier.specs.expansion.Position.{Spot}
 
 both : (a b : Bool) → a ≡ true → b ≡ true → (a && b) ≡ true
 both a b h g = rw (h, g) refl

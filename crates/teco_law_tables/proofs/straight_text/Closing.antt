@@ -1,27 +1,15 @@
 -- The table of a straight text is closed.
-use Rattle.std.proofs.Common.{◌≡◌, ℕ, suc, ◌+◌, ◌≤◌, min, nat_le, nat_lt, List, [], ◌∷◌, drop, length, true, false}
-use Rattle.std.proofs.Common.{Some, None, Ok, refl, rules, arith, ◌<◌}
-use Rattle.std.specs.List.{AllByRecursion}
-use Rattle.teco_verifier.specs.facts.Facts.{Facts}
-use Rattle.teco_base.specs.declared.TheConstants.{LIMIT}
-use Rattle.teco_model.specs.declared.kind.Argument.TheVariants.{DropAll}
+use Rattle.teco_law_tables.proofs.Prelude.{◌≡◌, ℕ, suc, ◌+◌, ◌≤◌, min, nat_le, nat_lt, List, [], ◌∷◌, drop, length}
+use Rattle.teco_law_tables.proofs.Prelude.{true, false, Some, None, Ok, refl, rules, arith, ◌<◌, AllByRecursion, Facts}
+use Rattle.teco_law_tables.proofs.Prelude.{LIMIT, DropAll, Text, Kind, Element, Node, beginning, covers, Edges, goes_on}
+use Rattle.teco_law_tables.proofs.Prelude.{transfer, placed, begins_turn, along, arrives, enters_at, closed_at}
+use Rattle.teco_law_tables.proofs.Prelude.{check_from, check_nodes, check, Table, facts_at, IsStraightKind}
+use Rattle.teco_law_tables.proofs.Prelude.{IsStraightElement, inserted_by, inserted, call_element, stand_in_text}
+use Rattle.teco_law_tables.proofs.Prelude.{node_going_on, nodes_in_text, straight_nodes, facts_behind_insertions}
+use Rattle.teco_law_tables.proofs.Prelude.{rows_in_text, straight_table}
 use Rattle.teco_model.specs.declared.kind.Command.TheVariants as command
 use Rattle.teco_model.specs.declared.kind.Flow.TheVariants as flow
-use Rattle.teco_model.specs.declared.kind.Insertion.TheVariants.{Text}
-use Rattle.teco_model.specs.declared.kind.Kind.{Kind}
 use Rattle.teco_model.specs.declared.kind.Kind.TheVariants as kind
-use Rattle.teco_model.specs.Element.{Element}
-use Rattle.teco_verifier.specs.expansion.Node.{Node, beginning}
-use Rattle.teco_verifier.specs.facts.Covers.{covers}
-use Rattle.teco_verifier.specs.facts.Flows.{Edges, goes_on}
-use Rattle.teco_verifier.specs.facts.Transfer.{transfer}
-use Rattle.teco_verifier.specs.table.Behind.{placed, begins_turn, along}
-use Rattle.teco_verifier.specs.table.Closed.{arrives, enters_at, closed_at, check_from, check_nodes, check}
-use Rattle.teco_verifier.specs.table.Table.{Table, facts_at}
-use Rattle.teco_law_tables.specs.straight_text.Straight.{IsStraightKind, IsStraightElement, inserted_by, inserted}
-use Rattle.teco_law_tables.specs.straight_text.Nodes.{call_element, stand_in_text, node_going_on, nodes_in_text}
-use Rattle.teco_law_tables.specs.straight_text.Nodes.{straight_nodes}
-use Rattle.teco_law_tables.specs.straight_text.Facts.{facts_behind_insertions, rows_in_text, straight_table}
 use Rattle.teco_law_tables.specs.straight_text.Accepted.{StraightTablesAreClosed}
 use Rattle.teco_law_tables.proofs.straight_text.Alike.{drop-behind}
 use Rattle.teco_law_tables.proofs.straight_text.Edging.{edges_of_element}

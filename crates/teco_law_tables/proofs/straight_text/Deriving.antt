@@ -1,24 +1,15 @@
 -- What is known along a straight text is derived.
-use Rattle.std.proofs.Common.{◌≡◌, ℕ, suc, ◌+◌, ◌<◌, ◌≤◌, ◌==◌, List, [], ◌∷◌, ◌++◌, true, false, Some, None, Ok}
-use Rattle.std.proofs.Common.{refl, rules, arith}
-use Rattle.std.specs.List.{AllByRecursion}
-use Rattle.teco_verifier.specs.facts.Facts.{Facts}
-use Rattle.teco_base.specs.declared.TheConstants.{LIMIT}
-use Rattle.teco_model.specs.Element.{Element}
-use Rattle.teco_verifier.specs.expansion.Node.{Stand, Node, beginning}
-use Rattle.teco_verifier.specs.facts.Transfer.{transfer}
-use Rattle.teco_verifier.specs.table.Deriving.{Arrival, met, derived_at, derive_from, derive}
-use Rattle.teco_law_tables.specs.straight_text.Straight.{IsStraightElement, inserted_by, inserted}
-use Rattle.teco_law_tables.specs.straight_text.Nodes.{call_element, stand_in_text, node_going_on, nodes_in_text}
-use Rattle.teco_law_tables.specs.straight_text.Nodes.{straight_nodes}
-use Rattle.teco_law_tables.specs.straight_text.Facts.{facts_behind_insertions, row_behind_insertions, rows_in_text}
+use Rattle.teco_law_tables.proofs.Prelude.{◌≡◌, ℕ, suc, ◌+◌, ◌<◌, ◌≤◌, ◌==◌, List, [], ◌∷◌, ◌++◌, true, false, Some}
+use Rattle.teco_law_tables.proofs.Prelude.{None, Ok, refl, rules, arith, AllByRecursion, Facts, LIMIT, Element, Stand}
+use Rattle.teco_law_tables.proofs.Prelude.{Node, beginning, transfer, derive, IsStraightElement, inserted_by, inserted}
+use Rattle.teco_law_tables.proofs.Prelude.{call_element, stand_in_text, node_going_on, nodes_in_text, straight_nodes}
+use Rattle.teco_law_tables.proofs.Prelude.{facts_behind_insertions, rows_in_text, goes_on, placed, changes_in}
+use Rattle.teco_verifier.specs.table.Deriving.{Arrival, met, derived_at, derive_from}
+use Rattle.teco_law_tables.specs.straight_text.Facts.{row_behind_insertions}
 use Rattle.teco_law_tables.specs.straight_text.Facts.{StraightTablesAreDerived}
 use Rattle.teco_law_tables.proofs.straight_text.Within.{inserted_within}
 use Rattle.teco_law_tables.proofs.straight_text.Alike.{same_number}
 use Rattle.teco_law_tables.proofs.straight_text.Edging.{edges_of_element, arriving_by_element}
-use Rattle.teco_verifier.specs.facts.Flows.{goes_on}
-use Rattle.teco_verifier.specs.table.Behind.{placed}
-use Rattle.teco_verifier.specs.table.Written.{changes_in}
 
 -- Edges arrive one at each number.
 abbrev arrival_at : ℕ → Facts → Arrival

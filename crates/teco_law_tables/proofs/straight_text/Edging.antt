@@ -1,21 +1,12 @@
 -- What is known behind an element of a straight text.
-use Rattle.std.proofs.Common.{◌≡◌, ℕ, ◌+◌, ◌^◌, ◌<◌, ◌≤◌, min, nat_lt, true, length, Some, None, Ok, refl, rules}
-use Rattle.std.proofs.Common.{arith}
-use Rattle.teco_base.specs.declared.TheConstants.{LIMIT}
-use Rattle.teco_model.specs.declared.kind.Argument.TheVariants.{DropAll}
+use Rattle.teco_law_tables.proofs.Prelude.{◌≡◌, ℕ, ◌+◌, ◌^◌, ◌<◌, ◌≤◌, min, nat_lt, true, length, Some, None, Ok, refl}
+use Rattle.teco_law_tables.proofs.Prelude.{rules, arith, LIMIT, DropAll, Text, Kind, Element, Changes, Edges, goes_on}
+use Rattle.teco_law_tables.proofs.Prelude.{Placed, transfer, IsStraightKind, IsStraightElement, inserted_by_kind}
+use Rattle.teco_law_tables.proofs.Prelude.{inserted_by, facts_behind_insertions}
 use Rattle.teco_model.specs.declared.kind.Command.TheVariants as command
 use Rattle.teco_model.specs.declared.kind.Flow.TheVariants as flow
-use Rattle.teco_model.specs.declared.kind.Insertion.TheVariants.{Text}
-use Rattle.teco_model.specs.declared.kind.Kind.{Kind}
 use Rattle.teco_model.specs.declared.kind.Kind.TheVariants as kind
-use Rattle.teco_model.specs.Element.{Element}
-use Rattle.teco_verifier.specs.facts.Bodies.{Changes}
-use Rattle.teco_verifier.specs.facts.Flows.{Edges, goes_on}
-use Rattle.teco_verifier.specs.facts.Transfer.{Placed, transfer}
 use Rattle.teco_verifier.specs.table.Deriving.{arriving}
-use Rattle.teco_law_tables.specs.straight_text.Straight.{IsStraightKind, IsStraightElement, inserted_by_kind}
-use Rattle.teco_law_tables.specs.straight_text.Straight.{inserted_by}
-use Rattle.teco_law_tables.specs.straight_text.Facts.{facts_behind_insertions}
 
 pub plus_none : (n : ℕ) → n + 0 ≡ n
 plus_none n = omega arith

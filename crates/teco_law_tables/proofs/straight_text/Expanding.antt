@@ -1,18 +1,12 @@
 -- A straight text is expanded to its elements.
-use Rattle.std.proofs.Common.{◌≡◌, ℕ, suc, ◌+◌, ◌<◌, List, [], ◌∷◌, ◌++◌, map, drop, true, false, Some, None, Ok}
-use Rattle.std.proofs.Common.{refl, ◌∙◌, arith}
-use Rattle.std.specs.List.{AllByRecursion}
-use Rattle.teco_base.specs.declared.TheConstants.{REGISTERS}
-use Rattle.teco_model.specs.Element.{Element, element_at}
-use Rattle.teco_model.proofs.Ahead.{element_at-again}
-use Rattle.teco_verifier.specs.expansion.Expansion.{MOST_ELEMENTS, first_visit, Walk, stand_of_visit, all_stands}
-use Rattle.teco_verifier.specs.expansion.Expansion.{way_numbers, node_at, nodes_at, expansion}
-use Rattle.teco_model.specs.Macros.{Library, macro}
-use Rattle.teco_verifier.specs.expansion.Node.{Stand, over, beginning}
-use Rattle.teco_verifier.specs.expansion.Ways.{ways_at}
-use Rattle.teco_law_tables.specs.straight_text.Straight.{IsStraightElement, AreRead, IsStraight}
-use Rattle.teco_law_tables.specs.straight_text.Nodes.{call_element, stand_in_text, node_going_on, nodes_in_text}
-use Rattle.teco_law_tables.specs.straight_text.Nodes.{straight_nodes, StraightTextsAreExpanded}
+use Rattle.teco_law_tables.proofs.Prelude.{◌≡◌, ℕ, suc, ◌+◌, ◌<◌, List, [], ◌∷◌, ◌++◌, map, drop, true, false, Some}
+use Rattle.teco_law_tables.proofs.Prelude.{None, Ok, refl, ◌∙◌, arith, AllByRecursion, REGISTERS, Element, element_at}
+use Rattle.teco_law_tables.proofs.Prelude.{element_at-again, MOST_ELEMENTS, first_visit, Walk, way_numbers, node_at}
+use Rattle.teco_law_tables.proofs.Prelude.{nodes_at, expansion, Library, macro, Stand, over, beginning, ways_at}
+use Rattle.teco_law_tables.proofs.Prelude.{IsStraightElement, AreRead, IsStraight, call_element, stand_in_text}
+use Rattle.teco_law_tables.proofs.Prelude.{node_going_on, nodes_in_text, straight_nodes}
+use Rattle.teco_verifier.specs.expansion.Expansion.{stand_of_visit, all_stands}
+use Rattle.teco_law_tables.specs.straight_text.Nodes.{StraightTextsAreExpanded}
 use Rattle.teco_law_tables.proofs.straight_text.Alike.{next_number, drop-behind}
 use Rattle.teco_law_tables.proofs.straight_text.Walking.{visit_in_text, visits_behind, call_read, element_read}
 use Rattle.teco_law_tables.proofs.straight_text.Walking.{end_read, way_of_element, names_of_element, base_of_element}

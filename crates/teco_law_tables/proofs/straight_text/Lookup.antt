@@ -1,10 +1,7 @@
 -- What the table of a straight text says at a number.
-use Rattle.std.proofs.Common.{◌≡◌, ℕ, zero, suc, ◌+◌, List, [], ◌∷◌, drop, length, Some, slice_get, refl, ap, arith}
-use Rattle.teco_model.specs.Element.{Element}
-use Rattle.teco_verifier.specs.table.Table.{Table, facts_at}
-use Rattle.teco_law_tables.specs.straight_text.Nodes.{nodes_in_text}
-use Rattle.teco_law_tables.specs.straight_text.Straight.{inserted_by}
-use Rattle.teco_law_tables.specs.straight_text.Facts.{facts_behind_insertions, rows_in_text}
+use Rattle.teco_law_tables.proofs.Prelude.{◌≡◌, ℕ, zero, suc, ◌+◌, List, [], ◌∷◌, drop, length, Some, slice_get, refl}
+use Rattle.teco_law_tables.proofs.Prelude.{ap, arith, Element, Table, facts_at, nodes_in_text, inserted_by}
+use Rattle.teco_law_tables.proofs.Prelude.{facts_behind_insertions, rows_in_text}
 
 first_behind : {X : Type 0} (n : ℕ) (xs rest : List X) (x : X) → drop n xs ≡ x ∷ rest → slice_get xs n ≡ Some x
 first_behind zero (y ∷ xs) rest x h = cc

@@ -1,28 +1,22 @@
 -- What is printed of the table of a straight text.
-use Rattle.std.proofs.Common.{◌≡◌, ℕ, zero, suc, ◌+◌, ◌≤◌, max, List, [], ◌∷◌, drop, length, false, Some, None, Ok}
-use Rattle.std.proofs.Common.{refl, ap, arith, replicate}
-use Rattle.std.specs.List.{AllByRecursion}
-use Rattle.teco_verifier.specs.facts.Facts.{Facts, sum_of, join_of}
-use Rattle.teco_base.specs.declared.TheConstants.{LIMIT, REGISTERS}
-use Rattle.teco_model.specs.declared.kind.Argument.TheVariants.{DropAll}
+use Rattle.teco_law_tables.proofs.Prelude.{◌≡◌, ℕ, zero, suc, ◌+◌, ◌≤◌, List, [], ◌∷◌, drop, length, false, Some, None}
+use Rattle.teco_law_tables.proofs.Prelude.{Ok, refl, ap, arith, AllByRecursion, Facts, sum_of, join_of, LIMIT}
+use Rattle.teco_law_tables.proofs.Prelude.{REGISTERS, DropAll, Text, Kind, Element, number, begins_by_kind, steps}
+use Rattle.teco_law_tables.proofs.Prelude.{needs, no_needs, weight, count_from, commands, joined_with, sized_with}
+use Rattle.teco_law_tables.proofs.Prelude.{size_from, size, needs_from, needs_in, Table, IsStraightKind}
+use Rattle.teco_law_tables.proofs.Prelude.{IsStraightElement, inserted_by, inserted, stand_in_text, node_going_on}
+use Rattle.teco_law_tables.proofs.Prelude.{nodes_in_text, straight_nodes, facts_behind_insertions, rows_in_text}
+use Rattle.teco_law_tables.proofs.Prelude.{straight_table}
+use Rattle.std.proofs.Common.{max}
+use Rattle.std.proofs.Common.{replicate}
 use Rattle.teco_model.specs.declared.kind.Command.TheVariants as command
 use Rattle.teco_model.specs.declared.kind.Flow.TheVariants as flow
-use Rattle.teco_model.specs.declared.kind.Insertion.TheVariants.{Text}
-use Rattle.teco_model.specs.declared.kind.Kind.{Kind}
 use Rattle.teco_model.specs.declared.kind.Kind.TheVariants as kind
-use Rattle.teco_model.specs.Element.{Element}
 use Rattle.teco_poly.specs.declared.coefficients.TheConstants.{COEFFICIENTS}
-use Rattle.teco_poly.specs.Polynomial.{number, variable, first}
+use Rattle.teco_poly.specs.Polynomial.{variable, first}
 use Rattle.teco_poly.specs.Reading.{IsPoly}
-use Rattle.teco_verifier.specs.table.Closed.{begins_by_kind}
-use Rattle.teco_verifier.specs.facts.Printed.{steps, needs, no_needs}
-use Rattle.teco_verifier.specs.table.Printed.{weight, count_from, commands, joined_with, sized_with, size_from, size}
-use Rattle.teco_verifier.specs.table.Printed.{needs_from, needs_in}
-use Rattle.teco_verifier.specs.table.Table.{Table}
-use Rattle.teco_law_tables.specs.straight_text.Straight.{IsStraightKind, IsStraightElement, MOST_STRAIGHT}
-use Rattle.teco_law_tables.specs.straight_text.Straight.{inserted_by, inserted}
-use Rattle.teco_law_tables.specs.straight_text.Nodes.{stand_in_text, node_going_on, nodes_in_text, straight_nodes}
-use Rattle.teco_law_tables.specs.straight_text.Facts.{and_more, facts_behind_insertions, rows_in_text, straight_table}
+use Rattle.teco_law_tables.specs.straight_text.Straight.{MOST_STRAIGHT}
+use Rattle.teco_law_tables.specs.straight_text.Facts.{and_more}
 use Rattle.teco_law_tables.specs.straight_text.Accepted.{BeginsNoIteration, StraightTablesPrint}
 use Rattle.teco_law_tables.proofs.straight_text.Alike.{drop-behind}
 use Rattle.teco_law_tables.proofs.straight_text.Edging.{plus_none, fits_64}

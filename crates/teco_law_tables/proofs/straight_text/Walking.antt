@@ -1,25 +1,16 @@
 -- The walk through a straight text.
-use Rattle.std.proofs.Common.{◌≡◌, ℕ, zero, suc, ◌+◌, ◌<◌, ◌≤◌, nat_le, List, [], ◌∷◌, length, true, false, Some}
-use Rattle.std.proofs.Common.{None, Ok, refl, ◌∙◌, rules, arith}
-use Rattle.std.specs.List.{AllByRecursion}
-use Rattle.teco_base.specs.declared.TheConstants.{REGISTERS}
-use Rattle.teco_model.specs.declared.kind.Argument.TheVariants.{DropAll}
+use Rattle.teco_law_tables.proofs.Prelude.{◌≡◌, ℕ, zero, suc, ◌+◌, ◌<◌, ◌≤◌, nat_le, List, [], ◌∷◌, length, true, false}
+use Rattle.teco_law_tables.proofs.Prelude.{Some, None, Ok, refl, ◌∙◌, rules, arith, AllByRecursion, REGISTERS, DropAll}
+use Rattle.teco_law_tables.proofs.Prelude.{Text, Kind, Element, blank_len, element_from, element_at, letters}
+use Rattle.teco_law_tables.proofs.Prelude.{element_at-again, MOST_ELEMENTS, first_visit, next_visit, Walk, walk}
+use Rattle.teco_law_tables.proofs.Prelude.{Library, macro, names_macro, beginning, over, base_of, Position, past}
+use Rattle.teco_law_tables.proofs.Prelude.{read_at, flow_ways, ways_at, IsStraightKind, IsStraightElement, AreRead}
+use Rattle.teco_law_tables.proofs.Prelude.{call_element, stand_in_text}
 use Rattle.teco_model.specs.declared.kind.Command.TheVariants as command
 use Rattle.teco_model.specs.declared.kind.Flow.TheVariants as flow
-use Rattle.teco_model.specs.declared.kind.Insertion.TheVariants.{Text}
-use Rattle.teco_model.specs.declared.kind.Kind.{Kind}
 use Rattle.teco_model.specs.declared.kind.Kind.TheVariants as kind
-use Rattle.teco_model.specs.Element.{Element, blank_len, element_from, element_at}
-use Rattle.teco_model.specs.Letters.{letters}
-use Rattle.teco_model.proofs.Ahead.{element_at-again}
-use Rattle.teco_verifier.specs.expansion.Expansion.{MOST_ELEMENTS, Visit, first_visit, next_visit, Walk, walk}
-use Rattle.teco_model.specs.Macros.{Library, macro}
-use Rattle.teco_verifier.specs.expansion.Names.{names_macro}
-use Rattle.teco_verifier.specs.expansion.Node.{beginning, over, base_of_kind, base_of}
-use Rattle.teco_verifier.specs.expansion.Position.{Position}
-use Rattle.teco_verifier.specs.expansion.Ways.{past, read_at, flow_ways, ways_at}
-use Rattle.teco_law_tables.specs.straight_text.Straight.{IsStraightKind, IsStraightElement, AreRead}
-use Rattle.teco_law_tables.specs.straight_text.Nodes.{call_element, stand_in_text}
+use Rattle.teco_verifier.specs.expansion.Expansion.{Visit}
+use Rattle.teco_verifier.specs.expansion.Node.{base_of_kind}
 use Rattle.teco_law_tables.proofs.straight_text.Alike.{names_itself}
 
 -- what is visited in the text, and behind a place of it

@@ -1,12 +1,10 @@
 -- What a straight text inserts is no longer than the text.
-use Rattle.std.proofs.Common.{◌≡◌, ℕ, ◌+◌, ◌≤◌, List, [], ◌∷◌, length, Some, Ok, arith}
+use Rattle.teco_law_tables.proofs.Prelude.{◌≡◌, ℕ, ◌+◌, ◌≤◌, List, [], ◌∷◌, length, Some, Ok, arith, Text, Kind}
+use Rattle.teco_law_tables.proofs.Prelude.{Element, element_at, inserted_by_kind, inserted_by, inserted, AreRead}
 use Rattle.teco_model.specs.declared.kind.Command.TheVariants as command
-use Rattle.teco_model.specs.declared.kind.Insertion.TheVariants.{Text}
-use Rattle.teco_model.specs.declared.kind.Kind.{Kind}
 use Rattle.teco_model.specs.declared.kind.Kind.TheVariants as kind
-use Rattle.teco_model.specs.Element.{Element, blank_end, element_at}
+use Rattle.teco_model.specs.Element.{blank_end}
 use Rattle.teco_model.proofs.Standing.{found_read, text_within}
-use Rattle.teco_law_tables.specs.straight_text.Straight.{inserted_by_kind, inserted_by, inserted, AreRead}
 
 -- an element inserts no more than its text
 kind_inserts : (k : Kind) (text : List ℕ) → inserted_by_kind k text ≤ length text

@@ -1,12 +1,8 @@
 -- A straight text worked by hand.
-use Rattle.std.proofs.Common.{refl, arith}
-use Rattle.std.specs.Fmt.{digits}
-use Rattle.std.specs.Int.{int_wrap}
-use Rattle.teco_model.specs.Element.{blank_len, element_from, element_at}
-use Rattle.teco_model.specs.Letters.{letters}
+use Rattle.teco_law_tables.proofs.Prelude.{refl, arith, digits, int_wrap, blank_len, element_from, element_at, letters}
+use Rattle.teco_law_tables.proofs.Prelude.{IsStraight}
 use Rattle.teco_law_expansion.specs.Rows.{only}
 use Rattle.teco_law_tables.specs.straight_text.Rows.{letters_put_in, elements_put_in, WorkedStraightText}
-use Rattle.teco_law_tables.specs.straight_text.Straight.{IsStraight}
 use Rattle.teco_law_tables.proofs.straight_text.Accepting.{straight_texts_are_accepted}
 
 is_straight : IsStraight (only letters_put_in) 0 letters_put_in elements_put_in

@@ -1,11 +1,14 @@
--- What always holds of what stays between two runs.
+-- What always holds of a state of the machine, and of what stays between two runs.
 use Rattle.std.specs.Prelude.{◌≡◌, ℕ, ◌<◌, ◌≤◌, List, length, FitsSigned, IfSome}
 use Rattle.std.specs.Int.{w32}
 use Rattle.std.specs.List.{AllByRecursion}
 use Rattle.teco_base.specs.declared.TheConstants.{LIMIT, REGISTERS}
+use Rattle.teco_model.specs.Arguments.{Arguments}
+use Rattle.teco_model.specs.Element.{Element}
 use Rattle.teco_model.specs.Files.{File, Input, Output, Files}
 use Rattle.teco_model.specs.Registers.{Pair, Registers}
-use Rattle.teco_model.specs.State.{Kept, World}
+use Rattle.teco_model.specs.State.{Kept, World, Frame, Frames, State, Outcome, Next, End, Exit, Fail, Absent}
+use Rattle.teco_model.specs.declared.arguments.Level.{Level}
 
 -- characters are bytes
 abbrev pub AreBytes : List ℕ → Type 0
@@ -44,3 +47,35 @@ pub record AreWholeFiles (files : Files) : Type 0 where
 pub record IsWholeWorld (world : World) : Type 0 where
   pub kept : IsWhole world.kept
   pub files : AreWholeFiles world.files
+
+-- pending numbers fit 32 bits
+pub record IsWholeLevel (level : Level) : Type 0 where
+  pub first : IfSome level.first (FitsSigned w32)
+  pub value : IfSome level.value (FitsSigned w32)
+
+pub record AreWholeArguments (arguments : Arguments) : Type 0 where
+  pub level : IsWholeLevel arguments.level
+  pub outer : AllByRecursion IsWholeLevel arguments.outer
+
+-- the texts that are executed are of bytes
+pub record AreWholeFrames (frames : Frames) : Type 0 where
+  pub running : AreBytes frames.running.text
+  pub callers : AllByRecursion (λ (frame : Frame). AreBytes frame.text) frames.callers
+
+pub record IsWholeState (s : State) : Type 0 where
+  pub world : IsWholeWorld s.world
+  pub arguments : AreWholeArguments s.arguments
+  pub frames : AreWholeFrames s.frames
+
+-- whatever a step comes to
+abbrev pub IsWholeOutcome : Outcome → Type 0
+IsWholeOutcome (Next s) = IsWholeState s
+IsWholeOutcome (End world) = IsWholeWorld world
+IsWholeOutcome (Exit world) = IsWholeWorld world
+IsWholeOutcome (Fail c world) = IsWholeWorld world
+IsWholeOutcome (Absent world) = IsWholeWorld world
+
+-- the texts of an element are of bytes, as the text that it stands in
+pub record IsOfBytes (e : Element) : Type 0 where
+  pub text : AreBytes e.text
+  pub second : AreBytes e.second

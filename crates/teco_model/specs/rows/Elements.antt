@@ -8,8 +8,8 @@ use Rattle.teco_model.specs.declared.arguments.Operator.TheVariants.{Plus, Minus
 use Rattle.teco_model.specs.declared.head.Head.TheVariants as head
 use Rattle.teco_model.specs.declared.head.OnRegister.{OnRegister}
 use Rattle.teco_model.specs.declared.head.OnRegister.TheVariants as on_register
-use Rattle.teco_model.specs.declared.head.Texts.{Texts}
-use Rattle.teco_model.specs.declared.head.Texts.TheVariants.{Itself, EndedBy, Two, NoText}
+use Rattle.teco_model.specs.declared.head.TextShape.{TextShape}
+use Rattle.teco_model.specs.declared.head.TextShape.TheVariants.{Itself, EndedBy, Two, NoText}
 use Rattle.teco_model.specs.declared.kind.Kind.{Kind}
 use Rattle.teco_model.specs.declared.kind.Kind.TheVariants as kind
 use Rattle.teco_model.specs.declared.kind.Argument.TheVariants as argument
@@ -29,14 +29,14 @@ use Rattle.teco_model.specs.declared.kind.Page.TheVariants as page
 use Rattle.teco_model.specs.declared.kind.File.TheVariants as file
 
 -- bytes are the letters of a kind that takes so many colons, @ or not, and these texts
-pub record Names (bytes : List ℕ) (k : Kind) (colons : ℕ) (at : Bool) (shape : Texts) : Type 0 where
+pub record Names (bytes : List ℕ) (k : Kind) (colons : ℕ) (at : Bool) (shape : TextShape) : Type 0 where
   pub named : letters bytes ≡ Ok (head.Kind k, length bytes)
   pub allows_colons : colons_allowed (head.Kind k) ≡ colons
   pub allows_at : at_allowed (head.Kind k) ≡ at
   pub texts : texts_of k ≡ shape
 
 -- bytes are the letters of what a register's name follows, here that of register 0
-pub record NamesOnRegister (bytes : List ℕ) (c : OnRegister) (colons : ℕ) (at : Bool) (shape : Texts) : Type 0 where
+pub record NamesOnRegister (bytes : List ℕ) (c : OnRegister) (colons : ℕ) (at : Bool) (shape : TextShape) : Type 0 where
   pub named : letters bytes ≡ Ok (head.OnRegister c, length bytes)
   pub allows_colons : colons_allowed (head.OnRegister c) ≡ colons
   pub allows_at : at_allowed (head.OnRegister c) ≡ at

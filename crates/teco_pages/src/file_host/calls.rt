@@ -1,4 +1,4 @@
-// What the calls of a host did, and with which files.
+//! What the calls of a host did, and with which files.
 ghost use Rattle.std.specs.Prelude.{◌≡◌, ◌++◌, ◌∷◌, [], suc, IsErr};
 ghost use Rattle.teco_pages.specs.Events.{opened_input, opened_output};
 ghost use Rattle.teco_pages.specs.HostCalls.{HasOpened};
@@ -8,7 +8,7 @@ use crate::count::Count;
 use crate::fault::Failed;
 use crate::history::History;
 use std::alloc::Global;
-use teco_files::{Purpose, Reason, Trouble, name_to_tell};
+use teco_files::{Purpose, Trouble, TroubleReason, name_to_tell};
 
 /// What the calls of a host did, and what the last one that failed could not do.
 #[derive(Drop)]
@@ -61,7 +61,7 @@ impl Calls {
     }
 
     /// What was opened last could not be used.
-    pub fn cannot_use<T>(&mut self, purpose: Purpose, reason: Reason) -> Result<T, Failed>
+    pub fn cannot_use<T>(&mut self, purpose: Purpose, reason: TroubleReason) -> Result<T, Failed>
         ensures failed { IsErr result }
         ensures counted { self.new.failures.value ≡ suc self.old.failures.value }
         ensures history { self.new.history ≡ self.old.history }
@@ -79,7 +79,7 @@ impl Calls {
         &mut self,
         purpose: Purpose,
         name: &[u8],
-        reason: Reason,
+        reason: TroubleReason,
     ) -> Result<T, Failed>
         ensures failed { IsErr result }
         ensures counted { self.new.failures.value ≡ suc self.old.failures.value }

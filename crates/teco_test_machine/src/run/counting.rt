@@ -1,4 +1,4 @@
-// A run edits the store that it was given, and makes no list: a store counts the characters put into it.
+//! A run edits the store that it was given, and makes no list: a store counts the characters put into it.
 use super::*;
 use std::marker::Model;
 use teco_text::{TextFault, TextStore};

@@ -1,11 +1,11 @@
-// Where runs stop, and runs that are done one step at a time.
+//! Where runs stop, and runs that are done one step at a time.
 use super::*;
 use teco_run::{Execution, Progress, Site};
 
 // Where a run stands: the steps that were done, the register whose text it is in, or 0, the place, and the pointer.
-type Stand = (u64, u8, usize, usize);
+type SiteStand = (u64, u8, usize, usize);
 
-fn stand_of(steps: u64, site: Site, dot: usize) -> Stand {
+fn stand_of(steps: u64, site: Site, dot: usize) -> SiteStand {
     let name = match site.register {
         Some(register) => register.name(),
         None => 0,
@@ -14,7 +14,12 @@ fn stand_of(steps: u64, site: Site, dot: usize) -> Stand {
 }
 
 // Runs a command string on a new machine, beside no file: where it stops, what it comes to, and what it types.
-fn run_whole(alloc: Global, command: &[u8], limit: u64, typed: &mut Vec<u8>) -> (Stand, Answer) {
+fn run_whole(
+    alloc: Global,
+    command: &[u8],
+    limit: u64,
+    typed: &mut Vec<u8>,
+) -> (SiteStand, RunAnswer) {
     if command.len() > LIMIT {
         return ((0, 0, 0, 0), Err(Code::Lim));
     }
@@ -26,14 +31,14 @@ fn run_whole(alloc: Global, command: &[u8], limit: u64, typed: &mut Vec<u8>) -> 
 }
 
 // A command string, the limit on its steps, how many it does, what it comes to, the register, or 0, and the place.
-type Row = (&'static [u8], u64, u64, Answer, (u8, usize));
+type SiteRow = (&'static [u8], u64, u64, RunAnswer, (u8, usize));
 
 // Is a stop as a row says?
-fn stops_so((steps, name, place, _): Stand, came: Answer, row: &Row) -> bool {
+fn stops_so((steps, name, place, _): SiteStand, came: RunAnswer, row: &SiteRow) -> bool {
     (steps, name, place) == (row.2, row.4.0, row.4.1) && came == row.3
 }
 
-const STOPPED: &[Row] = &[
+const STOPPED: &[SiteRow] = &[
     (b"", 9, 0, Ok(0), (0, 0)),
     (b"1=2=", 0, 0, Err(Code::Lim), (0, 0)),
     (b"1=  2=", 2, 2, Err(Code::Lim), (0, 4)),
@@ -52,7 +57,7 @@ const STOPPED: &[Row] = &[
 ];
 
 // Does a command string stop on a new machine as its row says?
-fn is_stopped_so(alloc: Global, row: &Row) -> bool {
+fn is_stopped_so(alloc: Global, row: &SiteRow) -> bool {
     let mut typed = Vec::new(alloc);
     let (stand, came) = run_whole(alloc, row.0, row.1, &mut typed);
     stops_so(stand, came, row)
@@ -76,7 +81,7 @@ fn is_memory_sited(alloc: Global) -> bool {
         stopped = machine.run_to_stop(b"1 =", 9, &mut host);
     }
     let stand = stand_of(stopped.steps, stopped.site, machine.dot());
-    let row: Row = (b"1 =", 9, 1, Err(Code::Mem), (0, 2));
+    let row: SiteRow = (b"1 =", 9, 1, Err(Code::Mem), (0, 2));
     stops_so(stand, answer(stopped.stop), &row)
 }
 
@@ -86,7 +91,7 @@ fn want_of_memory_has_a_site(rt: HostRuntime) {
 }
 
 // Does the last step come to what the run answers? A run looks whether it is at its end where its limit is reached.
-fn agrees(came: Answer, progress: Progress) -> bool {
+fn agrees(came: RunAnswer, progress: Progress) -> bool {
     match (came, progress) {
         (Ok(_), Progress::Ended | Progress::Exit | Progress::On) => true,
         (Err(code), Progress::Error(other)) => code == other,
@@ -119,7 +124,7 @@ fn run_by_steps(
     command: &[u8],
     limit: u64,
     typed: &mut Vec<u8>,
-) -> (Stand, Progress) {
+) -> (SiteStand, Progress) {
     if command.len() > LIMIT {
         return ((0, 0, 0, 0), Progress::Memory);
     }

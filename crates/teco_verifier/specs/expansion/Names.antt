@@ -1,68 +1,15 @@
--- The registers that elements name.
-use Rattle.std.specs.Prelude.{ℕ, Bool, false, Option, Some, None}
+-- The registers of a library that elements name or write.
+use Rattle.std.specs.Prelude.{Bool, false, Option, Some, None}
 use Rattle.std.specs.Option.{option_map_or}
-use Rattle.teco_model.specs.declared.kind.Kind.{Kind}
-use Rattle.teco_model.specs.declared.kind.Kind.TheVariants as kind
-use Rattle.teco_model.specs.declared.kind.Query.{Query}
-use Rattle.teco_model.specs.declared.kind.Query.TheVariants as query
-use Rattle.teco_model.specs.declared.kind.Stack.{Stack}
-use Rattle.teco_model.specs.declared.kind.Stack.TheVariants as stack
-use Rattle.teco_model.specs.declared.kind.Command.{Command}
-use Rattle.teco_model.specs.declared.kind.Command.TheVariants as command
-use Rattle.teco_model.specs.declared.kind.Storage.{Storage}
-use Rattle.teco_model.specs.declared.kind.Storage.TheVariants as storage
 use Rattle.teco_model.specs.Element.{Element}
 use Rattle.teco_model.specs.Macros.{Library, is_macro}
-
-abbrev pub named_by_query : Query → Option ℕ
-named_by_query (query.Number r) = Some r
-named_by_query q = None
-
-abbrev pub named_by_stack : Stack → ℕ
-named_by_stack (stack.Push r) = r
-named_by_stack (stack.Pop r) = r
-
-abbrev pub named_by_storage : Storage → ℕ
-named_by_storage (storage.SetNumber r) = r
-named_by_storage (storage.Add r) = r
-named_by_storage (storage.Copy r) = r
-named_by_storage (storage.SetText r) = r
-named_by_storage (storage.Get r) = r
-
-abbrev pub named_by_command : Command → Option ℕ
-named_by_command (command.Storage s) = Some (named_by_storage s)
-named_by_command c = None
-
-abbrev pub named_by : Kind → Option ℕ
-named_by (kind.Query q) = named_by_query q
-named_by (kind.Stack s) = Some (named_by_stack s)
-named_by (kind.Call c) = Some c.register
-named_by (kind.Command c) = named_by_command c
-named_by k = None
+pub use Rattle.teco_model.specs.Names.{named_by_query, named_by_stack, named_by_storage, named_by_command, named_by}
+pub use Rattle.teco_model.specs.Names.{written_by_storage, written_by_stack, written_by_command, written_by}
 
 -- does an element name a register of the library?
 abbrev pub names_macro : Library → Option Element → Bool
 names_macro library None = false
 names_macro library (Some e) = option_map_or (is_macro library) (named_by e.kind) false
-
--- X, ^U and ] write the text of a register.
-abbrev pub written_by_storage : Storage → Option ℕ
-written_by_storage (storage.Copy r) = Some r
-written_by_storage (storage.SetText r) = Some r
-written_by_storage s = None
-
-abbrev pub written_by_stack : Stack → Option ℕ
-written_by_stack (stack.Pop r) = Some r
-written_by_stack s = None
-
-abbrev pub written_by_command : Command → Option ℕ
-written_by_command (command.Storage s) = written_by_storage s
-written_by_command c = None
-
-abbrev pub written_by : Kind → Option ℕ
-written_by (kind.Stack s) = written_by_stack s
-written_by (kind.Command c) = written_by_command c
-written_by k = None
 
 -- does an element write a register of the library?
 abbrev pub writes_macro : Library → Option Element → Bool

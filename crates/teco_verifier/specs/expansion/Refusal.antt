@@ -1,5 +1,6 @@
 -- Why a library is not expanded.
 use Rattle.std.specs.Prelude.{ℕ, Bool, true, false, Result, Ok, Err}
+pub use Rattle.teco_base.specs.Results.{◌>>=◌}
 
 -- a fault of an element, or of a search text (X2); a bracket, pipe or tag without its partner, or pairs that overlap
 -- (X3); a call of what is no macro of the library (X11); recursion (X12); too many elements, open calls or open
@@ -16,12 +17,6 @@ pub record Refusal : Type 0 where
   pub reason : Reason
   pub register : ℕ
   pub place : ℕ
-
--- The first refusal is the answer of all.
-infixl 10 ◌>>=◌
-abbrev pub ◌>>=◌ : {E X Y : Type 0} → Result X E → (X → Result Y E) → Result Y E
-(Ok x) >>= f = f x
-(Err c) >>= f = Err c
 
 -- a refusal where something is so
 abbrev pub unless : {E : Type 0} → Bool → E → Result (Unit {0}) E

@@ -1,14 +1,9 @@
-use Rattle.std.proofs.Common.{◌≡◌, ◌+◌, ◌∙◌, ℕ, Ok, Err, true, inl, refl, ap, arith}
+use Rattle.teco_apply.proofs.Prelude.{◌≡◌, ◌+◌, ◌∙◌, ℕ, Ok, Err, true, inl, refl, ap, arith, in_turn, BehindPage, Order}
+use Rattle.teco_apply.proofs.Prelude.{PagesTurned, nothing_done, order_by, PAGES, Tally, World, Joined-stays}
 use Rattle.teco_apply.proofs.ByPages.{Joined-too_many, each-ends, each-full, each-more, each-stops, macro-goes_on}
 use Rattle.teco_apply.proofs.ByPages.{macro-stops, page-closes}
 use Rattle.teco_apply.proofs.Parts.{parts-same, parts-taken}
-use Rattle.teco_apply.specs.Touched.{in_turn}
-use Rattle.teco_apply.specs.ByPages.{BehindPage, Order, PagesTurned, nothing_done, order_by}
-use Rattle.teco_apply.specs.declared.by_pages.TheConstants.{PAGES}
 use Rattle.teco_apply.specs.declared.stages.Ran.TheVariants as ran
-use Rattle.teco_apply.specs.declared.stages.Tally.{Tally}
-use Rattle.teco_model.specs.State.{World}
-use Rattle.teco_session.proofs.Together.{Joined-stays}
 use Rattle.teco_apply.proofs.by_pages.edit_each.Goals as goal
 
 pub loop-init : goal.loop-init

@@ -1,7 +1,4 @@
-use Rattle.std.proofs.Common.{◌≡◌}
-use Rattle.teco_apply.specs.ByPages.{PagesTurned, order_by}
-use Rattle.teco_apply.specs.Touched.{TouchesByParts}
-use Rattle.teco_run.specs.Holdings.{Joined}
+use Rattle.teco_apply.proofs.Prelude.{◌≡◌, PagesTurned, order_by, TouchesByParts, Joined}
 use Rattle.teco_apply.proofs.by_pages.edit_each.Given as goal
 
 -- as many pages as turns were edited, and the host has not failed

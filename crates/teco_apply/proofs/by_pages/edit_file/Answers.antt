@@ -1,9 +1,7 @@
-use Rattle.std.proofs.Common.{◌≡◌, Err, rules, refl, subst}
+use Rattle.teco_apply.proofs.Prelude.{◌≡◌, Err, rules, refl, subst, FileEdited, PagesCount, order_by, World}
+use Rattle.teco_apply.proofs.Prelude.{Joined-stays}
 use Rattle.teco_apply.proofs.ByPages.{Joined-file}
 use Rattle.teco_apply.proofs.Parts.{edit-touches}
-use Rattle.teco_apply.specs.ByPages.{FileEdited, PagesCount, order_by}
-use Rattle.teco_model.specs.State.{World}
-use Rattle.teco_session.proofs.Together.{Joined-stays}
 use Rattle.teco_session.specs.declared.fault.SessionFault.TheVariants as fault
 use Rattle.teco_apply.proofs.by_pages.edit_file.Goals as goal
 

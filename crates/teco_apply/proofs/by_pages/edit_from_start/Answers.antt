@@ -1,8 +1,6 @@
-use Rattle.std.proofs.Common.{Ok, Err, true, inl, inr, refl}
+use Rattle.teco_apply.proofs.Prelude.{Ok, Err, true, inl, inr, refl, AnswersText, Once, order_by, to_start, by_string}
+use Rattle.teco_apply.proofs.Prelude.{in_turn}
 use Rattle.teco_apply.proofs.ByPages.{behind-goes_on, behind-stops, ends-coded}
-use Rattle.teco_apply.specs.Apply.{AnswersText}
-use Rattle.teco_apply.specs.ByPages.{Once, order_by, to_start}
-use Rattle.teco_apply.specs.Touched.{by_string, in_turn}
 use Rattle.teco_apply.proofs.by_pages.edit_from_start.Goals as goal
 
 pub returns-in-Ok-false-clause-edits : goal.returns-in-Ok-false-clause-edits

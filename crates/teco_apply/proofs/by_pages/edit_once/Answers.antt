@@ -1,7 +1,5 @@
-use Rattle.std.proofs.Common.{Ok, Err, refl, ap}
+use Rattle.teco_apply.proofs.Prelude.{Ok, Err, refl, ap, Closing, order_by, in_turn}
 use Rattle.teco_apply.proofs.ByPages.{macro-goes_on, macro-stops}
-use Rattle.teco_apply.specs.ByPages.{Closing, order_by}
-use Rattle.teco_apply.specs.Touched.{in_turn}
 use Rattle.teco_apply.specs.declared.stages.Ran.TheVariants as ran
 use Rattle.teco_apply.proofs.by_pages.edit_once.Goals as goal
 

@@ -1,8 +1,6 @@
-use Rattle.std.proofs.Common.{Ok, Err, true, refl}
+use Rattle.teco_apply.proofs.Prelude.{Ok, Err, true, refl, AnswersText, EditsPages, order_by}
 use Rattle.teco_apply.proofs.ByPages.{behind-goes_on, behind-stops, ends-coded}
 use Rattle.teco_apply.proofs.Parts.{parts-same}
-use Rattle.teco_apply.specs.Apply.{AnswersText}
-use Rattle.teco_apply.specs.ByPages.{EditsPages, order_by}
 use Rattle.teco_apply.proofs.by_pages.edit_opened.Goals as goal
 
 pub returns-in-Ok-false-clause-edits : goal.returns-in-Ok-false-clause-edits

@@ -1,7 +1,6 @@
-use Rattle.std.proofs.Common.{Ok, Err, true, refl}
+use Rattle.teco_apply.proofs.Prelude.{Ok, Err, true, refl, Gathers, order_by, in_turn}
 use Rattle.teco_apply.proofs.ByPages.{behind-goes_on, behind-stops, ends-coded}
-use Rattle.teco_apply.specs.ByPages.{FromStart, Gathers, order_by}
-use Rattle.teco_apply.specs.Touched.{in_turn}
+use Rattle.teco_apply.specs.ByPages.{FromStart}
 use Rattle.teco_apply.proofs.by_pages.edit_whole.Goals as goal
 
 pub returns-in-Ok-false-clause-edits : goal.returns-in-Ok-false-clause-edits

@@ -1,11 +1,7 @@
-use Rattle.std.proofs.Common.{◌≡◌, ◌∙◌, Ok, Err, true, inl, inr, refl, arith}
+use Rattle.teco_apply.proofs.Prelude.{◌≡◌, ◌∙◌, Ok, Err, true, inl, inr, refl, arith, PagesGathered, in_turn, PAGES}
+use Rattle.teco_apply.proofs.Prelude.{World, Joined-stays}
 use Rattle.teco_apply.proofs.ByPages.{Joined-too_many, gathers-full, gathers-more, gathers-stops, gathers-through}
 use Rattle.teco_apply.proofs.Parts.{parts-same, parts-taken}
-use Rattle.teco_apply.specs.ByPages.{PagesGathered}
-use Rattle.teco_apply.specs.Touched.{in_turn}
-use Rattle.teco_apply.specs.declared.by_pages.TheConstants.{PAGES}
-use Rattle.teco_model.specs.State.{World}
-use Rattle.teco_session.proofs.Together.{Joined-stays}
 use Rattle.teco_apply.proofs.by_pages.gather.Goals as goal
 
 pub loop-init : goal.loop-init

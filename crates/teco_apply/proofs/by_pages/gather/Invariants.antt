@@ -1,8 +1,4 @@
-use Rattle.std.proofs.Common.{◌≡◌}
-use Rattle.teco_apply.specs.ByPages.{PagesGathered}
-use Rattle.teco_apply.specs.Sure.{Call}
-use Rattle.teco_apply.specs.Touched.{TouchesByParts}
-use Rattle.teco_run.specs.Holdings.{Joined}
+use Rattle.teco_apply.proofs.Prelude.{◌≡◌, PagesGathered, Call, TouchesByParts, Joined}
 use Rattle.teco_apply.proofs.by_pages.gather.Given as goal
 
 -- as many pages as turns were read, and the host has not failed

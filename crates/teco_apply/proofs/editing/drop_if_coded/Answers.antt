@@ -1,6 +1,5 @@
-use Rattle.std.proofs.Common.{refl}
+use Rattle.teco_apply.proofs.Prelude.{refl, by_dropping}
 use Rattle.teco_apply.proofs.Parts.{parts-same}
-use Rattle.teco_apply.specs.Touched.{by_dropping}
 use Rattle.teco_apply.proofs.editing.drop_if_coded.Goals as goal
 
 pub returns-in-Ok-true-clause-touches : goal.returns-in-Ok-true-clause-touches

@@ -1,8 +1,5 @@
-use Rattle.std.proofs.Common.{◌+◌, ◌∙◌, refl, rules}
+use Rattle.teco_apply.proofs.Prelude.{◌+◌, ◌∙◌, refl, rules, order_by, Call, Notes}
 use Rattle.teco_apply.proofs.InPlace.{rewritten-from, unedited}
-use Rattle.teco_apply.specs.ByPages.{order_by}
-use Rattle.teco_apply.specs.Sure.{Call}
-use Rattle.teco_pages.specs.HostFiles.{Notes}
 use Rattle.teco_session.specs.declared.fault.SessionFault.TheVariants as fault
 use Rattle.teco_apply.proofs.in_place.edit_in_place.Goals as goal
 

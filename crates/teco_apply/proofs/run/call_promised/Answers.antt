@@ -1,14 +1,8 @@
-use Rattle.std.proofs.Common.{◌≡◌, ◌<◌, subst, sym, ap, ◌∙◌}
+use Rattle.teco_apply.proofs.Prelude.{◌≡◌, ◌<◌, subst, sym, ap, ◌∙◌, Call, Calls, HasFiles, IsReady, MOST}
+use Rattle.teco_apply.proofs.Prelude.{TakesArgument, call_text, TouchesNone, REGISTERS, IsLoaded, Stops, start, Joined}
+use Rattle.teco_apply.proofs.Prelude.{TouchesBySteps, touched_in_run}
 use Rattle.teco_apply.proofs.Sure.{calls}
 use Rattle.teco_apply.proofs.Touched.{touches-none}
-use Rattle.teco_apply.specs.Sure.{Call, Calls, HasFiles, IsReady, MOST, TakesArgument, call_text}
-use Rattle.teco_apply.specs.Touched.{TouchesNone}
-use Rattle.teco_base.specs.declared.TheConstants.{REGISTERS}
-use Rattle.teco_model.specs.Macros.{IsLoaded}
-use Rattle.teco_model.specs.Run.{Stops}
-use Rattle.teco_model.specs.State.{start}
-use Rattle.teco_run.specs.Holdings.{Joined}
-use Rattle.teco_run.specs.Touched.{TouchesBySteps, touched_in_run}
 use Rattle.teco_apply.proofs.run.call_promised.Goals as goal
 
 pub returns-clause-calls : goal.returns-clause-calls

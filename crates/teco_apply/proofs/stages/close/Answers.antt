@@ -1,6 +1,4 @@
-use Rattle.std.proofs.Common.{inr, refl}
-use Rattle.teco_apply.specs.Apply.{closing}
-use Rattle.teco_apply.specs.Touched.{by_string}
+use Rattle.teco_apply.proofs.Prelude.{inr, refl, closing, by_string}
 use Rattle.teco_apply.proofs.stages.close.Goals as goal
 
 pub returns-clause-touches : goal.returns-clause-touches

@@ -1,6 +1,5 @@
 use Rattle.teco_apply.proofs.Parts.{parts-taken}
-use Rattle.teco_apply.specs.ByPages.{order_by}
-use Rattle.teco_apply.specs.Touched.{in_turn}
+use Rattle.teco_apply.proofs.Prelude.{order_by, in_turn}
 use Rattle.teco_apply.proofs.ByPages.{Joined-refused, Joined-runs}
 use Rattle.teco_apply.proofs.stages.run_admitted.Goals as goal
 

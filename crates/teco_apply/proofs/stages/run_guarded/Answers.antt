@@ -1,8 +1,6 @@
-use Rattle.std.proofs.Common.{ap, rules}
+use Rattle.teco_apply.proofs.Prelude.{ap, rules, Order, order_by, Holdings}
 use Rattle.teco_apply.proofs.ByPages.{Joined-admitted, Joined-asked, Joined-unready}
 use Rattle.teco_apply.proofs.Parts.{asked-touches, called-touches, parts-same}
-use Rattle.teco_apply.specs.ByPages.{Order, order_by}
-use Rattle.teco_run.specs.Holdings.{Holdings}
 use Rattle.teco_apply.proofs.stages.run_guarded.Goals as goal
 
 pub returns-in-Err-clause-stops : goal.returns-in-Err-clause-stops

@@ -1,6 +1,6 @@
 use Rattle.teco_apply.proofs.ByPages.{Joined-turned, Joined-untold}
 use Rattle.teco_apply.proofs.Parts.{parts-taken}
-use Rattle.teco_apply.specs.Touched.{by_none, by_string, in_turn}
+use Rattle.teco_apply.proofs.Prelude.{by_none, by_string, in_turn}
 use Rattle.teco_apply.proofs.stages.turn.Goals as goal
 
 pub returns-in-Err-clause-turns : goal.returns-in-Err-clause-turns

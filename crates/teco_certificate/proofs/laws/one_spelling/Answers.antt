@@ -1,4 +1,4 @@
-use Rattle.std.proofs.Common.{sym, ◌∙◌}
+use Rattle.teco_certificate.proofs.Prelude.{sym, ◌∙◌}
 use Rattle.teco_certificate.proofs.Unique.{one_certificate}
 use Rattle.teco_certificate.proofs.laws.one_spelling.Goals as goal
 

@@ -1,6 +1,4 @@
-use Rattle.std.proofs.Common.{◌++◌, ◌∷◌}
-use Rattle.teco_base.specs.declared.bytes.TheConstants.{LF}
-use Rattle.teco_certificate.specs.Text.{version_text}
+use Rattle.teco_certificate.proofs.Prelude.{◌++◌, ◌∷◌, LF, version_text}
 use Rattle.teco_certificate.proofs.Spelling.{version_read}
 use Rattle.teco_certificate.proofs.lines.behind_version.Goals as goal
 

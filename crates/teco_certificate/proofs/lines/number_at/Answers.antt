@@ -1,5 +1,4 @@
-use Rattle.std.specs.Char.{is_ascii_digit}
-use Rattle.std.specs.Fmt.{decimal}
+use Rattle.teco_certificate.proofs.Prelude.{is_ascii_digit, decimal}
 use Rattle.teco_certificate.proofs.Fronts.{decimal_digits, ends_number, split_front}
 use Rattle.teco_certificate.proofs.lines.number_at.Goals as goal
 

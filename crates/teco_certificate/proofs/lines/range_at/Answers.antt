@@ -1,7 +1,4 @@
-use Rattle.std.proofs.Common.{◌++◌, ◌∷◌, ◌∙◌, refl, arith, append_assoc}
-use Rattle.std.specs.Fmt.{decimal}
-use Rattle.std.specs.Prelude.{codes}
-use Rattle.teco_base.specs.declared.bytes.TheConstants.{LF}
+use Rattle.teco_certificate.proofs.Prelude.{◌++◌, ◌∷◌, ◌∙◌, refl, arith, append_assoc, decimal, codes, LF}
 use Rattle.teco_certificate.proofs.lines.range_at.Goals as goal
 
 pub returns : goal.returns

@@ -1,7 +1,5 @@
-use Rattle.std.proofs.Common.{Some, None, refl, sym, ◌∙◌}
-use Rattle.std.proofs.lemmas.Bool.Decides.{Decides-eqb}
-use Rattle.std.proofs.lemmas.List.{append_cancel_left}
-use Rattle.std.proofs.lemmas.Slice.Eq.{strip_prefix_is}
+use Rattle.teco_certificate.proofs.Prelude.{Some, None, refl, sym, ◌∙◌, Decides-eqb, append_cancel_left}
+use Rattle.teco_certificate.proofs.Prelude.{strip_prefix_is}
 use Rattle.teco_certificate.proofs.lines.word_at.Goals as goal
 
 pub returns-in-Some-clause-word : goal.returns-in-Some-clause-word

@@ -1,7 +1,4 @@
-use Rattle.std.proofs.Common.{◌≡◌, ◌++◌, take, flat_map}
-use Rattle.std.specs.List.{AllByRecursion}
-use Rattle.teco_certificate.specs.Text.{loop_line}
-use Rattle.teco_certificate.specs.WellFormed.{IsChosen}
+use Rattle.teco_certificate.proofs.Prelude.{◌≡◌, ◌++◌, take, flat_map, AllByRecursion, loop_line, IsChosen}
 use Rattle.teco_certificate.proofs.printing.push_loops.Given as goal
 
 -- what is added so far is of the loops so far

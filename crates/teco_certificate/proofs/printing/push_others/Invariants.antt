@@ -1,7 +1,4 @@
-use Rattle.std.proofs.Common.{◌≡◌, ◌++◌, take, flat_map}
-use Rattle.std.specs.List.{AllByRecursion}
-use Rattle.teco_certificate.specs.Text.{behind_comma}
-use Rattle.teco_certificate.specs.WellFormed.{IsLongerText}
+use Rattle.teco_certificate.proofs.Prelude.{◌≡◌, ◌++◌, take, flat_map, AllByRecursion, behind_comma, IsLongerText}
 use Rattle.teco_certificate.proofs.printing.push_others.Given as goal
 
 -- what is added so far is of the texts so far

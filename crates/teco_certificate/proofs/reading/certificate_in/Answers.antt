@@ -1,10 +1,6 @@
-use Rattle.std.proofs.Common.{◌++◌, ◌∷◌, [], refl, ap, ◌∙◌, append_assoc, flat_map}
-use Rattle.std.specs.Prelude.{codes}
-use Rattle.teco_base.specs.Register.{register_name}
-use Rattle.teco_base.specs.declared.bytes.TheConstants.{LF}
-use Rattle.teco_certificate.specs.Text.{line, version_text, argument_line, needs_text, loop_line}
+use Rattle.teco_certificate.proofs.Prelude.{◌++◌, ◌∷◌, [], refl, ap, ◌∙◌, append_assoc, flat_map, codes, register_name}
+use Rattle.teco_certificate.proofs.Prelude.{LF, line, version_text, argument_line, needs_text, loop_line, text}
 use Rattle.teco_certificate.proofs.Spelling.{no_argument, same_fields}
-use Rattle.teco_poly.specs.Text.{text}
 use Rattle.teco_certificate.proofs.reading.certificate_in.Goals as goal
 
 pub returns-clause-text : goal.returns-clause-text

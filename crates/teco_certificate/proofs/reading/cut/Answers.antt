@@ -1,4 +1,4 @@
-use Rattle.teco_certificate.specs.Front.{is_of_polynomial}
+use Rattle.teco_certificate.proofs.Prelude.{is_of_polynomial}
 use Rattle.teco_certificate.proofs.Fronts.{ends_polynomial, split_front}
 use Rattle.teco_certificate.proofs.reading.cut.Goals as goal
 

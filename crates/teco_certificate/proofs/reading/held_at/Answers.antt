@@ -1,6 +1,4 @@
-use Rattle.std.proofs.Common.{◌++◌, refl, append_assoc, sym, ◌∙◌}
-use Rattle.std.specs.Prelude.{codes}
-use Rattle.teco_poly.specs.Text.{text}
+use Rattle.teco_certificate.proofs.Prelude.{◌++◌, refl, append_assoc, sym, ◌∙◌, codes, text}
 use Rattle.teco_certificate.proofs.Fronts.{polynomial_passes, passes_append}
 use Rattle.teco_certificate.proofs.Spelling.{without_space}
 use Rattle.teco_certificate.proofs.reading.held_at.Goals as goal

@@ -1,9 +1,5 @@
-use Rattle.std.proofs.Common.{◌++◌, ◌∷◌, refl, ◌∙◌}
-use Rattle.std.specs.Prelude.{codes}
-use Rattle.teco_base.specs.declared.bytes.TheConstants.{LF}
-use Rattle.teco_certificate.specs.Text.{kept_text, longer_texts}
+use Rattle.teco_certificate.proofs.Prelude.{◌++◌, ◌∷◌, refl, ◌∙◌, codes, LF, kept_text, longer_texts, text}
 use Rattle.teco_certificate.proofs.Spelling.{ends_kept, parts_of_line, same_chosen}
-use Rattle.teco_poly.specs.Text.{text}
 use Rattle.teco_certificate.proofs.reading.loop_at.Goals as goal
 
 pub returns-clause-text : goal.returns-clause-text

@@ -1,11 +1,6 @@
-use Rattle.std.proofs.Common.{◌≡◌, ◌++◌, List, ◌∷◌, [], Some, None, flat_map, arith, refl}
-use Rattle.std.proofs.lemmas.Bool.Decides.{Decides-eqb}
-use Rattle.std.proofs.lemmas.Slice.Eq.{strip_prefix_is}
-use Rattle.std.specs.List.{AllByRecursion}
-use Rattle.std.specs.Prelude.{codes}
-use Rattle.teco_certificate.specs.Text.{line, loop_line}
-use Rattle.teco_certificate.specs.WellFormed.{IsChosen, RegistersRise}
-use Rattle.teco_verifier.specs.table.Choices.{Chosen}
+use Rattle.teco_certificate.proofs.Prelude.{◌≡◌, ◌++◌, List, ◌∷◌, [], Some, None, flat_map, arith, refl, Decides-eqb}
+use Rattle.teco_certificate.proofs.Prelude.{strip_prefix_is, AllByRecursion, codes, line, loop_line, IsChosen}
+use Rattle.teco_certificate.proofs.Prelude.{RegistersRise, Chosen}
 use Rattle.teco_certificate.proofs.Items.{all_and, more_read, all_read}
 use Rattle.teco_certificate.proofs.Spelling.{other_byte}
 use Rattle.teco_certificate.proofs.reading.loops_at.Invariants.{loop_rest, IsLine}

@@ -1,9 +1,5 @@
-use Rattle.std.proofs.Common.{◌≡◌, ◌++◌, ℕ, List, length, flat_map}
-use Rattle.std.specs.List.{AllByRecursion}
-use Rattle.std.specs.Prelude.{codes}
-use Rattle.teco_certificate.specs.Text.{line, chosen_text, loop_line}
-use Rattle.teco_certificate.specs.WellFormed.{IsChosen, RegistersRise}
-use Rattle.teco_verifier.specs.table.Choices.{Chosen}
+use Rattle.teco_certificate.proofs.Prelude.{◌≡◌, ◌++◌, ℕ, List, length, flat_map, AllByRecursion, codes, line}
+use Rattle.teco_certificate.proofs.Prelude.{chosen_text, loop_line, IsChosen, RegistersRise, Chosen}
 use Rattle.teco_certificate.proofs.Items.{AreLeft}
 use Rattle.teco_certificate.proofs.reading.loops_at.Given as goal
 

@@ -1,11 +1,6 @@
-use Rattle.std.proofs.Common.{◌≡◌, ◌<◌, ◌++◌, ◌∷◌, [], Some, None, flat_map, arith, refl, sym, subst}
-use Rattle.std.proofs.lemmas.Bool.Decides.{Decides-eqb}
-use Rattle.std.proofs.lemmas.Slice.Eq.{strip_prefix_is}
-use Rattle.std.specs.Prelude.{codes}
-use Rattle.teco_base.specs.declared.TheConstants.{REGISTERS}
-use Rattle.teco_base.specs.declared.bytes.TheConstants.{LF}
-use Rattle.teco_certificate.specs.Text.{longer_text, behind_comma}
-use Rattle.teco_certificate.specs.WellFormed.{IsLongerText, TextsRise}
+use Rattle.teco_certificate.proofs.Prelude.{◌≡◌, ◌<◌, ◌++◌, ◌∷◌, [], Some, None, flat_map, arith, refl, sym, subst}
+use Rattle.teco_certificate.proofs.Prelude.{Decides-eqb, strip_prefix_is, codes, REGISTERS, LF, longer_text}
+use Rattle.teco_certificate.proofs.Prelude.{behind_comma, IsLongerText, TextsRise}
 use Rattle.teco_certificate.proofs.Items.{all_and, more_read, all_read}
 use Rattle.teco_certificate.proofs.Rising.{front_rises}
 use Rattle.teco_certificate.proofs.Spelling.{other_byte, ends_longer}

@@ -1,10 +1,6 @@
-use Rattle.std.proofs.Common.{◌≡◌, ◌++◌, ◌∷◌, ◌≤◌, ℕ, List, length, flat_map}
-use Rattle.std.specs.List.{AllByRecursion}
-use Rattle.std.specs.Prelude.{codes}
-use Rattle.teco_base.specs.declared.bytes.TheConstants.{LF}
-use Rattle.teco_certificate.specs.Text.{longer_text, behind_comma}
-use Rattle.teco_certificate.specs.WellFormed.{IsLongerText, TextsRise, AreOfRegisters}
-use Rattle.teco_verifier.specs.table.Choices.{LongerText}
+use Rattle.teco_certificate.proofs.Prelude.{◌≡◌, ◌++◌, ◌∷◌, ◌≤◌, ℕ, List, length, flat_map, AllByRecursion, codes, LF}
+use Rattle.teco_certificate.proofs.Prelude.{longer_text, behind_comma, IsLongerText, TextsRise, AreOfRegisters}
+use Rattle.teco_certificate.proofs.Prelude.{LongerText}
 use Rattle.teco_certificate.proofs.Items.{AreLeft}
 use Rattle.teco_certificate.proofs.reading.others_at.Given as goal
 

@@ -1,4 +1,4 @@
-use Rattle.teco_poly.specs.Text.{text}
+use Rattle.teco_certificate.proofs.Prelude.{text}
 use Rattle.teco_certificate.proofs.Fronts.{polynomial_passes}
 use Rattle.teco_certificate.proofs.reading.polynomial_at.Goals as goal
 

@@ -1,10 +1,5 @@
-use Rattle.std.proofs.Common.{◌++◌, ◌∷◌, [], None, flat_map, ap, sym, subst, ◌∙◌}
-use Rattle.std.proofs.lemmas.Bool.Decides.{Decides-eqb}
-use Rattle.std.proofs.lemmas.Slice.Eq.{strip_prefix_is}
-use Rattle.std.specs.Prelude.{codes}
-use Rattle.teco_base.specs.declared.bytes.TheConstants.{LF}
-use Rattle.teco_certificate.specs.Text.{behind_comma}
-use Rattle.teco_certificate.specs.WellFormed.{TextsRise}
+use Rattle.teco_certificate.proofs.Prelude.{◌++◌, ◌∷◌, [], None, flat_map, ap, sym, subst, ◌∙◌, Decides-eqb}
+use Rattle.teco_certificate.proofs.Prelude.{strip_prefix_is, codes, LF, behind_comma, TextsRise}
 use Rattle.teco_certificate.proofs.Rising.{few_rise}
 use Rattle.teco_certificate.proofs.Spelling.{texts_first, ends_longer}
 use Rattle.teco_certificate.proofs.reading.texts_at.Goals as goal

@@ -1,5 +1,4 @@
-use Rattle.std.proofs.Common.{◌≡◌, drop}
-use Rattle.teco_verifier.specs.table.Deriving.{chosen_for}
+use Rattle.teco_check.proofs.Prelude.{◌≡◌, drop, chosen_for}
 use Rattle.teco_check.proofs.chosen.choice_for.Given as goal
 
 -- those before this one are for others

@@ -1,5 +1,4 @@
-use Rattle.std.proofs.Common.{◌≡◌, drop, length}
-use Rattle.teco_base.specs.declared.TheConstants.{REGISTERS}
+use Rattle.teco_check.proofs.Prelude.{◌≡◌, drop, length, REGISTERS}
 use Rattle.teco_verifier.specs.table.Deriving.{with_longer}
 use Rattle.teco_check.proofs.chosen.with_longer.Given as goal
 

@@ -1,6 +1,5 @@
-use Rattle.std.proofs.Common.{sym, ◌∙◌, option_map, rules, arith}
+use Rattle.teco_check.proofs.Prelude.{sym, ◌∙◌, option_map, rules, arith, node_at}
 use Rattle.teco_model.specs.Element as elements
-use Rattle.teco_check.specs.Here.{node_at}
 use Rattle.teco_check.proofs.Further.{arrive_more, arrive_fails, none_behind, onward_arrives}
 use Rattle.teco_check.proofs.closed.arrive.Goals as goal
 use Rattle.teco_check.proofs.closed.arrive.Goals.{in-Some+else-not-arrives, in_default}

@@ -1,7 +1,5 @@
-use Rattle.std.proofs.Common.{◌≡◌, drop, option_map}
+use Rattle.teco_check.proofs.Prelude.{◌≡◌, drop, option_map, arrive, node_at}
 use Rattle.teco_model.specs.Element as elements
-use Rattle.teco_verifier.specs.table.Closed.{arrive}
-use Rattle.teco_check.specs.Here.{node_at}
 use Rattle.teco_check.proofs.closed.arrive.Given as goal
 
 -- the ways before this one arrive

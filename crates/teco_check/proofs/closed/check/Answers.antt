@@ -1,5 +1,5 @@
-use Rattle.std.proofs.Common.{◌≡◌, ◌<◌, ◌∙◌, length, Err, rules, arith}
-use Rattle.teco_verifier.specs.table.Closed.{check_nodes, check}
+use Rattle.teco_check.proofs.Prelude.{◌≡◌, ◌<◌, ◌∙◌, length, Err, rules, arith, check}
+use Rattle.teco_verifier.specs.table.Closed.{check_nodes}
 use Rattle.teco_check.proofs.Further.{check_more, says_of}
 use Rattle.teco_check.proofs.closed.check.Goals as goal
 

@@ -1,5 +1,4 @@
-use Rattle.std.proofs.Common.{◌≡◌, suc, drop}
-use Rattle.teco_verifier.specs.table.Closed.{check, check_from}
+use Rattle.teco_check.proofs.Prelude.{◌≡◌, suc, drop, check, check_from}
 use Rattle.teco_check.proofs.closed.check.Given as goal
 
 -- the nodes before this one are closed

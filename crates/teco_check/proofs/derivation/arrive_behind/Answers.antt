@@ -1,7 +1,4 @@
-use Rattle.std.proofs.Common.{◌≡◌, sym, ◌∙◌, Some, None, arith}
-use Rattle.teco_verifier.specs.table.Deriving.{arriving}
-use Rattle.teco_verifier.specs.table.Written.{changes_in}
-use Rattle.teco_check.specs.Here.{node_at}
+use Rattle.teco_check.proofs.Prelude.{◌≡◌, sym, ◌∙◌, Some, None, arith, arriving, changes_in, node_at}
 use Rattle.teco_check.proofs.Further.{some_arrives, none_arrives, none_behind}
 use Rattle.teco_check.proofs.derivation.arrive_behind.Goals as goal
 use Rattle.teco_check.proofs.derivation.arrive_behind.Goals.{in-Some+in_ok-facts+in-Some-2+in_ok-put}

@@ -1,8 +1,4 @@
-use Rattle.std.proofs.Common.{◌≡◌, drop}
-use Rattle.teco_verifier.specs.table.Deriving.{arrivals_behind}
-use Rattle.teco_verifier.specs.table.Written.{changes_in}
-use Rattle.teco_check.specs.Derived.{arrived_all}
-use Rattle.teco_check.specs.Here.{node_at}
+use Rattle.teco_check.proofs.Prelude.{◌≡◌, drop, arrivals_behind, changes_in, arrived_all, node_at}
 use Rattle.teco_check.proofs.derivation.arrive_behind.Given as goal
 
 -- the edges of the ways before this one arrived

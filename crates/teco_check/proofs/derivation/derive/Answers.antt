@@ -1,8 +1,7 @@
-use Rattle.std.proofs.Common.{◌≡◌, ◌∙◌, ◌<◌, Err, length, rules, refl, arith}
+use Rattle.teco_check.proofs.Prelude.{◌≡◌, ◌∙◌, ◌<◌, Err, length, rules, refl, arith, RowIsKept}
 use Rattle.teco_check.proofs.Arriving.{all_derived, begun, row_more, row_said, row_told}
 use Rattle.teco_check.proofs.Keeping.{one_more}
 use Rattle.teco_check.proofs.Outside.{row_small}
-use Rattle.teco_check.specs.Kept.{RowIsKept}
 use Rattle.teco_check.proofs.derivation.derive.Goals as goal
 
 pub loop-at-init : goal.loop-at-init

@@ -1,6 +1,5 @@
-use Rattle.std.specs.List.{AllByRecursion}
+use Rattle.teco_check.proofs.Prelude.{AllByRecursion, RowIsKept}
 use Rattle.teco_check.proofs.Arriving.{AreDerived}
-use Rattle.teco_check.specs.Kept.{RowIsKept}
 use Rattle.teco_check.proofs.derivation.derive.Given as goal
 
 -- the rows of the nodes before this one are derived, and none has facts that are too large

@@ -1,5 +1,5 @@
-use Rattle.std.proofs.Common.{◌≡◌, suc, drop}
-use Rattle.teco_verifier.specs.expansion.Ends.{end_of, first_end}
+use Rattle.teco_check.proofs.Prelude.{◌≡◌, suc, drop, first_end}
+use Rattle.teco_verifier.specs.expansion.Ends.{end_of}
 use Rattle.teco_check.proofs.iterations.end_of.Given as goal
 
 -- no node before this one ends it

@@ -1,6 +1,5 @@
-use Rattle.std.proofs.Common.{◌≡◌, ◌<◌, ◌-◌, sym, ◌∙◌, refl, take, drop, length, ◌+◌, arith}
+use Rattle.teco_check.proofs.Prelude.{◌≡◌, ◌<◌, ◌-◌, sym, ◌∙◌, refl, take, drop, length, ◌+◌, arith, node_at}
 use Rattle.teco_verifier.specs.table.Written.{ends_in}
-use Rattle.teco_check.specs.Here.{node_at}
 use Rattle.teco_check.proofs.Writing.{body_more, ends_here, ends_later}
 use Rattle.teco_check.proofs.iterations.ends_in.Goals as goal
 use Rattle.teco_check.proofs.iterations.ends_in.Goals.{then-ends_saved, else-ends_saved}

@@ -1,7 +1,4 @@
-use Rattle.std.proofs.Common.{◌≡◌, ◌-◌, take, drop}
-use Rattle.std.specs.List.{list_any}
-use Rattle.teco_verifier.specs.expansion.Node.{Node}
-use Rattle.teco_verifier.specs.table.Written.{ends_saved}
+use Rattle.teco_check.proofs.Prelude.{◌≡◌, ◌-◌, take, drop, list_any, Node, ends_saved}
 use Rattle.teco_check.proofs.iterations.ends_in.Given as goal
 
 -- whether a node before this one ends all

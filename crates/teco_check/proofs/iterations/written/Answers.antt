@@ -1,7 +1,5 @@
-use Rattle.std.proofs.Common.{◌≡◌, ◌<◌, ◌-◌, sym, ◌∙◌, refl, take, drop, length, ◌+◌, arith}
-use Rattle.teco_base.specs.declared.TheConstants.{REGISTERS}
+use Rattle.teco_check.proofs.Prelude.{◌≡◌, ◌<◌, ◌-◌, sym, ◌∙◌, refl, take, drop, length, ◌+◌, arith, REGISTERS, node_at}
 use Rattle.teco_verifier.specs.table.Written.{written}
-use Rattle.teco_check.specs.Here.{node_at}
 use Rattle.teco_check.proofs.Writing.{body_more, written_some, written_none, nothing_written, length-written}
 use Rattle.teco_check.proofs.iterations.written.Goals as goal
 use Rattle.teco_check.proofs.iterations.written.Goals.{in-Some, in_default}

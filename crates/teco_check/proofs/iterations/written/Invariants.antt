@@ -1,6 +1,4 @@
-use Rattle.std.proofs.Common.{◌≡◌, ◌-◌, take, drop}
-use Rattle.teco_base.specs.declared.TheConstants.{REGISTERS}
-use Rattle.teco_verifier.specs.table.Written.{written_in}
+use Rattle.teco_check.proofs.Prelude.{◌≡◌, ◌-◌, take, drop, REGISTERS, written_in}
 use Rattle.teco_check.proofs.iterations.written.Given as goal
 
 -- what the nodes before this one write

@@ -1,7 +1,5 @@
-use Rattle.std.proofs.Common.{◌≡◌, ◌<◌, ◌+◌, true, false, length, sym, ◌∙◌, ap, arith}
-use Rattle.teco_check.specs.Here.{node_at}
-use Rattle.teco_verifier.specs.table.Loops.{begins}
-use Rattle.teco_verifier.specs.table.Closed.{begins_iteration}
+use Rattle.teco_check.proofs.Prelude.{◌≡◌, ◌<◌, ◌+◌, true, false, length, sym, ◌∙◌, ap, arith, node_at, begins}
+use Rattle.teco_check.proofs.Prelude.{begins_iteration}
 use Rattle.teco_check.proofs.Lines.{any_here, any_behind, any_in_none}
 use Rattle.teco_check.proofs.loops.has_iterations.Goals as goal
 

@@ -1,6 +1,4 @@
-use Rattle.std.proofs.Common.{◌≡◌, drop}
-use Rattle.std.specs.List.{list_any}
-use Rattle.teco_verifier.specs.table.Loops.{begins}
+use Rattle.teco_check.proofs.Prelude.{◌≡◌, drop, list_any, begins}
 use Rattle.teco_check.proofs.loops.has_iterations.Given as goal
 
 -- the nodes before this one begin none

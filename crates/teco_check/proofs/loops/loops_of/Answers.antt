@@ -1,5 +1,4 @@
-use Rattle.std.proofs.Common.{◌<◌, length, refl, arith}
-use Rattle.teco_verifier.specs.table.Loops.{loops_of}
+use Rattle.teco_check.proofs.Prelude.{◌<◌, length, refl, arith, loops_of}
 use Rattle.teco_check.proofs.Lines.{one_more, no_more}
 use Rattle.teco_check.proofs.loops.loops_of.Goals as goal
 

@@ -1,4 +1,4 @@
-use Rattle.std.proofs.Common.{◌≡◌, ◌+◌, ◌++◌, drop}
+use Rattle.teco_check.proofs.Prelude.{◌≡◌, ◌+◌, ◌++◌, drop}
 use Rattle.teco_verifier.specs.table.Loops as rules
 use Rattle.teco_check.proofs.loops.loops_of.Given as goal
 

@@ -1,5 +1,4 @@
-use Rattle.std.proofs.Common.{◌∙◌}
-use Rattle.teco_check.specs.Here.{node_at}
+use Rattle.teco_check.proofs.Prelude.{◌∙◌, node_at}
 use Rattle.teco_check.proofs.Numbered.{numbered_at, inside_is}
 use Rattle.teco_check.proofs.node.inside.Goals as goal
 

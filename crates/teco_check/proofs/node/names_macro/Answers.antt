@@ -1,4 +1,4 @@
-use Rattle.teco_check.specs.Here.{node_at}
+use Rattle.teco_check.proofs.Prelude.{node_at}
 use Rattle.teco_check.proofs.Numbered.{numbered_at}
 use Rattle.teco_check.proofs.node.names_macro.Goals as goal
 

@@ -1,5 +1,4 @@
-use Rattle.std.proofs.Common.{◌<◌, sym, ◌∙◌, length, refl, arith}
-use Rattle.teco_verifier.specs.table.Printed.{commands}
+use Rattle.teco_check.proofs.Prelude.{◌<◌, sym, ◌∙◌, length, refl, arith, commands}
 use Rattle.teco_check.proofs.Further.{count_more, count_fails}
 use Rattle.teco_check.proofs.Wholes.{none_known, known_round}
 use Rattle.teco_check.proofs.printed.commands.Goals as goal

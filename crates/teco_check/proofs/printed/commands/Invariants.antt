@@ -1,6 +1,4 @@
-use Rattle.std.proofs.Common.{◌≡◌, suc, drop}
-use Rattle.teco_verifier.specs.table.Printed.{commands, count_from}
-use Rattle.teco_check.specs.Rounds.{AreRounds}
+use Rattle.teco_check.proofs.Prelude.{◌≡◌, suc, drop, commands, count_from, AreRounds}
 use Rattle.teco_check.proofs.printed.commands.Given as goal
 
 -- the nodes before this one are counted

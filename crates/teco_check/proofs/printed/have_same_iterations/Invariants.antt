@@ -1,5 +1,4 @@
-use Rattle.std.proofs.Common.{◌≡◌, ℕ, ◌<◌, slice_get}
-use Rattle.teco_check.specs.Here.{node_at}
+use Rattle.teco_check.proofs.Prelude.{◌≡◌, ℕ, ◌<◌, slice_get, node_at}
 use Rattle.teco_check.proofs.printed.have_same_iterations.Given as goal
 
 -- those before this one are the same

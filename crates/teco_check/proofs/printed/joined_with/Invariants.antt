@@ -1,4 +1,4 @@
-use Rattle.std.proofs.Common.{◌≡◌, drop}
+use Rattle.teco_check.proofs.Prelude.{◌≡◌, drop}
 use Rattle.teco_verifier.specs.table.Printed.{joined_with}
 use Rattle.teco_check.proofs.printed.joined_with.Given as goal
 

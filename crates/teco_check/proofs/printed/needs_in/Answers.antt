@@ -1,4 +1,4 @@
-use Rattle.std.proofs.Common.{◌≡◌, ◌≤◌, length, refl, arith}
+use Rattle.teco_check.proofs.Prelude.{◌≡◌, ◌≤◌, length, refl, arith}
 use Rattle.teco_verifier.specs.table.Printed.{needs_in}
 use Rattle.teco_check.proofs.Further.{needs_more}
 use Rattle.teco_check.proofs.printed.needs_in.Goals as goal

@@ -1,5 +1,4 @@
-use Rattle.std.proofs.Common.{◌≡◌, suc, drop}
-use Rattle.teco_verifier.specs.table.Printed.{needs_from}
+use Rattle.teco_check.proofs.Prelude.{◌≡◌, suc, drop, needs_from}
 use Rattle.teco_check.proofs.printed.needs_in.Given as goal
 
 -- the needs of the nodes behind

@@ -1,5 +1,4 @@
-use Rattle.std.proofs.Common.{◌<◌, sym, ◌∙◌, length, refl, arith}
-use Rattle.teco_verifier.specs.table.Printed.{size}
+use Rattle.teco_check.proofs.Prelude.{◌<◌, sym, ◌∙◌, length, refl, arith, size}
 use Rattle.teco_check.proofs.Further.{size_more, size_fails}
 use Rattle.teco_check.proofs.printed.size.Goals as goal
 

@@ -1,5 +1,4 @@
-use Rattle.std.proofs.Common.{◌≡◌, suc, drop}
-use Rattle.teco_verifier.specs.table.Printed.{size, size_from}
+use Rattle.teco_check.proofs.Prelude.{◌≡◌, suc, drop, size, size_from}
 use Rattle.teco_check.proofs.printed.size.Given as goal
 
 -- what the nodes before this one hold is at most this

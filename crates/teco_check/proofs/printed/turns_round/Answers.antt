@@ -1,5 +1,4 @@
-use Rattle.std.proofs.Common.{sym, ◌∙◌, ◌-◌, rules, arith}
-use Rattle.teco_check.specs.Here.{node_at}
+use Rattle.teco_check.proofs.Prelude.{sym, ◌∙◌, ◌-◌, rules, arith, node_at}
 use Rattle.teco_check.proofs.Further.{round_more, round_refused, round_overflows, refused_inside, none_behind}
 use Rattle.teco_check.proofs.printed.turns_round.Goals as goal
 

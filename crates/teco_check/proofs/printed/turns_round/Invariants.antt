@@ -1,6 +1,4 @@
-use Rattle.std.proofs.Common.{◌≡◌, Ok, drop}
-use Rattle.teco_verifier.specs.table.Printed.{turns_round}
-use Rattle.teco_check.specs.Here.{node_at}
+use Rattle.teco_check.proofs.Prelude.{◌≡◌, Ok, drop, turns_round, node_at}
 use Rattle.teco_check.proofs.printed.turns_round.Given as goal
 
 -- the turns of the iterations outside

@@ -1,5 +1,4 @@
-use Rattle.std.proofs.Common.{◌≡◌, ◌++◌, take, flat_map}
-use Rattle.teco_claims.specs.Text.{claim_line}
+use Rattle.teco_claims.proofs.Prelude.{◌≡◌, ◌++◌, take, flat_map, claim_line}
 use Rattle.teco_claims.proofs.printing.push_claims.Given as goal
 
 -- what is added so far is of those so far

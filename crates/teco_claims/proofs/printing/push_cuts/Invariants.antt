@@ -1,5 +1,4 @@
-use Rattle.std.proofs.Common.{◌≡◌, ◌++◌, take, flat_map}
-use Rattle.teco_claims.specs.Text.{cut_text}
+use Rattle.teco_claims.proofs.Prelude.{◌≡◌, ◌++◌, take, flat_map, cut_text}
 use Rattle.teco_claims.proofs.printing.push_cuts.Given as goal
 
 -- what is added so far is of those so far

@@ -1,6 +1,4 @@
-use Rattle.std.proofs.Common.{◌++◌, ◌∷◌, [], flat_map, ap, ◌∙◌, arith}
-use Rattle.teco_base.specs.declared.bytes.TheConstants.{LF}
-use Rattle.teco_claims.specs.Text.{first_sign, body_text, next_text}
+use Rattle.teco_claims.proofs.Prelude.{◌++◌, ◌∷◌, [], flat_map, ap, ◌∙◌, arith, LF, first_sign, body_text, next_text}
 use Rattle.teco_claims.proofs.Claiming.{ends_next, parts_of_claim}
 use Rattle.teco_claims.proofs.Rising.{terms_front}
 use Rattle.teco_claims.proofs.reading.claim_at.Goals as goal

@@ -1,13 +1,6 @@
-use Rattle.std.proofs.Common.{◌≡◌, Bool, true, false, List, ◌++◌, ◌∷◌, [], length, Some, None, flat_map, arith, refl}
-use Rattle.std.proofs.Common.{sym, subst, ap, ◌∙◌}
-use Rattle.std.proofs.lemmas.Bool.{eqb-true}
-use Rattle.std.specs.List.{AllByRecursion}
-use Rattle.std.proofs.lemmas.Bool.Decides.{Decides-eqb}
-use Rattle.std.proofs.lemmas.Slice.Eq.{strip_prefix_is}
-use Rattle.std.specs.Prelude.{codes, ◌==◌}
-use Rattle.teco_claims.specs.declared.term.Term.{Term}
-use Rattle.teco_claims.specs.Spelled.{AreTerms, IsClaim}
-use Rattle.teco_claims.specs.Text.{claim_line}
+use Rattle.teco_claims.proofs.Prelude.{◌≡◌, Bool, true, false, List, ◌++◌, ◌∷◌, [], length, Some, None, flat_map, arith}
+use Rattle.teco_claims.proofs.Prelude.{refl, sym, subst, ap, ◌∙◌, eqb-true, AllByRecursion, Decides-eqb}
+use Rattle.teco_claims.proofs.Prelude.{strip_prefix_is, codes, ◌==◌, ClaimTerm, AreTerms, IsClaim, claim_line}
 use Rattle.teco_claims.proofs.Claiming.{claims_apart}
 use Rattle.teco_claims.proofs.Items.{more_read, all_read}
 use Rattle.teco_claims.proofs.Parts.{clash}
@@ -16,12 +9,12 @@ use Rattle.teco_claims.proofs.reading.claims_at.Invariants.{claim_rest}
 use Rattle.teco_claims.proofs.reading.claims_at.Goals as goal
 
 -- terms are a claim if there are some
-claim_is : (slice ts : List Term) (b : Bool) → slice ≡ ts → b ≡ (length slice == 0) → b ≡ false → AreTerms ts
+claim_is : (slice ts : List ClaimTerm) (b : Bool) → slice ≡ ts → b ≡ (length slice == 0) → b ≡ false → AreTerms ts
     → IsClaim ts
 claim_is slice [] b same e f are = absurd (clash b (e ∙ ap (λ ts. length ts == 0) same) f)
 claim_is slice (t ∷ ts) b same e f are = record { some = omega arith; are = are }
 
-no_claim : (slice ts : List Term) (b : Bool) → slice ≡ ts → b ≡ (length slice == 0) → b ≡ true → IsClaim ts → ⊥
+no_claim : (slice ts : List ClaimTerm) (b : Bool) → slice ≡ ts → b ≡ (length slice == 0) → b ≡ true → IsClaim ts → ⊥
 no_claim slice ts b same e f is =
     let none = eqb-true (length ts) 0 (ap (λ ts. length ts == 0) (sym same) ∙ sym e ∙ f) in
     absurd (omega (arith, none, is.some))

@@ -1,9 +1,6 @@
-use Rattle.std.proofs.Common.{◌++◌, ◌∷◌, [], refl, ◌∙◌, append_assoc, flat_map}
-use Rattle.std.specs.Prelude.{codes}
-use Rattle.teco_base.specs.declared.bytes.TheConstants.{LF}
-use Rattle.teco_claims.specs.Text.{line, types_text, cut_text}
+use Rattle.teco_claims.proofs.Prelude.{◌++◌, ◌∷◌, [], refl, ◌∙◌, append_assoc, flat_map, codes, LF, line, types_text}
+use Rattle.teco_claims.proofs.Prelude.{cut_text, text}
 use Rattle.teco_claims.proofs.Claiming.{same_claimed}
-use Rattle.teco_poly.specs.Text.{text}
 use Rattle.teco_claims.proofs.reading.claims_in.Goals as goal
 
 pub returns-clause-text : goal.returns-clause-text

@@ -1,4 +1,4 @@
-use Rattle.teco_claims.specs.Front.{is_of_polynomial}
+use Rattle.teco_claims.proofs.Prelude.{is_of_polynomial}
 use Rattle.teco_claims.proofs.Fronts.{ends_polynomial, split_front}
 use Rattle.teco_claims.proofs.reading.cut.Goals as goal
 

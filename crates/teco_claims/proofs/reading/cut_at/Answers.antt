@@ -1,6 +1,4 @@
-use Rattle.std.proofs.Common.{◌++◌, ◌∷◌, flat_map, refl, ◌∙◌}
-use Rattle.teco_base.specs.declared.bytes.TheConstants.{LF}
-use Rattle.teco_claims.specs.Text.{claim_line}
+use Rattle.teco_claims.proofs.Prelude.{◌++◌, ◌∷◌, flat_map, refl, ◌∙◌, LF, claim_line}
 use Rattle.teco_claims.proofs.Claiming.{parts_of_cut, same_cut}
 use Rattle.teco_claims.proofs.reading.cut_at.Goals as goal
 

@@ -1,9 +1,5 @@
-use Rattle.std.proofs.Common.{◌≡◌, ℕ, List, ◌++◌, ◌∷◌, [], Some, None, flat_map, arith, refl}
-use Rattle.std.proofs.lemmas.Bool.Decides.{Decides-eqb}
-use Rattle.std.proofs.lemmas.Slice.Eq.{strip_prefix_is}
-use Rattle.std.specs.Prelude.{codes, ◌≢◌}
-use Rattle.teco_claims.specs.Spelled.{IsCut}
-use Rattle.teco_claims.specs.Text.{line, cut_words, cut_text}
+use Rattle.teco_claims.proofs.Prelude.{◌≡◌, ℕ, List, ◌++◌, ◌∷◌, [], Some, None, flat_map, arith, refl, Decides-eqb}
+use Rattle.teco_claims.proofs.Prelude.{strip_prefix_is, codes, ◌≢◌, IsCut, line, cut_words, cut_text}
 use Rattle.teco_claims.proofs.Claiming.{other_byte, ends_cuts}
 use Rattle.teco_claims.proofs.Items.{more_read, all_read}
 use Rattle.teco_claims.proofs.Rising.{all_and}

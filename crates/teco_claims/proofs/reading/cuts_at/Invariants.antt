@@ -1,9 +1,5 @@
-use Rattle.std.proofs.Common.{◌≡◌, ◌++◌, List, length, flat_map}
-use Rattle.std.specs.List.{AllByRecursion}
-use Rattle.std.specs.Prelude.{codes}
-use Rattle.teco_claims.specs.Spelled.{IsCut}
-use Rattle.teco_claims.specs.Text.{line, cut_words, cut_text}
-use Rattle.teco_claims.specs.Values.{AtCut}
+use Rattle.teco_claims.proofs.Prelude.{◌≡◌, ◌++◌, List, length, flat_map, AllByRecursion, codes, IsCut, line, cut_words}
+use Rattle.teco_claims.proofs.Prelude.{cut_text, AtCut}
 use Rattle.teco_claims.proofs.Items.{AreLeft}
 use Rattle.teco_claims.proofs.reading.cuts_at.Given as goal
 

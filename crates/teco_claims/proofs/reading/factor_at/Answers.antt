@@ -1,6 +1,4 @@
-use Rattle.std.proofs.Common.{◌≡◌, true, false}
-use Rattle.std.specs.Char.{is_ascii_digit}
-use Rattle.teco_claims.specs.Front.{begins}
+use Rattle.teco_claims.proofs.Prelude.{◌≡◌, true, false, is_ascii_digit, begins}
 use Rattle.teco_claims.proofs.Terms.{factor_none, factor_some}
 use Rattle.teco_claims.proofs.reading.factor_at.Goals as goal
 

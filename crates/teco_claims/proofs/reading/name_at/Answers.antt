@@ -1,19 +1,14 @@
-use Rattle.std.proofs.Common.{◌≡◌, ◌<◌, ◌^◌, ℕ, true, false, Option, Some, None, List, [], ◌∷◌, ◌++◌, subst, sym}
-use Rattle.std.proofs.Common.{◌∙◌, append_assoc, refl}
-use Rattle.std.specs.Fmt.{decimal}
-use Rattle.std.specs.Prelude.{codes, IfSome}
+use Rattle.teco_claims.proofs.Prelude.{◌≡◌, ◌<◌, ◌^◌, ℕ, true, false, Option, Some, None, List, [], ◌∷◌, ◌++◌, subst}
+use Rattle.teco_claims.proofs.Prelude.{sym, ◌∙◌, append_assoc, refl, decimal, codes, IfSome, ClaimMeasure, One, Number}
+use Rattle.teco_claims.proofs.Prelude.{Length, Turns, PushedNumber, PushedLength, Steps, Pointer, Size, Held, LineEnd}
+use Rattle.teco_claims.proofs.Prelude.{LineStart, LastLength, Typed, EndsTerm, name_text, EndsNumber}
 use Rattle.teco_base.specs.Register.{register_name}
 use Rattle.teco_base.specs.declared.TheConstants.{REGISTERS}
-use Rattle.teco_claims.specs.declared.term.Measure.{Measure}
-use Rattle.teco_claims.specs.declared.term.Measure.TheVariants.{One, Number, Length, Turns, PushedNumber, PushedLength}
-use Rattle.teco_claims.specs.declared.term.Single.{Single}
-use Rattle.teco_claims.specs.declared.term.Single.TheVariants.{Steps, Pointer, Size, Held, LineEnd, LineStart}
-use Rattle.teco_claims.specs.declared.term.Single.TheVariants.{LastLength, Typed}
-use Rattle.teco_claims.specs.Front.{EndsTerm, is_end, single_of}
+use Rattle.teco_claims.specs.declared.term.ClaimSingle.{ClaimSingle}
+use Rattle.teco_claims.specs.Front.{is_end, single_of}
 use Rattle.teco_claims.specs.Spelled.{IsMeasure}
-use Rattle.teco_claims.specs.Text.{name_text, single_text}
+use Rattle.teco_claims.specs.Text.{single_text}
 use Rattle.teco_claims.proofs.Parts.{first_byte, clash, apart_part, part_number, term_apart}
-use Rattle.teco_poly.specs.Reading.{EndsNumber}
 use Rattle.teco_claims.proofs.reading.name_at.Goals as goal
 
 other_bytes : {c d : ℕ} {x y : List ℕ} → c ∷ x ≡ d ∷ y → x ≡ y
@@ -25,7 +20,7 @@ module _ (letter : ℕ) (words : List ℕ) where
   no_name d behind end other e =
       let same : letter ≡ d = first_byte e in clash (is_end d) (subst (λ l. is_end l ≡ true) same end) other
 
-  blank_read : (m : Option Measure) (rest : List ℕ) → is_end letter ≡ true → letter ∷ words ≡ name_text m ++ rest
+  blank_read : (m : Option ClaimMeasure) (rest : List ℕ) → is_end letter ≡ true → letter ∷ words ≡ name_text m ++ rest
       → (None ≡ m) × (letter ∷ words ≡ rest)
   blank_read None rest end e = (refl, e)
   blank_read (Some (One Steps)) rest end e = absurd (no_name 99 rest end refl e)
@@ -44,13 +39,13 @@ module _ (letter : ℕ) (words : List ℕ) where
 
 -- the letter of a measure that has one to itself
 module _ (letter : ℕ) (words : List ℕ) (other : single_of letter ≡ None) where
-  no_letter : (single : Single) (d : ℕ) (rest : List ℕ) → single_of d ≡ Some single → letter ∷ words ≡ d ∷ rest → ⊥
+  no_letter : (single : ClaimSingle) (d : ℕ) (rest : List ℕ) → single_of d ≡ Some single → letter ∷ words ≡ d ∷ rest → ⊥
   no_letter single d rest is e =
       let same : letter ≡ d = first_byte e in
       let none : single_of d ≡ None = subst (λ l. single_of l ≡ None) same other in
       absurd (cc)
 
-  no_single : (single : Single) (rest : List ℕ) → letter ∷ words ≡ single_text single ++ rest → ⊥
+  no_single : (single : ClaimSingle) (rest : List ℕ) → letter ∷ words ≡ single_text single ++ rest → ⊥
   no_single Steps rest = no_letter Steps 99 rest refl
   no_single Pointer rest = no_letter Pointer 112 rest refl
   no_single Size rest = no_letter Size 122 rest refl
@@ -61,7 +56,7 @@ module _ (letter : ℕ) (words : List ℕ) (other : single_of letter ≡ None) w
   no_single Typed rest = no_letter Typed 111 rest refl
 
   -- the measures that have a number or a register are read by what stands behind the letter
-  module _ (read : Option Measure) (behind : List ℕ)
+  module _ (read : Option ClaimMeasure) (behind : List ℕ)
       (number : (r : ℕ) (rest : List ℕ) → r < REGISTERS → letter ≡ 110 → words ≡ register_name r ∷ rest
       → (read ≡ Some (Number r)) × (behind ≡ rest))
       (length : (r : ℕ) (rest : List ℕ) → r < REGISTERS → letter ≡ 116 → words ≡ register_name r ∷ rest
@@ -72,7 +67,7 @@ module _ (letter : ℕ) (words : List ℕ) (other : single_of letter ≡ None) w
       → (read ≡ Some (PushedNumber n)) × (behind ≡ rest))
       (pushed_length : (n : ℕ) (rest : List ℕ) → n < 2 ^ 32 → letter ≡ 107 → words ≡ decimal n ++ (codes "t" ++ rest)
       → (read ≡ Some (PushedLength n)) × (behind ≡ rest)) where
-    numbered_read : (m : Option Measure) (rest : List ℕ) → is_end letter ≡ false → IfSome m IsMeasure
+    numbered_read : (m : Option ClaimMeasure) (rest : List ℕ) → is_end letter ≡ false → IfSome m IsMeasure
         → EndsTerm rest → letter ∷ words ≡ name_text m ++ rest → (read ≡ m) × (behind ≡ rest)
     numbered_read None [] apart is ends e = absurd ends
     numbered_read None (c ∷ rest) apart is ends e =

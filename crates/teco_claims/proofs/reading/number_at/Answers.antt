@@ -1,5 +1,4 @@
-use Rattle.std.specs.Char.{is_ascii_digit}
-use Rattle.std.specs.Fmt.{decimal}
+use Rattle.teco_claims.proofs.Prelude.{is_ascii_digit, decimal}
 use Rattle.teco_claims.proofs.Fronts.{wide_digits, ends_number, split_front}
 use Rattle.teco_claims.proofs.reading.number_at.Goals as goal
 

@@ -1,10 +1,6 @@
-use Rattle.std.proofs.Common.{◌≡◌, ℕ, List, ◌++◌, ◌∷◌, [], Some, None, flat_map, arith, refl, sym, subst}
-use Rattle.std.proofs.lemmas.Bool.Decides.{Decides-eqb}
-use Rattle.std.proofs.lemmas.Slice.Eq.{strip_prefix_is}
-use Rattle.std.specs.Prelude.{codes, ◌≢◌}
-use Rattle.teco_base.specs.declared.bytes.TheConstants.{LF}
-use Rattle.teco_claims.specs.Spelled.{IsTerm, AreTerms}
-use Rattle.teco_claims.specs.Text.{signed_text, next_text}
+use Rattle.teco_claims.proofs.Prelude.{◌≡◌, ℕ, List, ◌++◌, ◌∷◌, [], Some, None, flat_map, arith, refl, sym, subst}
+use Rattle.teco_claims.proofs.Prelude.{Decides-eqb, strip_prefix_is, codes, ◌≢◌, LF, IsTerm, AreTerms, signed_text}
+use Rattle.teco_claims.proofs.Prelude.{next_text}
 use Rattle.teco_claims.proofs.Claiming.{other_byte, ends_next}
 use Rattle.teco_claims.proofs.Items.{more_read, all_read}
 use Rattle.teco_claims.proofs.Rising.{all_behind, terms_front}

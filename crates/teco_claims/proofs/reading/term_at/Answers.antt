@@ -1,5 +1,4 @@
-use Rattle.std.proofs.Common.{◌++◌, arith, ◌∙◌, append_assoc}
-use Rattle.teco_claims.specs.Text.{factor_text, has_unit, unit_text}
+use Rattle.teco_claims.proofs.Prelude.{◌++◌, arith, ◌∙◌, append_assoc, factor_text, has_unit, unit_text}
 use Rattle.teco_claims.proofs.Terms.{ends_factor, same_term}
 use Rattle.teco_claims.proofs.reading.term_at.Goals as goal
 

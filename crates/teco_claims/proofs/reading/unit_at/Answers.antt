@@ -1,5 +1,4 @@
-use Rattle.std.proofs.Common.{◌++◌, ◌∙◌}
-use Rattle.teco_claims.specs.Text.{star_text, name_text}
+use Rattle.teco_claims.proofs.Prelude.{◌++◌, ◌∙◌, star_text, name_text}
 use Rattle.teco_claims.proofs.Terms.{parts_of_unit, ends_power, star_read}
 use Rattle.teco_claims.proofs.reading.unit_at.Goals as goal
 

@@ -1,4 +1,4 @@
-use Rattle.std.proofs.Common.{arith}
+use Rattle.teco_claims.proofs.Prelude.{arith}
 use Rattle.std.proofs.lemmas.Nat.Gcd.{IsGcd-from_zero, IsGcd-from_mod}
 use Rattle.teco_claims.proofs.spelled.greatest_divisor.Goals as goal
 

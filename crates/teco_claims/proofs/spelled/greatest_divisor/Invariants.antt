@@ -1,5 +1,4 @@
-use Rattle.std.proofs.Common.{ℕ}
-use Rattle.std.specs.Int.{IsGcd}
+use Rattle.teco_claims.proofs.Prelude.{ℕ, IsGcd}
 use Rattle.teco_claims.proofs.spelled.greatest_divisor.Given as goal
 
 -- what divides these two divides the first two

@@ -1,7 +1,5 @@
-use Rattle.std.proofs.Common.{◌≡◌, subst, refl}
-use Rattle.std.proofs.lemmas.Bool.{eqb-true}
+use Rattle.teco_claims.proofs.Prelude.{◌≡◌, subst, refl, eqb-true, IsGcd}
 use Rattle.std.proofs.lemmas.Nat.Gcd.{same_from_IsGcd}
-use Rattle.std.specs.Int.{IsGcd}
 use Rattle.teco_claims.proofs.spelled.have_no_divisor.Goals as goal
 
 pub returns : goal.returns

@@ -1,5 +1,4 @@
-use Rattle.std.proofs.Common.{sym}
-use Rattle.std.proofs.lemmas.Result.{IfOk-weaker}
+use Rattle.teco_command_outcomes.proofs.Prelude.{sym, IfOk-weaker}
 use Rattle.teco_command_outcomes.proofs.Changing.{is_changed}
 use Rattle.teco_command_outcomes.proofs.changes.changed.Goals as goal
 

@@ -1,5 +1,4 @@
-use Rattle.std.proofs.lemmas.Result.{IfOk-weaker}
-use Rattle.std.proofs.Common.{[]}
+use Rattle.teco_command_outcomes.proofs.Prelude.{IfOk-weaker, []}
 use Rattle.teco_command_outcomes.proofs.Changing.{tells}
 use Rattle.teco_command_outcomes.proofs.changes.told.Goals as goal
 

@@ -1,7 +1,5 @@
-use Rattle.std.proofs.Common.{◌≡◌, [], ◌∷◌, ◌∙◌, ap, arith, ◌-ℤ◌}
-use Rattle.std.proofs.lemmas.Grind.{common_steps}
-use Rattle.teco_linear.specs.Form.{value}
-use Rattle.teco_command_outcomes.proofs.Cutting.{placed_both}
+use Rattle.teco_command_outcomes.proofs.Prelude.{◌≡◌, [], ◌∷◌, ◌∙◌, ap, arith, ◌-ℤ◌, common_steps, value}
+use Rattle.teco_command_outcomes.proofs.Deleting.{placed_both}
 use Rattle.teco_command_outcomes.proofs.deletions.both_in_buffer.Goals as goal
 
 pub returns : goal.returns

@@ -1,5 +1,5 @@
-use Rattle.std.proofs.Common.{refl}
-use Rattle.teco_command_outcomes.proofs.Cutting.{deletes_between}
+use Rattle.teco_command_outcomes.proofs.Prelude.{refl}
+use Rattle.teco_command_outcomes.proofs.Deleting.{deletes_between}
 use Rattle.teco_command_outcomes.proofs.deletions.cut_between.Goals as goal
 
 pub returns : goal.returns

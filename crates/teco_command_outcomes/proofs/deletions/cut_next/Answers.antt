@@ -1,4 +1,4 @@
-use Rattle.std.proofs.Common.{refl}
+use Rattle.teco_command_outcomes.proofs.Prelude.{refl}
 use Rattle.teco_command_outcomes.proofs.Passing.{cuts_next}
 use Rattle.teco_command_outcomes.proofs.deletions.cut_next.Goals as goal
 

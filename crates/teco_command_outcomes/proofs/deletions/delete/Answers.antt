@@ -1,9 +1,5 @@
-use Rattle.std.proofs.Common.{sym, subst}
-use Rattle.std.proofs.lemmas.Result.{IfOk-weaker}
-use Rattle.teco_rows.specs.Commands.{Performs}
-use Rattle.teco_model.specs.Deletion.{deletion}
-use Rattle.teco_model.specs.declared.kind.Unit.TheVariants.{Characters, Lines}
-use Rattle.teco_command_outcomes.proofs.Cutting.{deletes_alone, deletes_part}
+use Rattle.teco_command_outcomes.proofs.Prelude.{sym, subst, IfOk-weaker, Performs, deletion, Characters, Lines}
+use Rattle.teco_command_outcomes.proofs.Deleting.{deletes_alone, deletes_part}
 use Rattle.teco_command_outcomes.proofs.deletions.delete.Goals as goal
 
 pub returns-in-Some-value : goal.returns-in-Some-value

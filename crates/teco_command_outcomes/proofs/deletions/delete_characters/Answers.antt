@@ -1,4 +1,4 @@
-use Rattle.teco_command_outcomes.proofs.Cutting.{deletes_characters, placed_by}
+use Rattle.teco_command_outcomes.proofs.Deleting.{deletes_characters, placed_by}
 use Rattle.teco_command_outcomes.proofs.Passing.{cuts_by_one}
 use Rattle.teco_command_outcomes.proofs.deletions.delete_characters.Goals as goal
 

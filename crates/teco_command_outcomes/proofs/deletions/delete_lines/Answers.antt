@@ -1,5 +1,6 @@
-use Rattle.std.proofs.Common.{pos}
-use Rattle.teco_command_outcomes.proofs.Cutting.{cuts_before, cuts_known, deletes_counted, deletes_lines, start_within}
+use Rattle.teco_command_outcomes.proofs.Prelude.{pos}
+use Rattle.teco_command_outcomes.proofs.Cutting.{cuts_before, cuts_known}
+use Rattle.teco_command_outcomes.proofs.Deleting.{deletes_counted, deletes_lines, start_within}
 use Rattle.teco_command_outcomes.proofs.deletions.delete_lines.Goals as goal
 
 pub returns-then-is_number : goal.returns-then-is_number

@@ -1,4 +1,4 @@
-use Rattle.teco_command_outcomes.proofs.Cutting.{deletes_from_pointer, deletes_to_pointer, placed_by}
+use Rattle.teco_command_outcomes.proofs.Deleting.{deletes_from_pointer, deletes_to_pointer, placed_by}
 use Rattle.teco_command_outcomes.proofs.deletions.delete_part.Goals as goal
 
 pub returns-then-branch : goal.returns-then-branch

@@ -1,5 +1,4 @@
-use Rattle.std.proofs.Common.{arith}
-use Rattle.std.proofs.lemmas.Int.{ints}
+use Rattle.teco_command_outcomes.proofs.Prelude.{arith, ints}
 use Rattle.teco_command_outcomes.proofs.deletions.is_pointer.Goals as goal
 
 pub returns : goal.returns

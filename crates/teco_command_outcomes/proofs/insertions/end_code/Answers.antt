@@ -1,6 +1,4 @@
-use Rattle.std.proofs.Common.{ap, pos, sym, ◌∙◌, ◌+◌}
-use Rattle.std.proofs.lemmas.Result.{IfOk-weaker}
-use Rattle.teco_rows.specs.States.{code_before}
+use Rattle.teco_command_outcomes.proofs.Prelude.{ap, pos, sym, ◌∙◌, ◌+◌, IfOk-weaker, code_before}
 use Rattle.teco_command_outcomes.proofs.Inserting.{end_given}
 use Rattle.teco_command_outcomes.proofs.insertions.end_code.Goals as goal
 

@@ -1,5 +1,4 @@
-use Rattle.std.proofs.Common.{◌≡◌, refl, arith}
-use Rattle.std.proofs.lemmas.Grind.{common_steps}
+use Rattle.teco_command_outcomes.proofs.Prelude.{◌≡◌, refl, arith, common_steps}
 use Rattle.teco_command_outcomes.proofs.Inserting.{gets}
 use Rattle.teco_command_outcomes.proofs.insertions.get.Goals as goal
 

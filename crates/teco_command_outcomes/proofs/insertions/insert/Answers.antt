@@ -1,6 +1,4 @@
-use Rattle.std.proofs.Common.{arith}
-use Rattle.std.proofs.lemmas.Grind.{common_steps}
-use Rattle.std.proofs.lemmas.Result.{IfOk-weaker}
+use Rattle.teco_command_outcomes.proofs.Prelude.{arith, common_steps, IfOk-weaker}
 use Rattle.teco_command_outcomes.proofs.Inserting.{inserts_number, inserts_tab, inserts_text}
 use Rattle.teco_command_outcomes.proofs.insertions.insert.Goals as goal
 

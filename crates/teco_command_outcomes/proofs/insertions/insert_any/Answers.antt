@@ -1,4 +1,4 @@
-use Rattle.std.proofs.Common.{refl}
+use Rattle.teco_command_outcomes.proofs.Prelude.{refl}
 use Rattle.teco_command_outcomes.proofs.Inserting.{inserts_any}
 use Rattle.teco_command_outcomes.proofs.insertions.insert_any.Goals as goal
 

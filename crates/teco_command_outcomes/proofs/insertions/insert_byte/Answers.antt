@@ -1,4 +1,4 @@
-use Rattle.std.proofs.lemmas.Result.{IfOk-weaker}
+use Rattle.teco_command_outcomes.proofs.Prelude.{IfOk-weaker}
 use Rattle.teco_command_outcomes.proofs.Inserting.{inserts_known, inserts_unknown}
 use Rattle.teco_command_outcomes.proofs.insertions.insert_byte.Goals as goal
 

@@ -1,4 +1,4 @@
-use Rattle.std.proofs.Common.{refl, ap, ◌∙◌, pos}
+use Rattle.teco_command_outcomes.proofs.Prelude.{refl, ap, ◌∙◌, pos}
 use Rattle.teco_command_outcomes.proofs.Inserting.{inserts}
 use Rattle.teco_command_outcomes.proofs.insertions.insert_text.Goals as goal
 

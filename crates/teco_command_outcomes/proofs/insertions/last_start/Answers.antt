@@ -1,6 +1,4 @@
-use Rattle.std.proofs.Common.{◌≡◌, ◌∙◌, ap, arith, length, pos, sym}
-use Rattle.std.proofs.lemmas.Grind.{common_steps}
-use Rattle.teco_base.specs.Lines.{line_place}
+use Rattle.teco_command_outcomes.proofs.Prelude.{◌≡◌, ◌∙◌, ap, arith, length, pos, sym, common_steps, line_place}
 use Rattle.teco_command_outcomes.proofs.Inserting.{starts_at_first}
 use Rattle.teco_command_outcomes.proofs.insertions.last_start.Goals as goal
 

@@ -1,5 +1,4 @@
-use Rattle.std.proofs.Common.{◌≡◌, pos}
-use Rattle.teco_base.specs.Lines.{line_place}
+use Rattle.teco_command_outcomes.proofs.Prelude.{◌≡◌, pos, line_place}
 use Rattle.teco_command_outcomes.proofs.insertions.last_start.Given as goal
 
 -- where the line starts at the place

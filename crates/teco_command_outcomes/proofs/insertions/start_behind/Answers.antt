@@ -1,4 +1,4 @@
-use Rattle.std.proofs.Common.{sym, ◌∙◌}
+use Rattle.teco_command_outcomes.proofs.Prelude.{sym, ◌∙◌}
 use Rattle.teco_command_outcomes.proofs.Inserting.{starts_as_before, starts_behind_end}
 use Rattle.teco_command_outcomes.proofs.insertions.start_behind.Goals as goal
 

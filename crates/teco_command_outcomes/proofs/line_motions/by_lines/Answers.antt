@@ -1,4 +1,4 @@
-use Rattle.std.proofs.Common.{refl}
+use Rattle.teco_command_outcomes.proofs.Prelude.{refl}
 use Rattle.teco_command_outcomes.proofs.Lining.{by_lines}
 use Rattle.teco_command_outcomes.proofs.line_motions.by_lines.Goals as goal
 

@@ -1,4 +1,4 @@
-use Rattle.std.proofs.Common.{refl}
+use Rattle.teco_command_outcomes.proofs.Prelude.{refl}
 use Rattle.teco_command_outcomes.proofs.Lining.{line_start}
 use Rattle.teco_command_outcomes.proofs.line_motions.line_start.Goals as goal
 

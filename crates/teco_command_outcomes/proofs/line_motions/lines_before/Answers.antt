@@ -1,4 +1,4 @@
-use Rattle.std.proofs.Common.{refl}
+use Rattle.teco_command_outcomes.proofs.Prelude.{refl}
 use Rattle.teco_command_outcomes.proofs.Lining.{lines_before}
 use Rattle.teco_command_outcomes.proofs.line_motions.lines_before.Goals as goal
 

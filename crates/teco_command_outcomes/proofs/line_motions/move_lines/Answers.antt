@@ -1,5 +1,4 @@
-use Rattle.std.proofs.Common.{pos, negsuc}
-use Rattle.std.proofs.lemmas.Result.{IfOk-weaker}
+use Rattle.teco_command_outcomes.proofs.Prelude.{pos, negsuc, IfOk-weaker}
 use Rattle.teco_command_outcomes.proofs.Lining.{goes_back, known_lines, moves_lines}
 use Rattle.teco_command_outcomes.proofs.line_motions.move_lines.Goals as goal
 

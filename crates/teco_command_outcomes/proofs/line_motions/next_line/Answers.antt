@@ -1,4 +1,4 @@
-use Rattle.std.proofs.Common.{refl}
+use Rattle.teco_command_outcomes.proofs.Prelude.{refl}
 use Rattle.teco_command_outcomes.proofs.Lining.{next_line}
 use Rattle.teco_command_outcomes.proofs.line_motions.next_line.Goals as goal
 

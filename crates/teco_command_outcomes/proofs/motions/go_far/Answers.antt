@@ -1,4 +1,4 @@
-use Rattle.std.proofs.Common.{refl}
+use Rattle.teco_command_outcomes.proofs.Prelude.{refl}
 use Rattle.teco_command_outcomes.proofs.Moving.{goes_far}
 use Rattle.teco_command_outcomes.proofs.motions.go_far.Goals as goal
 

@@ -1,5 +1,4 @@
-use Rattle.std.proofs.Common.{ap, ◌∙◌, if◌then◌else◌}
-use Rattle.std.proofs.lemmas.Result.{IfOk-weaker}
+use Rattle.teco_command_outcomes.proofs.Prelude.{ap, ◌∙◌, if◌then◌else◌, IfOk-weaker}
 use Rattle.teco_command_outcomes.proofs.Moving.{moves}
 use Rattle.teco_command_outcomes.proofs.motions.move_to.Goals as goal
 

@@ -1,4 +1,4 @@
-use Rattle.std.proofs.Common.{refl}
+use Rattle.teco_command_outcomes.proofs.Prelude.{refl}
 use Rattle.teco_command_outcomes.proofs.Moving.{passes}
 use Rattle.teco_command_outcomes.proofs.motions.pass.Goals as goal
 

@@ -1,4 +1,4 @@
-use Rattle.std.proofs.Common.{refl}
+use Rattle.teco_command_outcomes.proofs.Prelude.{refl}
 use Rattle.teco_command_outcomes.proofs.Moving.{returns_by_one}
 use Rattle.teco_command_outcomes.proofs.motions.return_by_one.Goals as goal
 

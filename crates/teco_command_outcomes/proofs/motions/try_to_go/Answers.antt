@@ -1,4 +1,4 @@
-use Rattle.std.proofs.Common.{refl}
+use Rattle.teco_command_outcomes.proofs.Prelude.{refl}
 use Rattle.teco_command_outcomes.proofs.Moving.{tries}
 use Rattle.teco_command_outcomes.proofs.motions.try_to_go.Goals as goal
 

@@ -1,4 +1,4 @@
-use Rattle.std.proofs.lemmas.Result.{IfOk-weaker}
+use Rattle.teco_command_outcomes.proofs.Prelude.{IfOk-weaker}
 use Rattle.teco_command_outcomes.proofs.Storing.{adds_number, adds_wrapped_number}
 use Rattle.teco_command_outcomes.proofs.storages.add_number.Goals as goal
 

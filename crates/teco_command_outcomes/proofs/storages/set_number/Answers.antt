@@ -1,4 +1,4 @@
-use Rattle.std.proofs.lemmas.Result.{IfOk-weaker}
+use Rattle.teco_command_outcomes.proofs.Prelude.{IfOk-weaker}
 use Rattle.teco_command_outcomes.proofs.Storing.{sets_number}
 use Rattle.teco_command_outcomes.proofs.storages.set_number.Goals as goal
 

@@ -1,6 +1,4 @@
-use Rattle.std.proofs.Common.{◌≡◌, [], ◌∷◌, ◌++◌, Some, arith, refl}
-use Rattle.std.proofs.lemmas.Grind.{common_steps}
-use Rattle.std.proofs.lemmas.Int.{ints}
+use Rattle.teco_command_outcomes.proofs.Prelude.{◌≡◌, [], ◌∷◌, ◌++◌, Some, arith, refl, common_steps, ints}
 use Rattle.std.proofs.lemmas.List.Elements.{All-pop}
 use Rattle.teco_linear.specs.Implied as linear
 use Rattle.teco_command_outcomes.proofs.texts.add_room.Goals as goal

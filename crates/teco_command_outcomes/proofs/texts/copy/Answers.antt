@@ -1,4 +1,4 @@
-use Rattle.std.proofs.lemmas.Result.{IfOk-weaker}
+use Rattle.teco_command_outcomes.proofs.Prelude.{IfOk-weaker}
 use Rattle.teco_command_outcomes.proofs.Copying.{performs_lines, performs_part}
 use Rattle.teco_command_outcomes.proofs.texts.copy.Goals as goal
 

@@ -1,8 +1,7 @@
-use Rattle.std.proofs.Common.{pos, subst}
-use Rattle.std.specs.List.{All}
+use Rattle.teco_command_outcomes.proofs.Prelude.{pos, subst, All}
 use Rattle.teco_linear.specs.Implied as linear
 use Rattle.teco_command_outcomes.proofs.Copying.{copies_count}
-use Rattle.teco_command_outcomes.proofs.Cutting.{start_within}
+use Rattle.teco_command_outcomes.proofs.Deleting.{start_within}
 use Rattle.teco_command_outcomes.proofs.texts.copy_back.Goals as goal
 
 pub returns : goal.returns

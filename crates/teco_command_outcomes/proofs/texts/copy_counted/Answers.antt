@@ -1,5 +1,4 @@
-use Rattle.std.proofs.Common.{pos}
-use Rattle.std.proofs.lemmas.Result.{IfOk-weaker}
+use Rattle.teco_command_outcomes.proofs.Prelude.{pos, IfOk-weaker}
 use Rattle.teco_command_outcomes.proofs.Copying.{count_is}
 use Rattle.teco_command_outcomes.proofs.texts.copy_counted.Goals as goal
 

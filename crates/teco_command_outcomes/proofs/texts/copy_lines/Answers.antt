@@ -1,4 +1,4 @@
-use Rattle.std.proofs.Common.{refl}
+use Rattle.teco_command_outcomes.proofs.Prelude.{refl}
 use Rattle.teco_command_outcomes.proofs.Copying.{copies_lines}
 use Rattle.teco_command_outcomes.proofs.texts.copy_lines.Goals as goal
 

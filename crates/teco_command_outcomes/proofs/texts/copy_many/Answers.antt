@@ -1,5 +1,4 @@
-use Rattle.std.proofs.Common.{◌≡◌, [], ◌∷◌, ◌∙◌, arith}
-use Rattle.std.proofs.lemmas.Grind.{common_steps}
+use Rattle.teco_command_outcomes.proofs.Prelude.{◌≡◌, [], ◌∷◌, ◌∙◌, arith, common_steps}
 use Rattle.teco_command_outcomes.proofs.Copying.{copies_counted}
 use Rattle.teco_command_outcomes.proofs.texts.copy_many.Goals as goal
 

@@ -1,5 +1,4 @@
-use Rattle.std.proofs.Common.{subst}
-use Rattle.std.specs.List.{All}
+use Rattle.teco_command_outcomes.proofs.Prelude.{subst, All}
 use Rattle.teco_linear.specs.Implied as linear
 use Rattle.teco_command_outcomes.proofs.Copying.{copies_part}
 use Rattle.teco_command_outcomes.proofs.texts.copy_part.Goals as goal

@@ -1,7 +1,4 @@
-use Rattle.std.proofs.Common.{◌≡◌, [], ◌∷◌, ◌∙◌, arith, sym}
-use Rattle.std.proofs.lemmas.Grind.{common_steps}
-use Rattle.std.proofs.lemmas.Result.{IfOk-weaker}
-use Rattle.teco_model.specs.Element.{seen}
+use Rattle.teco_command_outcomes.proofs.Prelude.{◌≡◌, [], ◌∷◌, ◌∙◌, arith, sym, common_steps, IfOk-weaker, seen}
 use Rattle.teco_command_outcomes.proofs.Copying.{sets_text}
 use Rattle.teco_command_outcomes.proofs.texts.set_text.Goals as goal
 

@@ -1,4 +1,4 @@
-use Rattle.std.proofs.Common.{◌+◌, inl, inr, sym, ap, arith}
+use Rattle.teco_command_outcomes.proofs.Prelude.{◌+◌, inl, inr, sym, ap, arith}
 use Rattle.teco_command_outcomes.proofs.Writing.{characters, number_long}
 use Rattle.teco_command_outcomes.proofs.typings.most_characters.Goals as goal
 use Rattle.teco_command_outcomes.proofs.typings.most_characters.Goals.{then-colons-eq0, else-colons-eq0}

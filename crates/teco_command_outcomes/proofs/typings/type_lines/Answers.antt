@@ -1,5 +1,4 @@
-use Rattle.teco_model.specs.Typing.{line_characters}
-use Rattle.teco_linear.specs.Form.{value}
+use Rattle.teco_command_outcomes.proofs.Prelude.{line_characters, value}
 use Rattle.teco_command_outcomes.proofs.Writing.{types_bytes}
 use Rattle.teco_command_outcomes.proofs.typings.type_lines.Goals as goal
 

@@ -1,5 +1,4 @@
-use Rattle.std.proofs.Common.{sym}
-use Rattle.teco_command_outcomes.specs.declared.typings.Count.TheVariants.{Exactly}
+use Rattle.teco_command_outcomes.proofs.Prelude.{sym, Exactly}
 use Rattle.teco_command_outcomes.proofs.Writing.{types_bytes}
 use Rattle.teco_command_outcomes.proofs.typings.type_message.Goals as goal
 

@@ -1,5 +1,4 @@
-use Rattle.std.proofs.Common.{subst}
-use Rattle.std.specs.List.{All}
+use Rattle.teco_command_outcomes.proofs.Prelude.{subst, All}
 use Rattle.teco_linear.specs.Implied as linear
 use Rattle.teco_command_outcomes.proofs.Writing.{types_number}
 use Rattle.teco_command_outcomes.proofs.typings.type_number.Goals as goal

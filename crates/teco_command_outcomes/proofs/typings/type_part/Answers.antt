@@ -1,4 +1,4 @@
-use Rattle.std.proofs.Common.{refl}
+use Rattle.teco_command_outcomes.proofs.Prelude.{refl}
 use Rattle.teco_command_outcomes.proofs.Writing.{types_part}
 use Rattle.teco_command_outcomes.proofs.typings.type_part.Goals as goal
 

@@ -1,8 +1,4 @@
-use Rattle.std.proofs.Common.{subst, sym}
-use Rattle.std.proofs.lemmas.Result.{IfOk-weaker}
-use Rattle.teco_model.specs.Element.{seen}
-use Rattle.teco_model.specs.Typing.{typing}
-use Rattle.teco_rows.specs.Commands.{Performs}
+use Rattle.teco_command_outcomes.proofs.Prelude.{subst, sym, IfOk-weaker, seen, typing, Performs}
 use Rattle.teco_command_outcomes.proofs.Writing.{byte_typed, lines_typed, number_typed, part_typed, text_typed}
 use Rattle.teco_command_outcomes.proofs.Writing.{view_typed}
 use Rattle.teco_command_outcomes.proofs.typings.type_text.Goals as goal

@@ -1,5 +1,4 @@
-use Rattle.teco_linear.specs.Form.{value}
-use Rattle.teco_command_outcomes.specs.Typings.{view_characters}
+use Rattle.teco_command_outcomes.proofs.Prelude.{value, view_characters}
 use Rattle.teco_command_outcomes.proofs.Writing.{types_bytes}
 use Rattle.teco_command_outcomes.proofs.typings.type_view.Goals as goal
 

@@ -1,6 +1,4 @@
-use Rattle.std.proofs.Common.{sym, subst}
-use Rattle.std.proofs.lemmas.Result.{IfOk-weaker}
-use Rattle.teco_command_outcomes.specs.Typings.{Types}
+use Rattle.teco_command_outcomes.proofs.Prelude.{sym, subst, IfOk-weaker, Types}
 use Rattle.teco_command_outcomes.proofs.Writing.{types_exactly, types_some}
 use Rattle.teco_command_outcomes.proofs.typings.typed.Goals as goal
 

@@ -1,7 +1,4 @@
-use Rattle.std.proofs.Common.{◌≡◌, ◌-◌, ◌≤◌, length, Some}
-use Rattle.std.specs.Prelude.{All}
-use Rattle.teco_model.specs.Macros.{Library, macro}
-use Rattle.teco_expansion.specs.Scanned.{IsGapOf}
+use Rattle.teco_expansion.proofs.Prelude.{◌≡◌, ◌-◌, ◌≤◌, length, Some, All, Library, macro, IsGapOf}
 use Rattle.teco_expansion.proofs.gaps.keep_gaps.Given as goal
 
 abbrev pub invariant-loop-reading : goal.invariant-loop-reading

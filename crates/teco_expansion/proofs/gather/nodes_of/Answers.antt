@@ -1,11 +1,6 @@
-use Rattle.std.proofs.Common.{◌≡◌, ◌+◌, List, [], ◌∷◌, ◌++◌, map, drop, sym, ap, ◌∙◌, arith}
-use Rattle.std.proofs.lemmas.List.{map-append}
-use Rattle.teco_verifier.specs.expansion.Expansion.{node_at, nodes_at}
-use Rattle.teco_verifier.specs.expansion.Node.{Node}
-use Rattle.teco_expansion.specs.Refused.{refusal_seen}
-use Rattle.teco_expansion.specs.Seen.{visit_seen, node_seen}
-use Rattle.teco_expansion.specs.Texts.{library_of}
-use Rattle.teco_expansion.specs.Walks.{walk_seen}
+use Rattle.teco_expansion.proofs.Prelude.{◌≡◌, ◌+◌, List, [], ◌∷◌, ◌++◌, map, drop, sym, ap, ◌∙◌, arith, map-append}
+use Rattle.teco_expansion.proofs.Prelude.{node_at, nodes_at, Node, refusal_seen, visit_seen, node_seen, library_of}
+use Rattle.teco_expansion.proofs.Prelude.{walk_seen}
 use Rattle.teco_expansion.specs.declared.visit.Visit.{Visit}
 use Rattle.teco_expansion.proofs.Gathering.{before, nodes_more, nodes_refused, nodes_end}
 use Rattle.teco_expansion.proofs.gather.nodes_of.Goals as goal

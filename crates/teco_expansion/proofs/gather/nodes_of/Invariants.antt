@@ -1,8 +1,4 @@
-use Rattle.std.proofs.Common.{◌≡◌, ◌+◌, map, drop}
-use Rattle.teco_verifier.specs.expansion.Expansion.{nodes_at}
-use Rattle.teco_expansion.specs.Seen.{visit_seen, node_seen}
-use Rattle.teco_expansion.specs.Texts.{library_of}
-use Rattle.teco_expansion.specs.Walks.{walk_seen}
+use Rattle.teco_expansion.proofs.Prelude.{◌≡◌, ◌+◌, map, drop, nodes_at, visit_seen, node_seen, library_of, walk_seen}
 use Rattle.teco_expansion.proofs.Gathering.{before}
 use Rattle.teco_expansion.proofs.gather.nodes_of.Given as goal
 

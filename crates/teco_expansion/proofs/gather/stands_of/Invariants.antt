@@ -1,6 +1,5 @@
-use Rattle.std.proofs.Common.{◌≡◌, map, take}
+use Rattle.teco_expansion.proofs.Prelude.{◌≡◌, map, take, stand_seen, visit_seen}
 use Rattle.teco_verifier.specs.expansion.Expansion.{stand_of_visit}
-use Rattle.teco_expansion.specs.Seen.{stand_seen, visit_seen}
 use Rattle.teco_expansion.proofs.gather.stands_of.Given as goal
 
 abbrev pub invariant-loop-visit : goal.invariant-loop-visit

@@ -1,5 +1,5 @@
+use Rattle.teco_expansion.proofs.Prelude.{IsKeptOf}
 use Rattle.std.proofs.lemmas.List.Elements.{All-push}
-use Rattle.teco_expansion.specs.Scanned.{IsKeptOf}
 use Rattle.teco_expansion.proofs.kept.keep_steps.Goals as goal
 
 pub loop-step-preserved : goal.loop-step-preserved

@@ -1,8 +1,5 @@
-use Rattle.std.proofs.Common.{◌≡◌, ℕ, List, Some}
-use Rattle.std.specs.Prelude.{All}
-use Rattle.teco_model.specs.Macros.{Library, macro}
+use Rattle.teco_expansion.proofs.Prelude.{◌≡◌, ℕ, List, Some, All, Library, macro, IsKeptOf}
 use Rattle.teco_scan.specs.Skips.{IsStepOf}
-use Rattle.teco_expansion.specs.Scanned.{IsKeptOf}
 use Rattle.teco_expansion.proofs.kept.keep_steps.Given as goal
 
 abbrev pub invariant-loop-step : goal.invariant-loop-step

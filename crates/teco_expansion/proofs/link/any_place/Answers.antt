@@ -1,8 +1,6 @@
-use Rattle.std.proofs.Common.{◌≡◌, ◌+◌, ◌||◌, true, false, drop, map, get_or, sym, ap, ◌∙◌, rules, arith}
-use Rattle.std.specs.List.{list_any}
+use Rattle.teco_expansion.proofs.Prelude.{◌≡◌, ◌+◌, ◌||◌, true, false, drop, map, get_or, sym, ap, ◌∙◌, rules, arith}
+use Rattle.teco_expansion.proofs.Prelude.{list_any, Stand, position_seen, stand_seen}
 use Rattle.teco_verifier.specs.expansion.Expansion.{same_place}
-use Rattle.teco_verifier.specs.expansion.Node.{Stand}
-use Rattle.teco_expansion.specs.Seen.{position_seen, stand_seen}
 use Rattle.teco_expansion.specs.declared.spot.Stand as code
 use Rattle.teco_expansion.proofs.Finding.{any_on}
 use Rattle.teco_expansion.proofs.link.any_place.Goals as goal

@@ -1,6 +1,5 @@
-use Rattle.std.proofs.Common.{◌≡◌, map}
+use Rattle.teco_expansion.proofs.Prelude.{◌≡◌, map, position_seen, stand_seen}
 use Rattle.teco_expansion.specs.Linking.{has_place}
-use Rattle.teco_expansion.specs.Seen.{position_seen, stand_seen}
 use Rattle.teco_expansion.proofs.link.any_place.Given as goal
 
 abbrev pub invariant-loop-at : goal.invariant-loop-at

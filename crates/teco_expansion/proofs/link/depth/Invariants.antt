@@ -1,7 +1,4 @@
-use Rattle.std.proofs.Common.{◌≡◌, ◌+◌, ◌≤◌, ◌*◌}
-use Rattle.teco_verifier.specs.expansion.Position.{depth}
-use Rattle.teco_expansion.specs.Few.{listed}
-use Rattle.teco_expansion.specs.Seen.{position_seen}
+use Rattle.teco_expansion.proofs.Prelude.{◌≡◌, ◌+◌, ◌≤◌, ◌*◌, depth, listed, position_seen}
 use Rattle.teco_expansion.proofs.Depths.{left_from}
 use Rattle.teco_expansion.proofs.link.depth.Given as goal
 

@@ -1,6 +1,5 @@
-use Rattle.std.proofs.Common.{◌≡◌, true, false, get_or, sym, ◌∙◌, rules, arith}
+use Rattle.teco_expansion.proofs.Prelude.{◌≡◌, true, false, get_or, sym, ◌∙◌, rules, arith, stand_seen}
 use Rattle.teco_verifier.specs.expansion.Expansion.{same_stand}
-use Rattle.teco_expansion.specs.Seen.{stand_seen}
 use Rattle.teco_expansion.proofs.Finding.{found_here, found_on}
 use Rattle.teco_expansion.proofs.link.number_behind.Goals as goal
 

@@ -1,6 +1,5 @@
-use Rattle.std.proofs.Common.{◌≡◌, map}
+use Rattle.teco_expansion.proofs.Prelude.{◌≡◌, map, stand_seen}
 use Rattle.teco_verifier.specs.expansion.Expansion.{number_behind}
-use Rattle.teco_expansion.specs.Seen.{stand_seen}
 use Rattle.teco_expansion.proofs.link.number_behind.Given as goal
 
 abbrev pub invariant-loop-at : goal.invariant-loop-at

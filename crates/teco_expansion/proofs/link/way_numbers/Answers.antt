@@ -1,8 +1,4 @@
-use Rattle.teco_expansion.specs.Few.{listed}
-use Rattle.teco_expansion.specs.Refused.{refusal_seen}
-use Rattle.teco_expansion.specs.Seen.{position_seen, visit_seen}
-use Rattle.teco_expansion.specs.Texts.{library_of}
-use Rattle.teco_expansion.specs.Walks.{walk_seen}
+use Rattle.teco_expansion.proofs.Prelude.{listed, refusal_seen, position_seen, visit_seen, library_of, walk_seen}
 use Rattle.teco_expansion.proofs.Two.{both_numbers, second_fails}
 use Rattle.teco_expansion.proofs.link.way_numbers.Goals as goal
 

@@ -1,7 +1,5 @@
-use Rattle.std.proofs.Common.{length, ap, sym, ◌∙◌, arith}
-use Rattle.std.proofs.lemmas.Bool.{le-leb, lt-leb}
+use Rattle.teco_expansion.proofs.Prelude.{length, ap, sym, ◌∙◌, arith, le-leb, lt-leb, crossed_seen}
 use Rattle.teco_expansion.proofs.Crossing.{crossed-none, crossed-faulty, crossed-there, crossed-on, crossed-behind}
-use Rattle.teco_expansion.specs.Crossed.{crossed_seen}
 use Rattle.teco_expansion.proofs.overlap.crossed_between.Goals as goal
 
 pub returns-then-from-text : goal.returns-then-from-text

@@ -1,7 +1,5 @@
-use Rattle.std.proofs.Common.{◌≡◌, ◌-◌, ◌≤◌, length}
-use Rattle.teco_model.specs.Ahead.{readings}
+use Rattle.teco_expansion.proofs.Prelude.{◌≡◌, ◌-◌, ◌≤◌, length, readings, crossed_seen}
 use Rattle.teco_verifier.specs.expansion.Overlap as model
-use Rattle.teco_expansion.specs.Crossed.{crossed_seen}
 use Rattle.teco_expansion.proofs.overlap.crossed_between.Given as goal
 
 abbrev pub invariant-loop-reading : goal.invariant-loop-reading

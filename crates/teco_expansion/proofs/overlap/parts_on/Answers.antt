@@ -1,11 +1,6 @@
-use Rattle.std.proofs.Common.{◌≡◌, true, ap, sym, ◌∙◌, rules}
-use Rattle.teco_model.specs.Element.{seen}
-use Rattle.teco_scan.specs.Skips.{crossing}
+use Rattle.teco_expansion.proofs.Prelude.{◌≡◌, true, ap, sym, ◌∙◌, rules, seen, crossing, crosses, spot_seen, text_of}
 use Rattle.teco_expansion.proofs.Elements.{ahead_of_element}
 use Rattle.teco_expansion.proofs.Passing.{nothing_between, branch-route, jump-told}
-use Rattle.teco_expansion.specs.Crossed.{crosses}
-use Rattle.teco_expansion.specs.Seen.{spot_seen}
-use Rattle.teco_expansion.specs.Texts.{text_of}
 use Rattle.teco_expansion.proofs.overlap.parts_on.Goals as goal
 
 pub returns-then-to-behind_blanks : goal.returns-then-to-behind_blanks

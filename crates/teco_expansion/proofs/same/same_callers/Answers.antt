@@ -1,8 +1,5 @@
-use Rattle.std.proofs.Common.{◌≡◌, ◌+◌, map, drop, true, false, ◌&&◌, sym, ap, ◌∙◌, slice_get, rules}
-use Rattle.teco_verifier.specs.expansion.Expansion.{same_spots}
-use Rattle.teco_expansion.specs.Few.{listed}
-use Rattle.teco_expansion.specs.Same.{same_waiting}
-use Rattle.teco_expansion.specs.Seen.{spot_seen}
+use Rattle.teco_expansion.proofs.Prelude.{◌≡◌, ◌+◌, map, drop, true, false, ◌&&◌, sym, ap, ◌∙◌, slice_get, rules}
+use Rattle.teco_expansion.proofs.Prelude.{same_spots, listed, same_waiting, spot_seen}
 use Rattle.teco_expansion.proofs.Comparing.{waiting_from}
 use Rattle.teco_expansion.proofs.same.same_callers.Goals as goal
 

@@ -1,7 +1,4 @@
-use Rattle.std.proofs.Common.{◌≡◌, map, drop}
-use Rattle.teco_verifier.specs.expansion.Expansion.{same_spots}
-use Rattle.teco_expansion.specs.Few.{listed}
-use Rattle.teco_expansion.specs.Seen.{spot_seen}
+use Rattle.teco_expansion.proofs.Prelude.{◌≡◌, map, drop, same_spots, listed, spot_seen}
 use Rattle.teco_expansion.proofs.same.same_callers.Given as goal
 
 abbrev pub invariant-loop-at : goal.invariant-loop-at

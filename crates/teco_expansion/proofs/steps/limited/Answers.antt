@@ -1,5 +1,4 @@
-use Rattle.std.proofs.Common.{sym, ◌∙◌}
-use Rattle.teco_expansion.specs.Seen.{visit_seen}
+use Rattle.teco_expansion.proofs.Prelude.{sym, ◌∙◌, visit_seen}
 use Rattle.teco_expansion.proofs.Stepping.{limited-within, limited-beyond}
 use Rattle.teco_expansion.proofs.steps.limited.Goals as goal
 

@@ -1,7 +1,4 @@
-use Rattle.std.proofs.Common.{map}
-use Rattle.std.specs.Prelude.{All}
-use Rattle.std.specs.Option.{option_copied}
-use Rattle.teco_expansion.specs.Scanned.{IsKeptOf}
+use Rattle.teco_expansion.proofs.Prelude.{map, All, option_copied, IsKeptOf}
 use Rattle.teco_expansion.proofs.texts.kept_of.Given as goal
 
 abbrev pub invariant-loop-register : goal.invariant-loop-register

@@ -1,9 +1,6 @@
-use Rattle.std.proofs.Common.{◌-◌, ◌+◌, List, map, Some, None, sym, ap, refl, ◌∙◌, arith}
-use Rattle.teco_verifier.specs.expansion.Expansion.{Visit, walk}
+use Rattle.teco_expansion.proofs.Prelude.{◌-◌, ◌+◌, List, map, Some, None, sym, ap, refl, ◌∙◌, arith, Visit, walk}
+use Rattle.teco_expansion.proofs.Prelude.{visit_seen, library_of, behind}
 use Rattle.teco_expansion.specs.Refused.{reason_seen}
-use Rattle.teco_expansion.specs.Seen.{visit_seen}
-use Rattle.teco_expansion.specs.Texts.{library_of}
-use Rattle.teco_expansion.specs.Walks.{behind}
 use Rattle.teco_expansion.proofs.Level.{level_next, level-room}
 use Rattle.teco_expansion.proofs.Walking.{walk_refused, walk_over, walk_on, walk_spent, seen_more, seen_ending}
 use Rattle.teco_expansion.proofs.Walking.{room_more}

@@ -1,9 +1,6 @@
-use Rattle.std.proofs.Common.{◌≡◌, ◌-◌, map, All}
-use Rattle.teco_verifier.specs.expansion.Expansion.{walk, whole_walk_of}
-use Rattle.teco_expansion.specs.Room.{HasRoom}
-use Rattle.teco_expansion.specs.Seen.{visit_seen}
-use Rattle.teco_expansion.specs.Texts.{library_of}
-use Rattle.teco_expansion.specs.Walks.{behind}
+use Rattle.teco_expansion.proofs.Prelude.{◌≡◌, ◌-◌, map, walk, HasRoom, visit_seen, library_of, behind}
+use Rattle.std.proofs.Common.{All}
+use Rattle.teco_verifier.specs.expansion.Expansion.{whole_walk_of}
 use Rattle.teco_expansion.proofs.Level.{IsLevel}
 use Rattle.teco_expansion.proofs.walk.whole_walk.Given as goal
 

@@ -1,8 +1,5 @@
-use Rattle.std.proofs.Common.{ap, ◌∙◌}
-use Rattle.teco_model.specs.Element.{seen}
-use Rattle.teco_model.specs.Skip.{skip_at}
+use Rattle.teco_expansion.proofs.Prelude.{ap, ◌∙◌, seen, skip_at, text_of}
 use Rattle.teco_expansion.proofs.Elements.{skip_of_element}
-use Rattle.teco_expansion.specs.Texts.{text_of}
 use Rattle.teco_expansion.proofs.ways.skip_at.Goals as goal
 
 pub returns-in-Some : goal.returns-in-Some

@@ -1,5 +1,4 @@
-use Rattle.std.proofs.Common.{arith}
-use Rattle.std.proofs.lemmas.Int.{ints, clamps, to_z-of_z}
+use Rattle.teco_facts.proofs.Prelude.{arith, ints, clamps, to_z-of_z}
 use Rattle.teco_facts.proofs.arithmetic.hull.Goals as goal
 
 pub kept-requires : goal.kept-requires

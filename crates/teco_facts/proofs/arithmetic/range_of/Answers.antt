@@ -1,5 +1,4 @@
-use Rattle.std.proofs.Common.{w64}
-use Rattle.std.proofs.lemmas.Int.{to_z-of_z}
+use Rattle.teco_facts.proofs.Prelude.{w64, to_z-of_z}
 use Rattle.teco_facts.proofs.Ends.{is_range, of_parts}
 use Rattle.teco_facts.proofs.Places.{number_is_place}
 use Rattle.teco_facts.proofs.Wholes.{place_whole}

@@ -1,5 +1,5 @@
-use Rattle.std.proofs.Common.{◌≡◌}
-use Rattle.teco_verifier.specs.facts.Covers.{each_covers, covers_pushed}
+use Rattle.teco_facts.proofs.Prelude.{◌≡◌, each_covers}
+use Rattle.teco_verifier.specs.facts.Covers.{covers_pushed}
 use Rattle.teco_facts.proofs.covering.covers_pairs.Given as goal
 
 -- all pairs are covered if those from here on are

@@ -1,4 +1,4 @@
-use Rattle.std.proofs.Common.{◌-◌, arith}
+use Rattle.teco_facts.proofs.Prelude.{◌-◌, arith}
 use Rattle.teco_facts.proofs.Sides.{each_at_false}
 use Rattle.teco_facts.proofs.each.each_covers.Goals as goal
 

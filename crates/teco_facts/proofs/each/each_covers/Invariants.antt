@@ -1,4 +1,4 @@
-use Rattle.std.proofs.Common.{◌≡◌, drop, true}
+use Rattle.teco_facts.proofs.Prelude.{◌≡◌, drop, true}
 use Rattle.teco_verifier.specs.facts.Covers as rules
 use Rattle.teco_facts.proofs.each.each_covers.Given as goal
 

@@ -1,4 +1,4 @@
-use Rattle.std.proofs.Common.{add-one, arith}
+use Rattle.teco_facts.proofs.Prelude.{add-one, arith}
 use Rattle.teco_facts.proofs.Meeting.{met_more, met_rest}
 use Rattle.teco_facts.proofs.each.meet_each.Goals as goal
 

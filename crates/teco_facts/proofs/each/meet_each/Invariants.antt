@@ -1,5 +1,4 @@
-use Rattle.std.proofs.Common.{◌≡◌, ◌++◌, take, drop}
-use Rattle.teco_facts.specs.Each.{each_met}
+use Rattle.teco_facts.proofs.Prelude.{◌≡◌, ◌++◌, take, drop, each_met}
 use Rattle.teco_facts.proofs.each.meet_each.Given as goal
 
 -- the items before this one are joined

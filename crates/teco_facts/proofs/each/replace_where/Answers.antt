@@ -1,4 +1,4 @@
-use Rattle.std.proofs.Common.{add-one, arith}
+use Rattle.teco_facts.proofs.Prelude.{add-one, arith}
 use Rattle.teco_facts.proofs.Meeting.{written_more, kept_more}
 use Rattle.teco_facts.proofs.each.replace_where.Goals as goal
 use Rattle.teco_facts.proofs.each.replace_where.Goals.{then-replaced-at, else-replaced-at}

@@ -1,5 +1,4 @@
-use Rattle.std.proofs.Common.{◌≡◌, take}
-use Rattle.teco_facts.specs.Each.{replaced_where}
+use Rattle.teco_facts.proofs.Prelude.{◌≡◌, take, replaced_where}
 use Rattle.teco_facts.proofs.each.replace_where.Given as goal
 
 -- the items before this one are done

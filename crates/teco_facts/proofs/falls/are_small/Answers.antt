@@ -1,4 +1,4 @@
-use Rattle.std.proofs.Common.{rules, arith}
+use Rattle.teco_facts.proofs.Prelude.{rules, arith}
 use Rattle.teco_facts.proofs.Least.{small_more}
 use Rattle.teco_facts.proofs.falls.are_small.Goals as goal
 

@@ -1,5 +1,4 @@
-use Rattle.std.proofs.Common.{ℕ, ℤ, ◌<◌, Option, get_or}
-use Rattle.teco_facts.specs.Numbers.{IsSmallFall}
+use Rattle.teco_facts.proofs.Prelude.{ℕ, ℤ, ◌<◌, Option, get_or, IsSmallFall}
 use Rattle.teco_facts.proofs.falls.are_small.Given as goal
 
 -- those before this one are

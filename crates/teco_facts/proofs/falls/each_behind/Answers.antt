@@ -1,6 +1,5 @@
-use Rattle.std.proofs.Common.{ap, ◌∙◌, set, arith}
+use Rattle.teco_facts.proofs.Prelude.{ap, ◌∙◌, set, arith, fall_after}
 use Rattle.std.proofs.lemmas.List.Edits.{map_over_more}
-use Rattle.teco_verifier.specs.facts.Shifts.{fall_after}
 use Rattle.teco_facts.proofs.falls.each_behind.Goals as goal
 
 pub loop-at-preserved : goal.loop-at-preserved

@@ -1,5 +1,4 @@
-use Rattle.std.proofs.Common.{◌≡◌, ◌++◌, map, take, drop}
-use Rattle.teco_verifier.specs.facts.Shifts.{fall_after}
+use Rattle.teco_facts.proofs.Prelude.{◌≡◌, ◌++◌, map, take, drop, fall_after}
 use Rattle.teco_facts.proofs.falls.each_behind.Given as goal
 
 -- the falls before this one are done

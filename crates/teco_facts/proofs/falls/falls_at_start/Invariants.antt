@@ -1,4 +1,4 @@
-use Rattle.std.proofs.Common.{◌≡◌, ◌∷◌, map, take, Some, pos}
+use Rattle.teco_facts.proofs.Prelude.{◌≡◌, ◌∷◌, map, take, Some, pos}
 use Rattle.teco_verifier.specs.facts.Bodies.{fall_if}
 use Rattle.teco_facts.proofs.falls.falls_at_start.Given as goal
 

@@ -1,5 +1,4 @@
-use Rattle.std.proofs.Common.{◌≡◌, ◌≤◌, ◌++◌, length, take}
-use Rattle.teco_verifier.specs.facts.Joins.{joined_pushes}
+use Rattle.teco_facts.proofs.Prelude.{◌≡◌, ◌≤◌, ◌++◌, length, take, joined_pushes}
 use Rattle.teco_facts.proofs.Pairs.{behind}
 use Rattle.teco_facts.proofs.joining.join_pairs.Given as goal
 

@@ -1,6 +1,4 @@
-use Rattle.std.proofs.Common.{sym, ap, get_or, ◌∙◌, add-one, rules, arith}
-use Rattle.teco_verifier.specs.facts.Facts.{join_of}
-use Rattle.teco_verifier.specs.facts.Joins.{joined_lengths}
+use Rattle.teco_facts.proofs.Prelude.{sym, ap, get_or, ◌∙◌, add-one, rules, arith, join_of, joined_lengths}
 use Rattle.teco_facts.proofs.Joins.{lengths_go_on, joined_more, joined_refused}
 use Rattle.teco_facts.proofs.joining.joined_lengths.Goals as goal
 

@@ -1,4 +1,4 @@
-use Rattle.teco_verifier.specs.facts.Joins.{joined_lengths}
+use Rattle.teco_facts.proofs.Prelude.{joined_lengths}
 use Rattle.teco_facts.proofs.Joins.{AreJoined}
 use Rattle.teco_facts.proofs.joining.joined_lengths.Given as goal
 

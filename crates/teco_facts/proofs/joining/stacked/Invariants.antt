@@ -1,4 +1,4 @@
-use Rattle.std.proofs.Common.{◌≡◌, ◌++◌, drop}
+use Rattle.teco_facts.proofs.Prelude.{◌≡◌, ◌++◌, drop}
 use Rattle.teco_facts.proofs.joining.stacked.Given as goal
 
 -- the pairs from this one on are stacked

@@ -1,5 +1,5 @@
-use Rattle.std.proofs.Common.{◌≡◌, rules, take, w32, to_z}
-use Rattle.std.proofs.lemmas.Int.{to_z-of_z}
+use Rattle.teco_facts.proofs.Prelude.{◌≡◌, rules, take, to_z, to_z-of_z}
+use Rattle.std.proofs.Common.{w32}
 use Rattle.teco_model.specs.Arguments.{run_value}
 use Rattle.teco_model.proofs.Digits.{run_value-more}
 use Rattle.teco_facts.proofs.level.run_value.Goals as goal

@@ -1,4 +1,4 @@
-use Rattle.std.proofs.Common.{◌≡◌, take}
+use Rattle.teco_facts.proofs.Prelude.{◌≡◌, take}
 use Rattle.teco_model.specs.Arguments as model
 use Rattle.teco_facts.proofs.level.run_value.Given as goal
 

@@ -1,5 +1,4 @@
-use Rattle.std.proofs.Common.{arith}
-use Rattle.std.proofs.lemmas.Int.{to_z-of_z}
+use Rattle.teco_facts.proofs.Prelude.{arith, to_z-of_z}
 use Rattle.teco_facts.proofs.place.is_linear.Goals as goal
 
 pub returns-then-at_most-2 : goal.returns-then-at_most-2

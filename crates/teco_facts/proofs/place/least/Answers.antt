@@ -1,5 +1,4 @@
-use Rattle.std.proofs.Common.{arith}
-use Rattle.std.proofs.lemmas.Int.{ints, to_z-of_z}
+use Rattle.teco_facts.proofs.Prelude.{arith, ints, to_z-of_z}
 use Rattle.teco_facts.proofs.place.least.Goals as goal
 
 pub add-requires : goal.add-requires

@@ -1,5 +1,4 @@
-use Rattle.std.proofs.Common.{arith}
-use Rattle.std.proofs.lemmas.Int.{ints}
+use Rattle.teco_facts.proofs.Prelude.{arith, ints}
 use Rattle.teco_facts.proofs.place.least_behind.Goals as goal
 
 pub least-requires-clause-high : goal.least-requires-clause-high

@@ -1,6 +1,4 @@
-use Rattle.std.proofs.Common.{sym, subst}
-use Rattle.teco_verifier.specs.declared.values.Value.{Value}
-use Rattle.teco_facts.specs.Numbers.{IsPlace}
+use Rattle.teco_facts.proofs.Prelude.{sym, subst, Value, IsPlace}
 use Rattle.teco_facts.proofs.Places.{added, number_is_place, sum_is_place}
 use Rattle.teco_facts.proofs.Wholes.{place_whole, sum_whole}
 use Rattle.teco_facts.proofs.place.plus.Goals as goal

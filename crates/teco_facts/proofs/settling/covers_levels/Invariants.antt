@@ -1,5 +1,4 @@
-use Rattle.std.proofs.Common.{◌≡◌}
-use Rattle.teco_verifier.specs.facts.Covers.{each_covers, covers_level}
+use Rattle.teco_facts.proofs.Prelude.{◌≡◌, each_covers, covers_level}
 use Rattle.teco_facts.specs.Settled.{levels_since}
 use Rattle.teco_facts.proofs.settling.covers_levels.Given as goal
 

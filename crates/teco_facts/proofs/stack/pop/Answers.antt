@@ -1,4 +1,4 @@
-use Rattle.std.proofs.Common.{sym, false}
+use Rattle.teco_facts.proofs.Prelude.{sym, false}
 use Rattle.teco_facts.proofs.Popping.{popped}
 use Rattle.teco_facts.proofs.stack.pop.Goals as goal
 

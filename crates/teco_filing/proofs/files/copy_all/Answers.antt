@@ -1,8 +1,5 @@
-use Rattle.std.proofs.Common.{◌≡◌, Err, ap, ◌∙◌}
-use Rattle.std.proofs.lemmas.Result.{err_from_is_err_and}
-use Rattle.teco_pages.specs.Held.{Held}
+use Rattle.teco_filing.proofs.Prelude.{◌≡◌, Err, ap, ◌∙◌, err_from_is_err_and, Held, halt_of}
 use Rattle.teco_pages.proofs.Touching.{touches-end}
-use Rattle.teco_filing.specs.Halts.{halt_of}
 use Rattle.teco_filing.proofs.Touched.{drops-failing}
 use Rattle.teco_filing.proofs.files.copy_all.Goals as goal
 

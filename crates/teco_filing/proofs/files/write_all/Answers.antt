@@ -1,6 +1,4 @@
-use Rattle.std.proofs.Common.{◌++◌, ap, ◌∙◌}
-use Rattle.teco_model.specs.Pages.{written_page}
-use Rattle.teco_pages.proofs.Touching.{touches-more}
+use Rattle.teco_filing.proofs.Prelude.{◌++◌, ap, ◌∙◌, written_page, touches-more}
 use Rattle.teco_filing.proofs.Written.{writes-all}
 use Rattle.teco_filing.proofs.files.write_all.Goals as goal
 

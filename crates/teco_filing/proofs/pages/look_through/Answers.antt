@@ -1,6 +1,4 @@
-use Rattle.std.proofs.Common.{Err, ap, ◌∙◌, ◌≡◌}
-use Rattle.std.proofs.lemmas.Result.{err_from_is_err_and}
-use Rattle.teco_filing.specs.Halts.{halt_of}
+use Rattle.teco_filing.proofs.Prelude.{Err, ap, ◌∙◌, ◌≡◌, err_from_is_err_and, halt_of}
 use Rattle.teco_filing.proofs.Turned.{look-stopped}
 use Rattle.teco_filing.proofs.pages.look_through.Goals as goal
 

@@ -1,10 +1,5 @@
-use Rattle.std.proofs.Common.{rules, ◌≡◌, Some, Err, refl, sym, ap, subst, ◌∙◌}
-use Rattle.std.proofs.lemmas.Result.{err_from_is_err_and}
-use Rattle.std.specs.Prelude.{IsSome}
-use Rattle.teco_model.specs.Pages.{Page}
-use Rattle.teco_pages.specs.Held.{Held, unread_bytes}
-use Rattle.teco_filing.specs.Halts.{halt_of}
-use Rattle.teco_pages.proofs.Touching.{touches-more}
+use Rattle.teco_filing.proofs.Prelude.{rules, ◌≡◌, Some, Err, refl, sym, ap, subst, ◌∙◌, err_from_is_err_and, IsSome}
+use Rattle.teco_filing.proofs.Prelude.{Page, Held, unread_bytes, halt_of, touches-more}
 use Rattle.teco_filing.proofs.Turned.{turn-stopped, turned}
 use Rattle.teco_filing.proofs.pages.turn_page.Goals as goal
 

@@ -1,4 +1,4 @@
-use Rattle.std.proofs.Common.{ap, refl}
+use Rattle.teco_filing.proofs.Prelude.{refl}
 use Rattle.teco_model.specs.Paging as model
 use Rattle.teco_filing.proofs.Turned.{is-written}
 use Rattle.teco_filing.proofs.pages.write_page.Goals as goal

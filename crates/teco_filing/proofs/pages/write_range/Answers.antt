@@ -1,10 +1,8 @@
-use Rattle.std.proofs.Common.{refl, rules, w32}
+use Rattle.teco_filing.proofs.Prelude.{refl, rules, Updates, IsSameOutput, told-same, writing, halt_cause, world}
+use Rattle.std.proofs.Common.{w32}
 use Rattle.std.proofs.lemmas.Int.{to_z-of_z}
 use Rattle.teco_model.specs.Paging as model
-use Rattle.teco_pages.specs.Held.{IsSameOutput}
-use Rattle.teco_pages.proofs.Told.{told-same}
 use Rattle.teco_filing.proofs.Turned.{is-written}
-use Rattle.teco_filing.specs.Worlds.{Writes, world}
 use Rattle.teco_filing.proofs.pages.write_range.Goals as goal
 
 pub returns-in_err-first-clause-writes : goal.returns-in_err-first-clause-writes
@@ -13,7 +11,7 @@ returns-in_err-first-clause-writes g c =
     let held = c.args.pages.now in
     told-same
     (λ files left. IsSameOutput held files
-    → Writes (world kept held files) (world kept held left)
+    → Updates halt_cause writing (world kept held files) (world kept held left)
     (model.range_written c.args.m c.args.n (world kept held files)) c.from_residual.result × IsSameOutput held left)
     (λ files. search rules) _
 

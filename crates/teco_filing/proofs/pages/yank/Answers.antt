@@ -1,9 +1,7 @@
-use Rattle.std.proofs.Common.{Err, rules}
+use Rattle.teco_filing.proofs.Prelude.{Err, rules, Updates, IsSameOutput, told-same, halt_cause, world}
 use Rattle.teco_base.specs.declared.code.Code.TheVariants as code
 use Rattle.teco_model.specs.Paging as model
-use Rattle.teco_pages.specs.Held.{IsSameOutput}
-use Rattle.teco_pages.proofs.Told.{told-same}
-use Rattle.teco_filing.specs.Worlds.{Reads, world}
+use Rattle.teco_filing.specs.Failures.{reading}
 use Rattle.teco_filing.specs.declared.halt.Halt.TheVariants as halt
 use Rattle.teco_filing.proofs.pages.yank.Goals as goal
 
@@ -13,6 +11,6 @@ returns-then-size-gt0-clause-reads g c =
     let held = c.args.pages.now in
     told-same
     (λ files left. IsSameOutput held files
-    → Reads (world kept held files) (world kept held left) (model.yank (world kept held files))
-    (Err (halt.Code code.Yca)) × IsSameOutput held left)
+    → Updates {X = Unit {0}} halt_cause reading (world kept held files) (world kept held left)
+    (model.yank (world kept held files)) (Err (halt.Code code.Yca)) × IsSameOutput held left)
     (λ files. search rules) _

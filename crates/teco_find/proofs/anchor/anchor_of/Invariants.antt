@@ -1,5 +1,4 @@
-use Rattle.std.specs.Prelude.{IfSome}
-use Rattle.teco_find.specs.Anchors.{Anchors}
+use Rattle.teco_find.proofs.Prelude.{IfSome, Anchors}
 use Rattle.teco_find.proofs.Anchored.{AreSingle}
 use Rattle.teco_find.proofs.anchor.anchor_of.Given as goal
 

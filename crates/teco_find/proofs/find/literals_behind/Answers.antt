@@ -1,5 +1,4 @@
-use Rattle.std.proofs.Common.{None, Some, sym}
-use Rattle.teco_find.specs.Pieces.{joined}
+use Rattle.teco_find.proofs.Prelude.{None, Some, sym, joined}
 use Rattle.teco_find.proofs.Matches.{first_found, first_nowhere, next_needle}
 use Rattle.teco_find.proofs.Needled.{literals_here, up_to}
 use Rattle.teco_find.proofs.find.literals_behind.Goals as goal

@@ -1,4 +1,4 @@
-use Rattle.std.proofs.Common.{◌≡◌, ◌++◌, take}
+use Rattle.teco_find.proofs.Prelude.{◌≡◌, ◌++◌, take}
 use Rattle.teco_model.specs.Pattern.{literals}
 use Rattle.teco_find.proofs.items.put_literals.Given as goal
 

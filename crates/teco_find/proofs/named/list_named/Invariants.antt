@@ -1,8 +1,5 @@
-use Rattle.std.proofs.Common.{◌≡◌, ◌++◌, Ok, length}
-use Rattle.std.specs.Prelude.{flat_map}
-use Rattle.teco_model.specs.Checked.{◌>>=◌}
+use Rattle.teco_find.proofs.Prelude.{◌≡◌, ◌++◌, Ok, length, flat_map, ◌>>=◌, named_by, named_in}
 use Rattle.teco_model.specs.Pattern as model
-use Rattle.teco_find.specs.Reading.{named_by, named_in}
 use Rattle.teco_find.proofs.named.list_named.Given as goal
 
 -- what is listed so far, and what the parts that are left name, are all

@@ -1,4 +1,4 @@
-use Rattle.std.proofs.Common.{◌∙◌, ap, sym, take}
+use Rattle.teco_find.proofs.Prelude.{◌∙◌, ap, sym, take}
 use Rattle.teco_find.proofs.Needled.{begins}
 use Rattle.teco_find.proofs.needle.literals_of.Goals as goal
 

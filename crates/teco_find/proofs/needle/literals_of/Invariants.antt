@@ -1,6 +1,4 @@
-use Rattle.std.proofs.Common.{◌≡◌, length, take}
-use Rattle.std.specs.Prelude.{map}
-use Rattle.teco_find.specs.Needles.{literal}
+use Rattle.teco_find.proofs.Prelude.{◌≡◌, length, take, map, literal}
 use Rattle.teco_find.proofs.needle.literals_of.Given as goal
 
 -- the literals so far are the elements so far

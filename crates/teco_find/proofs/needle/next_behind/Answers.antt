@@ -1,4 +1,4 @@
-use Rattle.teco_find.specs.Pieces.{joined}
+use Rattle.teco_find.proofs.Prelude.{joined}
 use Rattle.teco_find.proofs.Needled.{up_to}
 use Rattle.teco_find.proofs.needle.next_behind.Goals as goal
 

@@ -1,4 +1,4 @@
-use Rattle.std.proofs.Common.{ap, arith, length}
+use Rattle.teco_find.proofs.Prelude.{ap, arith, length}
 use Rattle.teco_find.proofs.Needled.{found_front, none_front, then_up_to}
 use Rattle.teco_find.proofs.needle.next_start.Goals as goal
 

@@ -1,6 +1,4 @@
-use Rattle.std.proofs.Common.{◌≡◌, Ok, length}
-use Rattle.std.specs.Prelude.{fold}
-use Rattle.teco_model.specs.Checked.{◌>>=◌}
+use Rattle.teco_find.proofs.Prelude.{◌≡◌, Ok, length, fold, ◌>>=◌}
 use Rattle.teco_model.specs.Pattern as model
 use Rattle.teco_find.specs.Reading.{later, last_part}
 use Rattle.teco_find.proofs.pattern.last_part.Given as goal

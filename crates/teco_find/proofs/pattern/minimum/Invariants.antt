@@ -1,6 +1,4 @@
-use Rattle.std.proofs.Common.{◌≡◌, ◌+◌, ◌≤◌, Ok, length}
-use Rattle.std.specs.Prelude.{fold, IfSome}
-use Rattle.teco_model.specs.Checked.{◌>>=◌}
+use Rattle.teco_find.proofs.Prelude.{◌≡◌, ◌+◌, ◌≤◌, Ok, length, fold, IfSome, ◌>>=◌}
 use Rattle.teco_model.specs.Pattern as model
 use Rattle.teco_find.proofs.pattern.minimum.Given as goal
 

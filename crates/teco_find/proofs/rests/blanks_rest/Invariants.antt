@@ -1,6 +1,5 @@
-use Rattle.std.proofs.Common.{◌≡◌, ◌≤◌, length}
+use Rattle.teco_find.proofs.Prelude.{◌≡◌, ◌≤◌, length, joined}
 use Rattle.teco_model.specs.Match.{is_space_or_tab, run_rest}
-use Rattle.teco_find.specs.Pieces.{joined}
 use Rattle.teco_find.proofs.rests.blanks_rest.Given as goal
 
 -- what is left of the run ends where all of it does

@@ -1,4 +1,4 @@
-use Rattle.std.proofs.Common.{◌≡◌, ◌∙◌, ◌++◌, ap, drop, length, sym, take}
+use Rattle.teco_find.proofs.Prelude.{◌≡◌, ◌∙◌, ◌++◌, ap, drop, length, sym, take}
 use Rattle.std.proofs.lemmas.List.{append_assoc, take-append-drop}
 use Rattle.std.specs.Cmp.Lexicographic.{same_text}
 use Rattle.teco_find.proofs.rests.literals_rest.Goals as goal

@@ -1,6 +1,5 @@
-use Rattle.std.proofs.Common.{◌≡◌, ◌≤◌, length, drop}
+use Rattle.teco_find.proofs.Prelude.{◌≡◌, ◌≤◌, length, drop, joined}
 use Rattle.teco_model.specs.Match as model
-use Rattle.teco_find.specs.Pieces.{joined}
 use Rattle.teco_find.proofs.rests.match_rest.Given as goal
 
 -- the elements that are left leave what all of them do

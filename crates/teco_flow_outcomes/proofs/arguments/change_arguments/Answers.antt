@@ -1,9 +1,6 @@
-use Rattle.std.proofs.lemmas.Result.{IfOk-weaker}
-use Rattle.std.proofs.Common.{sym, subst, ◌∙◌, rules, w32}
-use Rattle.std.proofs.lemmas.Int.{to_z-of_z}
-use Rattle.teco_model.specs.Arguments.{with_level, level_with}
-use Rattle.teco_model.specs.Step.{levels_after}
-use Rattle.teco_rows.specs.Foretold.{Rearranges}
+use Rattle.teco_flow_outcomes.proofs.Prelude.{IfOk-weaker, sym, subst, ◌∙◌, rules, w32, to_z-of_z, level_with}
+use Rattle.teco_flow_outcomes.proofs.Prelude.{levels_after, Rearranges}
+use Rattle.teco_model.specs.Arguments.{with_level}
 use Rattle.teco_flow_outcomes.proofs.arguments.change_arguments.Goals as goal
 
 pub returns-in-DropAll : goal.returns-in-DropAll

@@ -1,7 +1,4 @@
-use Rattle.std.proofs.Common.{◌≡◌, ◌≤◌, None, length, subst, arith}
-use Rattle.std.proofs.lemmas.Grind.{common_steps}
-use Rattle.std.proofs.lemmas.Result.{IfOk-weaker}
-use Rattle.teco_rows.specs.Commands.{EndsWith}
+use Rattle.teco_flow_outcomes.proofs.Prelude.{◌≡◌, ◌≤◌, None, length, subst, arith, common_steps, IfOk-weaker, EndsWith}
 use Rattle.teco_flow_outcomes.proofs.Arguing.{closes, is_alone}
 use Rattle.teco_flow_outcomes.proofs.arguments.close.Goals as goal
 

@@ -1,4 +1,4 @@
-use Rattle.std.proofs.lemmas.Result.{IfOk-weaker}
+use Rattle.teco_flow_outcomes.proofs.Prelude.{IfOk-weaker}
 use Rattle.teco_flow_outcomes.proofs.Arguing.{drops}
 use Rattle.teco_flow_outcomes.proofs.arguments.drop_all.Goals as goal
 

@@ -1,5 +1,4 @@
-use Rattle.std.proofs.Common.{[]}
-use Rattle.std.proofs.lemmas.Result.{IfOk-weaker}
+use Rattle.teco_flow_outcomes.proofs.Prelude.{[], IfOk-weaker}
 use Rattle.teco_flow_outcomes.proofs.Arguing.{is_dropped}
 use Rattle.teco_flow_outcomes.proofs.arguments.dropped.Goals as goal
 

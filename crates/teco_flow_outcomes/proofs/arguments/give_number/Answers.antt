@@ -1,8 +1,6 @@
-use Rattle.std.proofs.Common.{◌≡◌, ◌∙◌, to_z, of_z, arith}
+use Rattle.teco_flow_outcomes.proofs.Prelude.{◌≡◌, ◌∙◌, to_z, arith, common_steps, IfOk-weaker, to_z-of_z}
+use Rattle.std.proofs.Common.{of_z}
 use mir.Syntax.{w128}
-use Rattle.std.proofs.lemmas.Grind.{common_steps}
-use Rattle.std.proofs.lemmas.Result.{IfOk-weaker}
-use Rattle.std.proofs.lemmas.Int.{to_z-of_z}
 use Rattle.teco_flow_outcomes.proofs.Arguing.{number_given}
 use Rattle.teco_flow_outcomes.proofs.arguments.give_number.Goals as goal
 

@@ -1,7 +1,4 @@
-use Rattle.std.proofs.Common.{◌≡◌, ◌+◌, length, refl, arith}
-use Rattle.std.proofs.lemmas.Grind.{common_steps}
-use Rattle.std.proofs.lemmas.Result.{IfOk-weaker}
-use Rattle.teco_rows.specs.States.{IsShape, Point}
+use Rattle.teco_flow_outcomes.proofs.Prelude.{◌≡◌, ◌+◌, length, refl, arith, common_steps, IfOk-weaker, IsShape, Point}
 use Rattle.teco_flow_outcomes.proofs.Arguing.{is_opened}
 use Rattle.teco_flow_outcomes.proofs.arguments.opened.Goals as goal
 

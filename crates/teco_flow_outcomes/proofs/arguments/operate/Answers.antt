@@ -1,6 +1,4 @@
-use Rattle.std.proofs.Common.{◌≡◌, None, refl, arith}
-use Rattle.std.proofs.lemmas.Grind.{common_steps}
-use Rattle.std.proofs.lemmas.Result.{IfOk-weaker}
+use Rattle.teco_flow_outcomes.proofs.Prelude.{◌≡◌, None, refl, arith, common_steps, IfOk-weaker}
 use Rattle.teco_flow_outcomes.proofs.Arguing.{operated, waits_none}
 use Rattle.teco_flow_outcomes.proofs.arguments.operate.Goals as goal
 

@@ -1,7 +1,4 @@
-use Rattle.std.proofs.Common.{◌≡◌, None, subst, arith}
-use Rattle.std.proofs.lemmas.Grind.{common_steps}
-use Rattle.std.proofs.lemmas.Result.{IfOk-weaker}
-use Rattle.teco_rows.specs.Commands.{EndsWith}
+use Rattle.teco_flow_outcomes.proofs.Prelude.{◌≡◌, None, subst, arith, common_steps, IfOk-weaker, EndsWith}
 use Rattle.teco_flow_outcomes.proofs.Arguing.{is_alone, parts}
 use Rattle.teco_flow_outcomes.proofs.arguments.part.Goals as goal
 

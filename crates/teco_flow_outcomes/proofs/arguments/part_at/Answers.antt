@@ -1,6 +1,4 @@
-use Rattle.std.proofs.Common.{◌≡◌, [], ◌∷◌, arith}
-use Rattle.std.proofs.lemmas.Grind.{common_steps}
-use Rattle.std.proofs.lemmas.Result.{IfOk-weaker}
+use Rattle.teco_flow_outcomes.proofs.Prelude.{◌≡◌, [], ◌∷◌, arith, common_steps, IfOk-weaker}
 use Rattle.teco_flow_outcomes.proofs.Arguing.{parts_at}
 use Rattle.teco_flow_outcomes.proofs.arguments.part_at.Goals as goal
 

@@ -1,5 +1,4 @@
-use Rattle.std.proofs.Common.{refl}
-use Rattle.std.proofs.lemmas.Result.{IfOk-weaker}
+use Rattle.teco_flow_outcomes.proofs.Prelude.{refl, IfOk-weaker}
 use Rattle.teco_flow_outcomes.proofs.Arguing.{is_parted}
 use Rattle.teco_flow_outcomes.proofs.arguments.parted.Goals as goal
 

@@ -1,5 +1,4 @@
-use Rattle.std.proofs.Common.{◌≡◌, ◌≤◌, [], ◌∷◌, arith}
-use Rattle.std.proofs.lemmas.Grind.{common_steps}
+use Rattle.teco_flow_outcomes.proofs.Prelude.{◌≡◌, ◌≤◌, [], ◌∷◌, arith, common_steps}
 use Rattle.teco_flow_outcomes.proofs.Branching.{jumps_inside, jumps_out}
 use Rattle.teco_flow_outcomes.proofs.flow.behind_tag.Goals as goal
 

@@ -1,6 +1,4 @@
-use Rattle.std.proofs.Common.{true, false, subst}
-use Rattle.std.proofs.lemmas.Result.{IfOk-weaker}
-use Rattle.teco_flow_outcomes.specs.Flow.{Counts}
+use Rattle.teco_flow_outcomes.proofs.Prelude.{true, false, subst, IfOk-weaker, Counts}
 use Rattle.teco_flow_outcomes.proofs.Branching.{ends_turn}
 use Rattle.teco_flow_outcomes.proofs.flow.end_turn.Goals as goal
 

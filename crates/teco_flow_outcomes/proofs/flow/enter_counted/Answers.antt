@@ -1,6 +1,5 @@
-use Rattle.std.proofs.Common.{◌≡◌, [], ◌∷◌, arith, slice_index_or, sym, subst, inl}
-use Rattle.std.proofs.lemmas.Grind.{common_steps}
-use Rattle.teco_flow_outcomes.specs.Ranges.{IsInOne}
+use Rattle.teco_flow_outcomes.proofs.Prelude.{◌≡◌, [], ◌∷◌, arith, slice_index_or, sym, subst, inl, common_steps}
+use Rattle.teco_flow_outcomes.proofs.Prelude.{IsInOne}
 use Rattle.teco_flow_outcomes.proofs.Branching.{enters_counted}
 use Rattle.teco_flow_outcomes.proofs.flow.enter_counted.Goals as goal
 

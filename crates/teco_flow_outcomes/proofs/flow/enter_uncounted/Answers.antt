@@ -1,4 +1,4 @@
-use Rattle.std.proofs.lemmas.Result.{IfOk-weaker}
+use Rattle.teco_flow_outcomes.proofs.Prelude.{IfOk-weaker}
 use Rattle.teco_flow_outcomes.proofs.Branching.{enters_uncounted}
 use Rattle.teco_flow_outcomes.proofs.flow.enter_uncounted.Goals as goal
 

@@ -1,4 +1,4 @@
-use Rattle.std.proofs.lemmas.Result.{IfOk-weaker}
+use Rattle.teco_flow_outcomes.proofs.Prelude.{IfOk-weaker}
 use Rattle.teco_flow_outcomes.proofs.Branching.{are_later}
 use Rattle.teco_flow_outcomes.proofs.flow.go_past.Goals as goal
 

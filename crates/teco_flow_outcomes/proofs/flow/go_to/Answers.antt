@@ -1,4 +1,4 @@
-use Rattle.std.proofs.Common.{sym, ◌∙◌}
+use Rattle.teco_flow_outcomes.proofs.Prelude.{sym, ◌∙◌}
 use Rattle.teco_flow_outcomes.proofs.Branching.{goes_to}
 use Rattle.teco_flow_outcomes.proofs.flow.go_to.Goals as goal
 

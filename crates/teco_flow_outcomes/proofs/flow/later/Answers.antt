@@ -1,5 +1,4 @@
-use Rattle.std.proofs.Common.{refl, sym}
-use Rattle.std.proofs.lemmas.Result.{IfOk-weaker}
+use Rattle.teco_flow_outcomes.proofs.Prelude.{refl, sym, IfOk-weaker}
 use Rattle.teco_flow_outcomes.proofs.Turning.{is_later}
 use Rattle.teco_flow_outcomes.proofs.flow.later.Goals as goal
 

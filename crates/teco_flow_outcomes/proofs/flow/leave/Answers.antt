@@ -1,5 +1,4 @@
-use Rattle.std.proofs.Common.{◌≡◌, [], ◌∷◌, arith}
-use Rattle.std.proofs.lemmas.Grind.{common_steps}
+use Rattle.teco_flow_outcomes.proofs.Prelude.{◌≡◌, [], ◌∷◌, arith, common_steps}
 use Rattle.teco_flow_outcomes.proofs.Branching.{leaves_by_number}
 use Rattle.teco_flow_outcomes.proofs.flow.leave.Goals as goal
 

@@ -1,5 +1,4 @@
-use Rattle.std.proofs.Common.{◌≡◌, [], ◌∷◌, arith}
-use Rattle.std.proofs.lemmas.Grind.{common_steps}
+use Rattle.teco_flow_outcomes.proofs.Prelude.{◌≡◌, [], ◌∷◌, arith, common_steps}
 use Rattle.teco_flow_outcomes.proofs.Branching.{returns_counted}
 use Rattle.teco_flow_outcomes.proofs.flow.return_counted.Goals as goal
 

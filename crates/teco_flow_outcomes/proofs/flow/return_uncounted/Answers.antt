@@ -1,5 +1,4 @@
-use Rattle.std.proofs.Common.{[], sym, subst, inl}
-use Rattle.teco_flow_outcomes.specs.Ranges.{IsInOne}
+use Rattle.teco_flow_outcomes.proofs.Prelude.{[], sym, subst, inl, IsInOne}
 use Rattle.teco_flow_outcomes.proofs.Branching.{returns_uncounted}
 use Rattle.teco_flow_outcomes.proofs.flow.return_uncounted.Goals as goal
 

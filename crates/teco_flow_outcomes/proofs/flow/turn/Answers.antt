@@ -1,5 +1,4 @@
-use Rattle.std.proofs.lemmas.Result.{IfOk-weaker}
-use Rattle.std.proofs.Common.{refl, sym, subst}
+use Rattle.teco_flow_outcomes.proofs.Prelude.{IfOk-weaker, refl, sym, subst}
 use Rattle.teco_model.specs.declared.kind.Flow.TheVariants as flow
 use Rattle.teco_flow_outcomes.specs.Flow.{Turns}
 use Rattle.teco_flow_outcomes.proofs.Branching.{goes_ahead, goes_past, otherwise}

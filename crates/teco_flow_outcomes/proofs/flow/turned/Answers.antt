@@ -1,5 +1,4 @@
-use Rattle.std.proofs.Common.{refl, rules}
-use Rattle.std.proofs.lemmas.Result.{IfOk-weaker}
+use Rattle.teco_flow_outcomes.proofs.Prelude.{refl, rules, IfOk-weaker}
 use Rattle.teco_flow_outcomes.proofs.Turning.{is_turned}
 use Rattle.teco_flow_outcomes.proofs.flow.turned.Goals as goal
 

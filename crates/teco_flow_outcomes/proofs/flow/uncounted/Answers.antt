@@ -1,6 +1,4 @@
-use Rattle.std.proofs.Common.{refl, arith}
-use Rattle.std.proofs.lemmas.Grind.{common_steps}
-use Rattle.std.proofs.lemmas.Result.{IfOk-weaker}
+use Rattle.teco_flow_outcomes.proofs.Prelude.{refl, arith, common_steps, IfOk-weaker}
 use Rattle.teco_flow_outcomes.proofs.Turning.{is_uncounted}
 use Rattle.teco_flow_outcomes.proofs.flow.uncounted.Goals as goal
 

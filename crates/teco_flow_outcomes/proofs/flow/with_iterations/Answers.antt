@@ -1,4 +1,4 @@
-use Rattle.std.proofs.Common.{refl}
+use Rattle.teco_flow_outcomes.proofs.Prelude.{refl}
 use Rattle.teco_flow_outcomes.proofs.Turning.{has_iterations}
 use Rattle.teco_flow_outcomes.proofs.flow.with_iterations.Goals as goal
 

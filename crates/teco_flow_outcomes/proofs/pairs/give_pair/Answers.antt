@@ -1,6 +1,4 @@
-use Rattle.std.proofs.Common.{◌≡◌, None, arith}
-use Rattle.std.proofs.lemmas.Grind.{common_steps}
-use Rattle.std.proofs.lemmas.Result.{IfOk-weaker}
+use Rattle.teco_flow_outcomes.proofs.Prelude.{◌≡◌, None, arith, common_steps, IfOk-weaker}
 use Rattle.teco_flow_outcomes.proofs.Arguing.{gives_pair, is_alone}
 use Rattle.teco_flow_outcomes.proofs.pairs.give_pair.Goals as goal
 

@@ -1,5 +1,4 @@
-use Rattle.std.proofs.Common.{◌≡◌, None, arith, rules}
-use Rattle.std.proofs.lemmas.Grind.{common_steps}
+use Rattle.teco_flow_outcomes.proofs.Prelude.{◌≡◌, None, arith, rules, common_steps}
 use Rattle.teco_flow_outcomes.proofs.Arguing.{leaves_alone, leaves_made, waits_none, waits_some}
 use Rattle.teco_flow_outcomes.proofs.pairs.left_by.Goals as goal
 

@@ -1,5 +1,4 @@
-use Rattle.std.proofs.Common.{refl}
-use Rattle.std.proofs.lemmas.Result.{IfOk-weaker}
+use Rattle.teco_flow_outcomes.proofs.Prelude.{refl, IfOk-weaker}
 use Rattle.teco_flow_outcomes.proofs.Arguing.{is_paired}
 use Rattle.teco_flow_outcomes.proofs.pairs.paired.Goals as goal
 

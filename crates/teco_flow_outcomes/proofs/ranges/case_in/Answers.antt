@@ -1,5 +1,4 @@
-use Rattle.std.proofs.Common.{rules}
-use Rattle.std.proofs.lemmas.Result.{IfOk-weaker}
+use Rattle.teco_flow_outcomes.proofs.Prelude.{rules, IfOk-weaker}
 use Rattle.teco_flow_outcomes.proofs.Turning.{is_behind_in}
 use Rattle.teco_flow_outcomes.proofs.ranges.case_in.Goals as goal
 

@@ -1,5 +1,4 @@
-use Rattle.std.proofs.Common.{◌≡◌, [], ◌∷◌, slice_index_or, arith}
-use Rattle.std.proofs.lemmas.Grind.{common_steps}
+use Rattle.teco_flow_outcomes.proofs.Prelude.{◌≡◌, [], ◌∷◌, slice_index_or, arith, common_steps}
 use Rattle.teco_flow_outcomes.proofs.Turning.{behind_in_one, behind_in_two}
 use Rattle.teco_flow_outcomes.proofs.ranges.cases_in.Goals as goal
 

@@ -1,5 +1,4 @@
-use Rattle.std.proofs.Common.{false, pos, refl}
-use Rattle.teco_flow_outcomes.specs.declared.ranges.Range.TheVariants.{From, UpTo}
+use Rattle.teco_flow_outcomes.proofs.Prelude.{false, pos, refl, From, UpTo}
 use Rattle.teco_flow_outcomes.proofs.Ranging.{in_both, in_only, digit_fails, negative_fails, not_zero_fails}
 use Rattle.teco_flow_outcomes.proofs.Ranging.{positive_fails, zero_fails}
 use Rattle.teco_flow_outcomes.proofs.ranges.where_it_fails.Goals as goal

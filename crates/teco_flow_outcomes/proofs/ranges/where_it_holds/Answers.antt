@@ -1,5 +1,4 @@
-use Rattle.std.proofs.Common.{refl, true, pos, negsuc}
-use Rattle.teco_flow_outcomes.specs.declared.ranges.Range.TheVariants.{From, UpTo}
+use Rattle.teco_flow_outcomes.proofs.Prelude.{refl, true, pos, negsuc, From, UpTo}
 use Rattle.teco_flow_outcomes.proofs.Ranging.{in_only, in_both, holds_zero, holds_not_zero, holds_negative}
 use Rattle.teco_flow_outcomes.proofs.Ranging.{holds_positive}
 use Rattle.teco_flow_outcomes.proofs.Ranging.{holds_letter, holds_symbol, holds_digit, holds_letter_or_digit}

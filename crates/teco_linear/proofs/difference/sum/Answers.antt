@@ -1,4 +1,4 @@
-use Rattle.std.proofs.Common.{arith}
+use Rattle.teco_linear.proofs.Prelude.{arith}
 use Rattle.teco_linear.proofs.Differences.{IsDifference-more}
 use Rattle.teco_linear.proofs.difference.sum.Goals as goal
 

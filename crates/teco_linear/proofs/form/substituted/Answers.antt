@@ -1,4 +1,4 @@
-use Rattle.std.proofs.Common.{arith}
+use Rattle.teco_linear.proofs.Prelude.{arith}
 use Rattle.teco_linear.proofs.Substitution.{IsSubstituted-more}
 use Rattle.teco_linear.proofs.form.substituted.Goals as goal
 

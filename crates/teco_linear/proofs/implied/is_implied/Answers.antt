@@ -1,4 +1,4 @@
-use Rattle.std.proofs.Common.{arith}
+use Rattle.teco_linear.proofs.Prelude.{arith}
 use Rattle.teco_linear.proofs.Judging.{implies_on}
 use Rattle.teco_linear.proofs.implied.is_implied.Goals as goal
 

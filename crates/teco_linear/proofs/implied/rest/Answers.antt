@@ -1,6 +1,5 @@
-use Rattle.std.proofs.Common.{arith, ◌∙◌, [], get_or, ◌≡◌}
+use Rattle.teco_linear.proofs.Prelude.{arith, ◌∙◌, [], get_or, ◌≡◌, ints}
 use Rattle.std.proofs.lemmas.Grind.{common_steps}
-use Rattle.std.proofs.lemmas.Int.{ints}
 use Rattle.teco_linear.proofs.Integers.{passed}
 use Rattle.teco_linear.proofs.Judging.{IsTaken-none, IsTaken-more, multiplier_at}
 use Rattle.teco_linear.proofs.implied.rest.Goals as goal

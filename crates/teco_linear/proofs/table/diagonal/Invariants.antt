@@ -1,6 +1,4 @@
-use Rattle.std.proofs.Common.{◌≡◌, vec_len}
-use Rattle.teco_linear.specs.Form.{Valuation}
-use Rattle.teco_linear.specs.DifferenceBounds.{AllHold}
+use Rattle.teco_linear.proofs.Prelude.{◌≡◌, vec_len, Valuation, AllHold}
 use Rattle.teco_linear.proofs.table.diagonal.Given as goal
 
 -- the entries before this one hold

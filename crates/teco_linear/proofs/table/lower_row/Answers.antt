@@ -1,6 +1,4 @@
-use Rattle.std.proofs.Common.{arith, ap, ◌-ℤ◌, ◌+ℤ◌, ◌≤ℤ◌, Some}
-use Rattle.std.proofs.lemmas.Int.{ints}
-use Rattle.teco_linear.specs.DifferenceBounds.{number_at}
+use Rattle.teco_linear.proofs.Prelude.{arith, ap, ◌-ℤ◌, ◌+ℤ◌, ◌≤ℤ◌, Some, ints, number_at}
 use Rattle.teco_linear.proofs.Integers.{passed}
 use Rattle.teco_linear.proofs.Differences.{AllHold-same, AllHold-lower, summed}
 use Rattle.teco_linear.proofs.table.lower_row.Goals as goal

@@ -1,6 +1,4 @@
-use Rattle.std.proofs.Common.{◌-ℤ◌, ◌≤ℤ◌}
-use Rattle.teco_linear.specs.Form.{Valuation}
-use Rattle.teco_linear.specs.DifferenceBounds.{AllHold, number_at}
+use Rattle.teco_linear.proofs.Prelude.{◌-ℤ◌, ◌≤ℤ◌, Valuation, AllHold, number_at}
 use Rattle.teco_linear.proofs.table.lower_row.Given as goal
 
 -- the bounds hold as they stand

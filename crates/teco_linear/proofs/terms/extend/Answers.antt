@@ -1,6 +1,5 @@
-use Rattle.std.proofs.Common.{ap, ◌∙◌}
+use Rattle.teco_linear.proofs.Prelude.{ap, ◌∙◌, value}
 use Rattle.teco_linear.proofs.Values.{value-append}
-use Rattle.teco_linear.specs.Form.{value}
 use Rattle.teco_linear.proofs.terms.extend.Goals as goal
 
 pub returns-clause-value : goal.returns-clause-value

@@ -1,4 +1,4 @@
-use Rattle.std.proofs.Common.{arith}
+use Rattle.teco_linear.proofs.Prelude.{arith}
 use Rattle.teco_linear.proofs.Loops.{IsScaled-more}
 use Rattle.teco_linear.proofs.terms.scaled.Goals as goal
 

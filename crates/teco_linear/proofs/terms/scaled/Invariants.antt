@@ -1,5 +1,4 @@
-use Rattle.std.proofs.Common.{◌≤◌, vec_len}
-use Rattle.teco_linear.specs.declared.form.TheConstants.{MAX_TERMS}
+use Rattle.teco_linear.proofs.Prelude.{◌≤◌, vec_len, MAX_TERMS}
 use Rattle.teco_linear.proofs.Loops.{IsScaled}
 use Rattle.teco_linear.proofs.terms.scaled.Given as goal
 

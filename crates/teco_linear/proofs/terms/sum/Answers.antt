@@ -1,4 +1,4 @@
-use Rattle.std.proofs.Common.{arith}
+use Rattle.teco_linear.proofs.Prelude.{arith}
 use Rattle.teco_linear.proofs.Loops.{IsSum-left, IsSum-right, IsSum-both, IsSum-all}
 use Rattle.teco_linear.proofs.terms.sum.Goals as goal
 

@@ -1,5 +1,4 @@
-use Rattle.std.proofs.Common.{length, ◌-◌, ◌+◌, ◌≤◌, vec_len}
-use Rattle.teco_linear.specs.declared.form.TheConstants.{MAX_TERMS}
+use Rattle.teco_linear.proofs.Prelude.{length, ◌-◌, ◌+◌, ◌≤◌, vec_len, MAX_TERMS}
 use Rattle.teco_linear.proofs.Loops.{IsSum}
 use Rattle.teco_linear.proofs.terms.sum.Given as goal
 

@@ -1,4 +1,4 @@
-use Rattle.teco_model.proofs.CodedSteps.{codes_of_steps}
+use Rattle.teco_model.proofs.upkeep.Replies.{codes_of_steps}
 use Rattle.teco_model.proofs.codes.codes_of_steps.Goals as goal
 
 pub returns : goal.returns

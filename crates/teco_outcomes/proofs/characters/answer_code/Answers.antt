@@ -1,5 +1,4 @@
-use Rattle.std.proofs.Common.{negsuc, pos}
-use Rattle.std.proofs.lemmas.Result.{IfOk-weaker}
+use Rattle.teco_outcomes.proofs.Prelude.{negsuc, pos, IfOk-weaker}
 use Rattle.teco_outcomes.proofs.Reading.{gives_code}
 use Rattle.teco_outcomes.proofs.characters.answer_code.Goals as goal
 

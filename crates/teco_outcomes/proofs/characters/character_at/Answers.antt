@@ -1,4 +1,4 @@
-use Rattle.std.proofs.Common.{refl}
+use Rattle.teco_outcomes.proofs.Prelude.{refl}
 use Rattle.teco_outcomes.proofs.Reading.{gives_character}
 use Rattle.teco_outcomes.proofs.characters.character_at.Goals as goal
 

@@ -1,4 +1,4 @@
-use Rattle.std.proofs.Common.{refl}
+use Rattle.teco_outcomes.proofs.Prelude.{refl}
 use Rattle.teco_outcomes.proofs.Reading.{character_before}
 use Rattle.teco_outcomes.proofs.characters.character_before.Goals as goal
 

@@ -1,5 +1,4 @@
-use Rattle.std.proofs.Common.{ap, ◌∙◌}
-use Rattle.std.proofs.lemmas.Result.{IfOk-weaker}
+use Rattle.teco_outcomes.proofs.Prelude.{ap, ◌∙◌, IfOk-weaker}
 use Rattle.teco_model.specs.declared.kind.Kind.TheVariants as kind
 use Rattle.teco_outcomes.proofs.Reading.{character_law}
 use Rattle.teco_outcomes.proofs.characters.turn_page.Goals as goal

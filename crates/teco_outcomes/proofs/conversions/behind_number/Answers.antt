@@ -1,4 +1,4 @@
-use Rattle.std.proofs.lemmas.Result.{IfOk-weaker}
+use Rattle.teco_outcomes.proofs.Prelude.{IfOk-weaker}
 use Rattle.teco_outcomes.proofs.Converting.{goes_behind}
 use Rattle.teco_outcomes.proofs.conversions.behind_number.Goals as goal
 

@@ -1,4 +1,4 @@
-use Rattle.std.proofs.lemmas.Result.{IfOk-weaker}
+use Rattle.teco_outcomes.proofs.Prelude.{IfOk-weaker}
 use Rattle.teco_outcomes.proofs.Converting.{read_asked, written_asked}
 use Rattle.teco_outcomes.proofs.conversions.convert.Goals as goal
 

@@ -1,4 +1,4 @@
-use Rattle.std.proofs.Common.{ap, ◌∙◌, ◌++◌}
+use Rattle.teco_outcomes.proofs.Prelude.{ap, ◌∙◌, ◌++◌}
 use Rattle.teco_outcomes.proofs.Converting.{reads_known}
 use Rattle.teco_outcomes.proofs.conversions.read_known.Goals as goal
 

@@ -1,4 +1,4 @@
-use Rattle.std.proofs.lemmas.Result.{IfOk-weaker}
+use Rattle.teco_outcomes.proofs.Prelude.{IfOk-weaker}
 use Rattle.teco_outcomes.proofs.Converting.{reads_number}
 use Rattle.teco_outcomes.proofs.conversions.read_number.Goals as goal
 

@@ -1,9 +1,6 @@
-use Rattle.std.proofs.Common.{◌≡◌, ◌++◌, ◌∷◌, [], ◌∙◌, ap, arith, refl, subst, sym}
-use Rattle.std.proofs.lemmas.Grind.{common_steps}
-use Rattle.std.proofs.lemmas.Int.{ints}
-use Rattle.std.specs.List.{All}
+use Rattle.teco_outcomes.proofs.Prelude.{◌≡◌, ◌++◌, ◌∷◌, [], ◌∙◌, ap, arith, refl, subst, sym, common_steps, ints, All}
+use Rattle.teco_outcomes.proofs.Prelude.{Guarded}
 use Rattle.teco_linear.specs.Implied as linear
-use Rattle.teco_rows.specs.declared.outcomes.Guarded.{Guarded}
 use Rattle.teco_outcomes.proofs.Converting.{has_room}
 use Rattle.teco_outcomes.proofs.conversions.room.Goals as goal
 

@@ -1,4 +1,4 @@
-use Rattle.std.proofs.lemmas.Result.{IfOk-weaker}
+use Rattle.teco_outcomes.proofs.Prelude.{IfOk-weaker}
 use Rattle.teco_outcomes.proofs.Converting.{stands_alone, stands_not}
 use Rattle.teco_outcomes.proofs.conversions.standing.Goals as goal
 

@@ -1,5 +1,4 @@
-use Rattle.std.proofs.Common.{◌≡◌, ◌++◌, ◌∷◌, [], arith}
-use Rattle.std.proofs.lemmas.Grind.{common_steps}
+use Rattle.teco_outcomes.proofs.Prelude.{◌≡◌, ◌++◌, ◌∷◌, [], arith, common_steps}
 use Rattle.teco_outcomes.proofs.Converting.{adds_room}
 use Rattle.teco_outcomes.proofs.conversions.with_room.Goals as goal
 

@@ -1,4 +1,4 @@
-use Rattle.std.proofs.Common.{refl}
+use Rattle.teco_outcomes.proofs.Prelude.{refl}
 use Rattle.teco_outcomes.proofs.Converting.{writes_number}
 use Rattle.teco_outcomes.proofs.conversions.write_number.Goals as goal
 

@@ -1,7 +1,5 @@
-use Rattle.std.proofs.Common.{subst, sym}
-use Rattle.std.proofs.lemmas.Result.{IfOk-weaker}
+use Rattle.teco_outcomes.proofs.Prelude.{subst, sym, IfOk-weaker, Performs}
 use Rattle.teco_model.specs.Motion.{motion}
-use Rattle.teco_rows.specs.Commands.{Performs}
 use Rattle.teco_outcomes.proofs.elements.move_by.Goals as goal
 
 pub returns-in-Lines : goal.returns-in-Lines

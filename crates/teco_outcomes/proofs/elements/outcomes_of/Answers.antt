@@ -1,5 +1,4 @@
-use Rattle.std.proofs.lemmas.Result.{IfOk-weaker}
-use Rattle.teco_model.specs.Element.{seen}
+use Rattle.teco_outcomes.proofs.Prelude.{IfOk-weaker, seen}
 use Rattle.teco_outcomes.proofs.Stepping.{argument_law, command_law, flow_law, query_law, stack_law, value_law}
 use Rattle.teco_outcomes.proofs.elements.outcomes_of.Goals as goal
 

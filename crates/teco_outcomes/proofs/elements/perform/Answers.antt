@@ -1,9 +1,5 @@
-use Rattle.std.proofs.lemmas.Result.{IfOk-weaker}
-use Rattle.std.proofs.Common.{sym, subst, refl}
-use Rattle.teco_model.specs.Element.{seen}
-use Rattle.teco_model.specs.Step.{after_command}
+use Rattle.teco_outcomes.proofs.Prelude.{IfOk-weaker, sym, subst, refl, seen, after_command, Foretells}
 use Rattle.teco_model.specs.declared.kind.Command.TheVariants as command
-use Rattle.teco_rows.specs.Foretold.{Foretells}
 use Rattle.teco_outcomes.proofs.Stepping.{command_foretold}
 use Rattle.teco_outcomes.proofs.elements.perform.Goals as goal
 

@@ -1,7 +1,4 @@
-use Rattle.std.proofs.Common.{arith}
-use Rattle.std.proofs.lemmas.Grind.{common_steps}
-use Rattle.std.proofs.lemmas.Result.{IfOk-weaker}
-use Rattle.teco_model.specs.Element.{seen}
+use Rattle.teco_outcomes.proofs.Prelude.{arith, common_steps, IfOk-weaker, seen}
 use Rattle.teco_search_outcomes.proofs.Seeking.{colon_law}
 use Rattle.teco_outcomes.proofs.elements.search_with_colon.Goals as goal
 

@@ -1,7 +1,4 @@
-use Rattle.std.proofs.Common.{subst, sym}
-use Rattle.std.proofs.lemmas.Result.{IfOk-weaker}
-use Rattle.teco_model.specs.Storage.{storage}
-use Rattle.teco_rows.specs.Commands.{Performs}
+use Rattle.teco_outcomes.proofs.Prelude.{subst, sym, IfOk-weaker, storage, Performs}
 use Rattle.teco_outcomes.proofs.elements.store_number.Goals as goal
 
 pub returns-in-SetNumber : goal.returns-in-SetNumber

@@ -1,8 +1,4 @@
-use Rattle.std.proofs.Common.{refl, subst, sym}
-use Rattle.std.proofs.lemmas.Result.{IfOk-weaker}
-use Rattle.teco_model.specs.Element.{seen}
-use Rattle.teco_model.specs.Storage.{storage}
-use Rattle.teco_rows.specs.Commands.{Performs}
+use Rattle.teco_outcomes.proofs.Prelude.{refl, subst, sym, IfOk-weaker, seen, storage, Performs}
 use Rattle.teco_outcomes.proofs.elements.store_text.Goals as goal
 
 pub returns-in-Get : goal.returns-in-Get

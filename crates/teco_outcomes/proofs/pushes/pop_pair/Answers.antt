@@ -1,4 +1,4 @@
-use Rattle.std.proofs.lemmas.Result.{IfOk-weaker}
+use Rattle.teco_outcomes.proofs.Prelude.{IfOk-weaker}
 use Rattle.teco_outcomes.proofs.Pushing.{pop_foretold}
 use Rattle.teco_outcomes.proofs.pushes.pop_pair.Goals as goal
 

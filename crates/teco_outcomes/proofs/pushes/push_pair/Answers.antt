@@ -1,4 +1,4 @@
-use Rattle.std.proofs.lemmas.Result.{IfOk-weaker}
+use Rattle.teco_outcomes.proofs.Prelude.{IfOk-weaker}
 use Rattle.teco_outcomes.proofs.Pushing.{push_foretold}
 use Rattle.teco_outcomes.proofs.pushes.push_pair.Goals as goal
 

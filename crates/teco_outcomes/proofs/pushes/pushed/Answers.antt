@@ -1,6 +1,4 @@
-use Rattle.std.proofs.Common.{refl, arith}
-use Rattle.std.proofs.lemmas.Grind.{common_steps}
-use Rattle.std.proofs.lemmas.Result.{IfOk-weaker}
+use Rattle.teco_outcomes.proofs.Prelude.{refl, arith, common_steps, IfOk-weaker}
 use Rattle.teco_outcomes.proofs.Pushing.{is_pushed}
 use Rattle.teco_outcomes.proofs.pushes.pushed.Goals as goal
 

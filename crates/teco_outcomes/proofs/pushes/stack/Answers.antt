@@ -1,7 +1,4 @@
-use Rattle.std.proofs.Common.{sym, subst}
-use Rattle.std.proofs.lemmas.Result.{IfOk-weaker}
-use Rattle.teco_model.specs.Step.{after_stack}
-use Rattle.teco_rows.specs.Foretold.{Foretells}
+use Rattle.teco_outcomes.proofs.Prelude.{sym, subst, IfOk-weaker, after_stack, Foretells}
 use Rattle.teco_outcomes.proofs.pushes.stack.Goals as goal
 
 pub returns-in-Push : goal.returns-in-Push

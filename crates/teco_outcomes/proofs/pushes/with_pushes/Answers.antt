@@ -1,4 +1,4 @@
-use Rattle.std.proofs.Common.{refl, sym}
+use Rattle.teco_outcomes.proofs.Prelude.{refl, sym}
 use Rattle.teco_outcomes.proofs.Pushing.{is_stacked}
 use Rattle.teco_outcomes.proofs.pushes.with_pushes.Goals as goal
 

@@ -1,7 +1,4 @@
-use Rattle.std.proofs.Common.{◌≤◌, arith, subst, sym}
-use Rattle.std.proofs.lemmas.Grind.{common_steps}
-use Rattle.std.proofs.lemmas.Result.{IfOk-weaker}
-use Rattle.teco_outcomes.specs.Queries.{Asks}
+use Rattle.teco_outcomes.proofs.Prelude.{◌≤◌, arith, subst, sym, common_steps, IfOk-weaker, Asks}
 use Rattle.teco_outcomes.proofs.Asking.{length_asked}
 use Rattle.teco_outcomes.proofs.queries.ask.Goals as goal
 

@@ -1,6 +1,4 @@
-use Rattle.std.proofs.Common.{subst}
-use Rattle.std.proofs.lemmas.Result.{IfOk-weaker}
-use Rattle.teco_outcomes.specs.Queries.{Stands}
+use Rattle.teco_outcomes.proofs.Prelude.{subst, IfOk-weaker, Stands}
 use Rattle.teco_outcomes.proofs.Asking.{number_asked}
 use Rattle.teco_outcomes.proofs.queries.ask_number.Goals as goal
 

@@ -1,5 +1,4 @@
-use Rattle.std.proofs.Common.{[]}
-use Rattle.std.proofs.lemmas.Result.{IfOk-weaker}
+use Rattle.teco_outcomes.proofs.Prelude.{[], IfOk-weaker}
 use Rattle.teco_outcomes.proofs.Asking.{character_asked}
 use Rattle.teco_outcomes.proofs.queries.character.Goals as goal
 

@@ -1,7 +1,4 @@
-use Rattle.std.proofs.Common.{sym, subst}
-use Rattle.std.proofs.lemmas.Result.{IfOk-weaker}
-use Rattle.teco_model.specs.Step.{after_value}
-use Rattle.teco_rows.specs.Foretold.{Foretells}
+use Rattle.teco_outcomes.proofs.Prelude.{sym, subst, IfOk-weaker, after_value, Foretells}
 use Rattle.teco_outcomes.proofs.Valuing.{value_foretold, begin_value, size_value, pointer_value, last_value}
 use Rattle.teco_outcomes.proofs.Valuing.{pair_foretold, text_value, whole_value}
 use Rattle.teco_outcomes.proofs.values.give_value.Goals as goal

@@ -1,8 +1,5 @@
-use Rattle.std.proofs.Common.{◌≡◌, ◌+◌, suc, take, drop, sym, ap, ◌∙◌, arith}
-use Rattle.std.proofs.lemmas.List.{drop_all}
+use Rattle.teco_pages.proofs.Prelude.{◌≡◌, ◌+◌, suc, take, drop, sym, ap, ◌∙◌, arith, drop_all, prefix_len, is_inner}
 use Rattle.std.proofs.lemmas.List.Sums.{prefix_len-le-length}
-use Rattle.std.specs.List.{prefix_len}
-use Rattle.teco_pages.specs.Reading.{is_inner}
 use Rattle.teco_pages.proofs.Cuts.{cut, whole-none}
 use Rattle.teco_pages.proofs.ahead.find_end.Goals as goal
 

@@ -1,11 +1,9 @@
 -- memchr finds the first form feed, if there is one.
-use Rattle.std.proofs.Common.{◌≡◌, ℕ, List, length, Bool, true, false, not, Option, Some, None, unwrap_or, refl, sym}
-use Rattle.std.proofs.Common.{ap, ◌∙◌, arith}
+use Rattle.teco_pages.proofs.Prelude.{◌≡◌, ℕ, List, length, Bool, true, false, not, Option, Some, None, refl, sym, ap}
+use Rattle.teco_pages.proofs.Prelude.{◌∙◌, arith, prefix_len, FF, is_inner}
+use Rattle.std.proofs.Common.{unwrap_or}
 use Rattle.std.proofs.lemmas.List.Sums.{prefix_len_is}
-use Rattle.std.specs.List.{prefix_len}
 use Rattle.memchr.specs.Find.{IsFirstByte, is_byte}
-use Rattle.teco_base.specs.declared.bytes.TheConstants.{FF}
-use Rattle.teco_pages.specs.Reading.{is_inner}
 use Rattle.teco_pages.proofs.ahead.inner_len.Goals as goal
 
 inner_else : (b : Bool) → ¬ (b ≡ true) → not b ≡ true

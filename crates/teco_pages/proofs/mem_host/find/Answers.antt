@@ -1,5 +1,4 @@
-use Rattle.std.proofs.Common.{◌<◌, Some, length, ap, ◌∙◌, arith}
-use Rattle.teco_model.specs.Files.{File}
+use Rattle.teco_pages.proofs.Prelude.{◌<◌, Some, length, ap, ◌∙◌, arith, File}
 use Rattle.teco_pages.proofs.Named.{found, missing}
 use Rattle.teco_pages.proofs.mem_host.find.Goals as goal
 

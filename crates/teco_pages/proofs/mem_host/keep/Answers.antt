@@ -1,5 +1,4 @@
-use Rattle.std.proofs.Common.{ap, ◌∙◌, arith}
-use Rattle.teco_model.specs.Files.{File}
+use Rattle.teco_pages.proofs.Prelude.{ap, ◌∙◌, arith, File}
 use Rattle.teco_pages.proofs.Named.{put-over, put-behind}
 use Rattle.teco_pages.proofs.mem_host.keep.Goals as goal
 

@@ -1,5 +1,4 @@
-use Rattle.std.proofs.Common.{◌≡◌, true, false, ◌∙◌, arith}
-use Rattle.std.proofs.lemmas.Result.{err_from_is_err_and}
+use Rattle.teco_pages.proofs.Prelude.{◌≡◌, true, false, ◌∙◌, arith, err_from_is_err_and}
 use Rattle.teco_pages.proofs.Reading.{page-ended, page-on, topped, ends-last, ends-stopped, ends-kept}
 use Rattle.teco_pages.proofs.Touching.{touches-more}
 use Rattle.teco_pages.proofs.pages.read_page.Goals as goal

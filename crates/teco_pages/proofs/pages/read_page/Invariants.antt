@@ -1,8 +1,4 @@
-use Rattle.std.proofs.Common.{◌≡◌, ◌≤◌, ◌++◌, [], false, length}
-use Rattle.teco_base.specs.declared.TheConstants.{LIMIT}
-use Rattle.teco_model.specs.Pages.{has_form_feed}
-use Rattle.teco_pages.specs.Noting.{Touches}
-use Rattle.teco_pages.specs.Reading.{Shifts}
+use Rattle.teco_pages.proofs.Prelude.{◌≡◌, ◌≤◌, ◌++◌, [], false, length, LIMIT, has_form_feed, Touches, Shifts}
 use Rattle.teco_pages.proofs.pages.read_page.Given as goal
 
 -- each turn gives a byte or more to the page; nothing is lost, and nothing has failed

@@ -1,5 +1,4 @@
-use Rattle.std.proofs.Common.{◌∙◌, arith, false, length, true}
-use Rattle.std.proofs.lemmas.Result.{err_from_is_err_and}
+use Rattle.teco_pages.proofs.Prelude.{◌∙◌, arith, false, length, true, err_from_is_err_and}
 use Rattle.teco_pages.proofs.Copied.{copies-all, copies-written, copies-read, copies-cut, copies-stopped, some-read}
 use Rattle.teco_pages.proofs.Touching.{some_count, touches-more}
 use Rattle.teco_pages.proofs.write.copy_rest.Goals as goal

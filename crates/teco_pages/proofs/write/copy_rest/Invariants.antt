@@ -1,7 +1,4 @@
-use Rattle.std.proofs.Common.{◌≡◌, ◌≤◌, ◌<◌, [], false}
-use Rattle.teco_base.specs.declared.TheConstants.{LIMIT}
-use Rattle.teco_pages.specs.Copying.{CopiesOn}
-use Rattle.teco_pages.specs.Noting.{Touches}
+use Rattle.teco_pages.proofs.Prelude.{◌≡◌, ◌≤◌, ◌<◌, [], false, LIMIT, CopiesOn, Touches}
 use Rattle.teco_pages.proofs.write.copy_rest.Given as goal
 
 -- what is written, held and unread is what was unread; each turn was given a byte, and nothing has failed

@@ -1,5 +1,4 @@
-use Rattle.std.proofs.Common.{◌≡◌, ◌-◌, [], length, take, drop, arith, length-drop, ◌∙◌}
-use Rattle.std.proofs.lemmas.List.{take_all}
+use Rattle.teco_pages.proofs.Prelude.{◌≡◌, ◌-◌, [], length, take, drop, arith, length-drop, ◌∙◌, take_all}
 use Rattle.teco_pages.proofs.Touching.{bytes_left, touches-nothing, touches-on, touches-writing}
 use Rattle.teco_pages.proofs.Written.{written-part, written-all, written-stays, front-part}
 use Rattle.teco_pages.proofs.write.write_all.Goals as goal

@@ -1,6 +1,4 @@
-use Rattle.std.proofs.Common.{◌≡◌, ◌≤◌, [], Bool, length, take}
-use Rattle.teco_pages.specs.HostFiles.{Becomes, after_writing}
-use Rattle.teco_pages.specs.Noting.{Touches}
+use Rattle.teco_pages.proofs.Prelude.{◌≡◌, ◌≤◌, [], Bool, length, take, Becomes, after_writing, Touches}
 use Rattle.teco_pages.proofs.write.write_all.Given as goal
 
 -- each turn writes a byte or more, from the front on; nothing has failed

@@ -1,4 +1,4 @@
-use Rattle.std.proofs.lemmas.Result.{err_from_is_err_and}
+use Rattle.teco_pages.proofs.Prelude.{err_from_is_err_and}
 use Rattle.teco_pages.proofs.Touching.{touches-more}
 use Rattle.teco_pages.proofs.Written.{front-more, both}
 use Rattle.teco_pages.proofs.write.write_both.Goals as goal

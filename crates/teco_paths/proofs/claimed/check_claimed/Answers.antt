@@ -1,8 +1,7 @@
-use Rattle.std.proofs.Common.{ap, ◌∙◌, option_map}
+use Rattle.teco_paths.proofs.Prelude.{ap, ◌∙◌, option_map, most_typed}
 use Rattle.teco_paths.proofs.Answered.{on_ok}
 use Rattle.teco_paths.proofs.Certain.{certain_as}
 use Rattle.teco_poly.specs.Polynomial.{value}
-use Rattle.teco_promise.specs.Promise.{most_typed}
 use Rattle.teco_paths.proofs.claimed.check_claimed.Goals as goal
 
 pub returns : goal.returns

@@ -1,6 +1,4 @@
-use Rattle.std.proofs.Common.{subst, option_map}
-use Rattle.std.specs.Prelude.{OnOk}
-use Rattle.teco_paths.specs.Sure.{IsCertain}
+use Rattle.teco_paths.proofs.Prelude.{subst, option_map, OnOk, IsCertain}
 use Rattle.teco_paths.proofs.claimed.check_prepared.Goals as goal
 
 pub returns : goal.returns

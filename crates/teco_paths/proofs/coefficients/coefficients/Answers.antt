@@ -1,4 +1,4 @@
-use Rattle.std.proofs.Common.{sym, ap, ◌∙◌, arith}
+use Rattle.teco_paths.proofs.Prelude.{sym, ap, ◌∙◌, arith}
 use Rattle.teco_poly.specs.Polynomial as poly
 use Rattle.teco_paths.proofs.Polynomials.{all_told, first_power, power_more, told_more, told_none}
 use Rattle.teco_paths.proofs.coefficients.coefficients.Goals as goal

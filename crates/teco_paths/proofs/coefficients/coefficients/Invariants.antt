@@ -1,4 +1,4 @@
-use Rattle.std.proofs.Common.{◌≡◌, ◌+◌, ◌^◌, ℕ, length}
+use Rattle.teco_paths.proofs.Prelude.{◌≡◌, ◌+◌, ◌^◌, ℕ, length}
 use Rattle.teco_poly.specs.Polynomial as poly
 use Rattle.teco_paths.proofs.coefficients.coefficients.Given as goal
 

@@ -1,4 +1,4 @@
-use Rattle.std.proofs.Common.{◌≡◌, ◌*◌, sym, ap, ◌∙◌}
+use Rattle.teco_paths.proofs.Prelude.{◌≡◌, ◌*◌, sym, ap, ◌∙◌}
 use Rattle.teco_poly.specs.Polynomial as poly
 use Rattle.teco_paths.proofs.Polynomials.{taken_away}
 use Rattle.teco_paths.proofs.coefficients.less.Goals as goal

@@ -1,5 +1,4 @@
-use Rattle.std.proofs.Common.{arith}
-use Rattle.std.proofs.lemmas.Int.{ints}
+use Rattle.teco_paths.proofs.Prelude.{arith, ints}
 use Rattle.teco_paths.proofs.Polynomials.{one_term_more}
 use Rattle.teco_paths.proofs.course.form_of.Goals as goal
 

@@ -1,6 +1,4 @@
-use Rattle.std.proofs.Common.{◌≡◌, ℕ, take}
-use Rattle.std.specs.Prelude.{pos}
-use Rattle.teco_linear.specs.Form.{Valuation, value}
+use Rattle.teco_paths.proofs.Prelude.{◌≡◌, ℕ, take, pos, Valuation, value}
 use Rattle.teco_poly.specs.Polynomial as poly
 use Rattle.teco_paths.proofs.course.form_of.Given as goal
 

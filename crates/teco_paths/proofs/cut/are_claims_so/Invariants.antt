@@ -1,8 +1,4 @@
-use Rattle.std.proofs.Common.{ℕ, ◌<◌, List, slice_index_or}
-use Rattle.std.specs.List.{All}
-use Rattle.teco_linear.specs.declared.term.Term.{Term}
-use Rattle.teco_linear.specs.Form.{Valuation, values}
-use Rattle.teco_linear.specs.Implied.{Holds}
+use Rattle.teco_paths.proofs.Prelude.{ℕ, ◌<◌, List, slice_index_or, All, Term, Valuation, values, Holds}
 use Rattle.teco_paths.proofs.cut.are_claims_so.Given as goal
 
 -- the claims before this one hold

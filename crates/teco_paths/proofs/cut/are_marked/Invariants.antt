@@ -1,5 +1,4 @@
-use Rattle.std.proofs.Common.{◌≡◌, ℕ, ◌<◌, None, false, slice_index_or}
-use Rattle.std.specs.Prelude.{is_some}
+use Rattle.teco_paths.proofs.Prelude.{◌≡◌, ℕ, ◌<◌, None, false, slice_index_or, is_some}
 use Rattle.teco_paths.proofs.cut.are_marked.Given as goal
 
 -- so are the places before this one

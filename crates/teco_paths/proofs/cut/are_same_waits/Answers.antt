@@ -1,4 +1,4 @@
-use Rattle.std.proofs.Common.{arith}
+use Rattle.teco_paths.proofs.Prelude.{arith}
 use Rattle.teco_paths.proofs.Lists.{same_lists}
 use Rattle.teco_paths.proofs.cut.are_same_waits.Goals as goal
 

@@ -1,4 +1,4 @@
-use Rattle.std.proofs.Common.{◌≡◌, ℕ, ◌<◌, Option, slice_index_or}
+use Rattle.teco_paths.proofs.Prelude.{◌≡◌, ℕ, ◌<◌, Option, slice_index_or}
 use Rattle.teco_model.specs.declared.arguments.Operator.{Operator}
 use Rattle.teco_paths.proofs.cut.are_same_waits.Given as goal
 

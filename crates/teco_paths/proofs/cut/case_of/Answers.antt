@@ -1,5 +1,4 @@
-use Rattle.std.proofs.Common.{subst}
-use Rattle.teco_paths.specs.Claims.{AreSymbols}
+use Rattle.teco_paths.proofs.Prelude.{subst, AreSymbols}
 use Rattle.teco_paths.proofs.Claiming.{case_holds, shaped}
 use Rattle.teco_paths.proofs.cut.case_of.Goals as goal
 

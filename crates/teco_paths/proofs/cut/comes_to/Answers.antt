@@ -1,9 +1,4 @@
-use Rattle.std.proofs.Common.{subst, ℕ}
-use Rattle.std.specs.Bool.{OnTrue}
-use Rattle.std.specs.List.{All}
-use Rattle.teco_linear.specs.Form.{Valuation, values}
-use Rattle.teco_linear.specs.Implied.{Holds}
-use Rattle.teco_paths.specs.Claims.{AreFilled, ArePresent, ComesTo}
+use Rattle.teco_paths.proofs.Prelude.{subst, ℕ, OnTrue, All, Valuation, values, Holds, AreFilled, ArePresent, ComesTo}
 use Rattle.teco_paths.proofs.Answered.{if_ok, on_true}
 use Rattle.teco_paths.proofs.Claiming.{comes}
 use Rattle.teco_paths.proofs.cut.comes_to.Goals as goal

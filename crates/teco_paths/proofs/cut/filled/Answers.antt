@@ -1,7 +1,4 @@
-use Rattle.std.proofs.Common.{sym, ap, ◌∙◌, None, slice_index_or}
-use Rattle.std.specs.Prelude.{pos, unwrap_or}
-use Rattle.teco_linear.specs.Form.{value}
-use Rattle.teco_rows.specs.Cases.{value_if}
+use Rattle.teco_paths.proofs.Prelude.{sym, ap, ◌∙◌, None, slice_index_or, pos, unwrap_or, value, value_if}
 use Rattle.teco_paths.proofs.Claiming.{filled_value}
 use Rattle.teco_paths.proofs.cut.filled.Goals as goal
 

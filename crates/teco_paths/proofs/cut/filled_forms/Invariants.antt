@@ -1,6 +1,4 @@
-use Rattle.std.proofs.Common.{◌≡◌, ℕ, ◌<◌, length, [], None, slice_index_or}
-use Rattle.teco_linear.specs.Form.{Valuation, value}
-use Rattle.teco_paths.specs.Claims.{filled_by}
+use Rattle.teco_paths.proofs.Prelude.{◌≡◌, ℕ, ◌<◌, length, [], None, slice_index_or, Valuation, value, filled_by}
 use Rattle.teco_paths.proofs.cut.filled_forms.Given as goal
 
 -- so are the forms before this one

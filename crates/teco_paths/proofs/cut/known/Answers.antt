@@ -1,6 +1,4 @@
-use Rattle.std.proofs.Common.{subst, sym}
-use Rattle.std.specs.List.{All}
-use Rattle.teco_linear.specs.Implied.{Holds}
+use Rattle.teco_paths.proofs.Prelude.{subst, sym, All, Holds}
 use Rattle.teco_paths.proofs.Claiming.{all_known}
 use Rattle.teco_paths.proofs.cut.known.Goals as goal
 

@@ -1,6 +1,5 @@
-use Rattle.std.proofs.Common.{◌≡◌, ℕ, ◌<◌, length, Some, None, false, slice_index_or, if◌then◌else◌}
-use Rattle.teco_linear.specs.Form.{Valuation}
-use Rattle.teco_rows.specs.Cases.{value_if}
+use Rattle.teco_paths.proofs.Prelude.{◌≡◌, ℕ, ◌<◌, length, Some, None, false, slice_index_or, if◌then◌else◌, Valuation}
+use Rattle.teco_paths.proofs.Prelude.{value_if}
 use Rattle.teco_paths.proofs.cut.symbols_of.Given as goal
 
 -- so do the places before this one

@@ -1,4 +1,4 @@
-use Rattle.teco_paths.specs.Entry.{IsEntryClaim}
+use Rattle.teco_paths.proofs.Prelude.{IsEntryClaim}
 use Rattle.teco_paths.proofs.Beginning.{least_length_claim, most_length_claim}
 use Rattle.teco_paths.proofs.Lists.{all_last}
 use Rattle.teco_paths.proofs.entry.add_length.Goals as goal

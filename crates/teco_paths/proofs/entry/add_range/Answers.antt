@@ -1,7 +1,4 @@
-use Rattle.std.proofs.Common.{◌∙◌, ap, Some, subst, sym}
-use Rattle.std.specs.Prelude.{pos, ◌-ℤ◌}
-use Rattle.std.specs.List.{All}
-use Rattle.teco_paths.specs.Entry.{IsEntryClaim}
+use Rattle.teco_paths.proofs.Prelude.{◌∙◌, ap, Some, subst, sym, pos, ◌-ℤ◌, All, IsEntryClaim}
 use Rattle.teco_paths.proofs.Beginning.{least_argument_claim, most_argument_claim}
 use Rattle.teco_paths.proofs.Lists.{all_last}
 use Rattle.teco_paths.proofs.entry.add_range.Goals as goal

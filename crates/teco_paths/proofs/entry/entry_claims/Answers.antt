@@ -1,6 +1,4 @@
-use Rattle.std.proofs.Common.{◌∙◌, ap}
-use Rattle.std.specs.Prelude.{pos, ◌-ℤ◌}
-use Rattle.teco_paths.specs.Entry.{IsEntryClaim}
+use Rattle.teco_paths.proofs.Prelude.{◌∙◌, ap, pos, ◌-ℤ◌, IsEntryClaim}
 use Rattle.teco_paths.proofs.Beginning.{least_steps_claim, most_steps_claim, most_held_claim}
 use Rattle.teco_paths.proofs.Beginning.{least_typed_claim, most_typed_claim}
 use Rattle.teco_paths.proofs.Lists.{all_last}

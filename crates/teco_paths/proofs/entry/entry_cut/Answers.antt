@@ -1,5 +1,4 @@
-use Rattle.std.proofs.Common.{[], ◌∷◌, ◌++◌, None, ap, ◌∙◌, refl, subst}
-use Rattle.teco_paths.specs.Entry.{AreThere}
+use Rattle.teco_paths.proofs.Prelude.{[], ◌∷◌, ◌++◌, None, ap, ◌∙◌, refl, subst, AreThere}
 use Rattle.teco_paths.proofs.Beginning.{is_entry_cut}
 use Rattle.teco_paths.proofs.entry.entry_cut.Goals as goal
 

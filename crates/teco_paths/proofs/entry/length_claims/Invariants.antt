@@ -1,7 +1,5 @@
-use Rattle.std.specs.List.{All}
+use Rattle.teco_paths.proofs.Prelude.{All, ArgumentRange, IsEntryClaim}
 use Rattle.std.specs.Prelude.{Option}
-use Rattle.teco_model.specs.Macros.{ArgumentRange}
-use Rattle.teco_paths.specs.Entry.{IsEntryClaim}
 use Rattle.teco_paths.proofs.entry.length_claims.Given as goal
 
 -- all hold at the entry

@@ -1,5 +1,4 @@
-use Rattle.std.proofs.Common.{arith}
-use Rattle.std.proofs.lemmas.Int.{ints}
+use Rattle.teco_paths.proofs.Prelude.{arith, ints}
 use Rattle.teco_paths.proofs.Beginning.{lengths_more}
 use Rattle.teco_paths.proofs.entry.most_in_all.Goals as goal
 

@@ -1,7 +1,4 @@
-use Rattle.std.proofs.Common.{◌≡◌, ℕ}
-use Rattle.std.specs.Prelude.{pos, ◌-ℤ◌}
-use Rattle.teco_linear.specs.Form.{Valuation, value}
-use Rattle.teco_paths.specs.Entry.{used_lengths}
+use Rattle.teco_paths.proofs.Prelude.{◌≡◌, ℕ, pos, ◌-ℤ◌, Valuation, value, used_lengths}
 use Rattle.teco_paths.proofs.entry.most_in_all.Given as goal
 
 -- the texts of the registers before this one are taken away

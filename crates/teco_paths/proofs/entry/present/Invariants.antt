@@ -1,6 +1,4 @@
-use Rattle.std.proofs.Common.{◌≡◌, ℕ, ◌<◌, length, false, slice_index_or}
-use Rattle.teco_paths.specs.Entry.{is_there}
-use Rattle.teco_paths.specs.Symbols.{measure_of}
+use Rattle.teco_paths.proofs.Prelude.{◌≡◌, ℕ, ◌<◌, length, false, slice_index_or, is_there, measure_of}
 use Rattle.teco_paths.proofs.entry.present.Given as goal
 
 -- so is each place before this one

@@ -1,4 +1,4 @@
-use Rattle.teco_paths.specs.Facts.{IsFact}
+use Rattle.teco_paths.proofs.Prelude.{IsFact}
 use Rattle.teco_paths.proofs.Always.{most_fact}
 use Rattle.teco_paths.proofs.Lists.{all_last}
 use Rattle.teco_paths.proofs.facts.add_most.Goals as goal

@@ -1,8 +1,4 @@
-use Rattle.std.proofs.Common.{None, get_or, arith}
-use Rattle.std.specs.Prelude.{pos}
-use Rattle.teco_linear.specs.declared.difference.Difference.{Difference}
-use Rattle.teco_paths.specs.declared.facts.TheConstants.{ORDER}
-use Rattle.teco_paths.specs.Facts.{IsFact}
+use Rattle.teco_paths.proofs.Prelude.{None, get_or, arith, pos, Difference, ORDER, IsFact}
 use Rattle.teco_paths.proofs.Always.{bound_fact, in_order}
 use Rattle.teco_paths.proofs.Lists.{all_last}
 use Rattle.teco_paths.proofs.facts.facts.Goals as goal

@@ -1,5 +1,4 @@
-use Rattle.std.specs.List.{All}
-use Rattle.teco_paths.specs.Facts.{IsFact}
+use Rattle.teco_paths.proofs.Prelude.{All, IsFact}
 use Rattle.teco_paths.proofs.facts.facts.Given as goal
 
 -- all are facts

@@ -1,5 +1,4 @@
-use Rattle.std.proofs.Common.{◌-◌, ◌/◌, arith}
-use Rattle.teco_paths.specs.declared.facts.TheConstants.{MOST_BELOW}
+use Rattle.teco_paths.proofs.Prelude.{◌-◌, ◌/◌, arith, MOST_BELOW}
 use Rattle.teco_paths.proofs.Always.{least_here, length_least, number_least, pushed_length_least, pushed_number_least}
 use Rattle.teco_paths.proofs.Always.{turns_least}
 use Rattle.teco_paths.proofs.facts.least_at.Goals as goal

@@ -1,6 +1,4 @@
-use Rattle.std.proofs.Common.{◌-◌, ◌/◌, arith}
-use Rattle.teco_base.specs.declared.TheConstants.{LIMIT}
-use Rattle.teco_paths.specs.declared.facts.TheConstants.{MOST_NUMBER}
+use Rattle.teco_paths.proofs.Prelude.{◌-◌, ◌/◌, arith, LIMIT, MOST_NUMBER}
 use Rattle.teco_paths.proofs.Always.{most_here, length_most, number_most, pushed_length_most, pushed_number_most}
 use Rattle.teco_paths.proofs.facts.most_at.Goals as goal
 

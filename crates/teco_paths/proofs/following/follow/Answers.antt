@@ -1,6 +1,4 @@
-use Rattle.std.proofs.Common.{subst, sym, arith}
-use Rattle.std.specs.List.{All}
-use Rattle.teco_paths.specs.Paths.{LeadsOn}
+use Rattle.teco_paths.proofs.Prelude.{subst, sym, arith, All, LeadsOn}
 use Rattle.teco_paths.proofs.Onward.{all_short, in_place}
 use Rattle.teco_paths.proofs.following.follow.Goals as goal
 

@@ -1,5 +1,4 @@
-use Rattle.std.specs.List.{All}
-use Rattle.teco_paths.specs.Paths.{LeadsOn}
+use Rattle.teco_paths.proofs.Prelude.{All, LeadsOn}
 use Rattle.teco_paths.proofs.following.follow.Given as goal
 
 -- where a run ends from the spots ahead, it ends from the first ones

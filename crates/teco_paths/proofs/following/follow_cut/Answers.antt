@@ -1,6 +1,4 @@
-use Rattle.std.proofs.Common.{subst}
-use Rattle.teco_paths.specs.Claims.{IsCaseOf}
-use Rattle.teco_paths.specs.Paths.{Course}
+use Rattle.teco_paths.proofs.Prelude.{subst, IsCaseOf, Course}
 use Rattle.teco_paths.proofs.Answered.{on_ok}
 use Rattle.teco_paths.proofs.Onward.{cut_followed}
 use Rattle.teco_paths.proofs.following.follow_cut.Goals as goal

@@ -1,5 +1,4 @@
-use Rattle.std.proofs.Common.{sym, ap, ◌∙◌, length, slice_index_or, arith}
-use Rattle.teco_paths.specs.Paths.{Course}
+use Rattle.teco_paths.proofs.Prelude.{sym, ap, ◌∙◌, length, slice_index_or, arith, Course}
 use Rattle.teco_paths.proofs.Onward.{followed_more}
 use Rattle.teco_paths.proofs.following.follow_cuts.Goals as goal
 

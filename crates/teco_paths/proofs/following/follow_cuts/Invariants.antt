@@ -1,6 +1,4 @@
-use Rattle.std.proofs.Common.{ℕ, ◌<◌, slice_index_or}
-use Rattle.teco_paths.specs.declared.cut.CutState.{CutState}
-use Rattle.teco_paths.specs.Paths.{IsFollowed}
+use Rattle.teco_paths.proofs.Prelude.{ℕ, ◌<◌, slice_index_or, CutState, IsFollowed}
 use Rattle.teco_paths.proofs.following.follow_cuts.Given as goal
 
 -- the cut points before this one are followed

@@ -1,6 +1,4 @@
-use Rattle.std.proofs.Common.{subst, arith}
-use Rattle.std.specs.Bool.{OnTrue}
-use Rattle.teco_paths.specs.Claims.{ComesTo}
+use Rattle.teco_paths.proofs.Prelude.{subst, arith, OnTrue, ComesTo}
 use Rattle.teco_paths.proofs.Answered.{on_true}
 use Rattle.teco_paths.proofs.Onward.{arrives}
 use Rattle.teco_paths.proofs.following.is_arrived.Goals as goal

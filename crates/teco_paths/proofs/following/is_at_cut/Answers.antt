@@ -1,6 +1,4 @@
-use Rattle.std.proofs.Common.{subst, sym, ap, ◌∙◌, length, slice_index_or, arith}
-use Rattle.std.specs.Bool.{OnTrue}
-use Rattle.teco_paths.specs.Paths.{Arrives, Course}
+use Rattle.teco_paths.proofs.Prelude.{subst, sym, ap, ◌∙◌, length, slice_index_or, arith, OnTrue, Arrives, Course}
 use Rattle.teco_paths.proofs.Onward.{cut_leads}
 use Rattle.teco_paths.proofs.following.is_at_cut.Goals as goal
 

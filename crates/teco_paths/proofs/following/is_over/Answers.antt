@@ -1,7 +1,4 @@
-use Rattle.std.proofs.Common.{subst, ap, length, arith}
-use Rattle.std.specs.Bool.{OnTrue}
-use Rattle.teco_paths.specs.Paths.{Course}
-use Rattle.teco_paths.specs.Steps.{IsInTime, IsSmall}
+use Rattle.teco_paths.proofs.Prelude.{subst, ap, length, arith, OnTrue, Course, IsInTime, IsSmall}
 use Rattle.teco_paths.proofs.Answered.{on_true}
 use Rattle.teco_paths.proofs.Onward.{over_leads}
 use Rattle.teco_paths.proofs.following.is_over.Goals as goal

@@ -1,5 +1,4 @@
-use Rattle.std.specs.List.{All}
-use Rattle.teco_paths.specs.Paths.{LeadsOn}
+use Rattle.teco_paths.proofs.Prelude.{All, LeadsOn}
 use Rattle.teco_paths.proofs.Answered.{if_ok}
 use Rattle.teco_paths.proofs.Onward.{sharper_leads}
 use Rattle.teco_paths.proofs.following.onward.Goals as goal

@@ -1,5 +1,4 @@
-use Rattle.std.specs.List.{All}
-use Rattle.teco_paths.specs.Paths.{Leads, LeadsOn}
+use Rattle.teco_paths.proofs.Prelude.{All, Leads, LeadsOn}
 use Rattle.teco_paths.proofs.Answered.{if_ok}
 use Rattle.teco_paths.proofs.Onward.{leads_at_once}
 use Rattle.teco_paths.proofs.following.spots_ahead.Goals as goal

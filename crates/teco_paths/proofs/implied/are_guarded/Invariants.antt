@@ -1,6 +1,4 @@
-use Rattle.std.proofs.Common.{ℕ, ◌<◌, slice_index_or}
-use Rattle.teco_paths.specs.Steps.{IsKept}
-use Rattle.teco_rows.specs.declared.outcomes.Guarded.{Guarded}
+use Rattle.teco_paths.proofs.Prelude.{ℕ, ◌<◌, slice_index_or, IsKept, Guarded}
 use Rattle.teco_paths.proofs.implied.are_guarded.Given as goal
 
 -- those before this one are

@@ -1,6 +1,4 @@
-use Rattle.std.proofs.Common.{ℕ, ◌<◌, List, slice_index_or}
-use Rattle.teco_linear.specs.declared.term.Term.{Term}
-use Rattle.teco_linear.specs.Implied.{Implies}
+use Rattle.teco_paths.proofs.Prelude.{ℕ, ◌<◌, List, slice_index_or, Term, Implies}
 use Rattle.teco_paths.proofs.implied.are_so.Given as goal
 
 -- those before this one are

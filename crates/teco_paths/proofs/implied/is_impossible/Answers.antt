@@ -1,13 +1,7 @@
-use Rattle.std.proofs.Common.{◌≡◌, arith, Bool, true, false, Result, Ok, Err, IfOk}
-use Rattle.std.specs.Prelude.{pos, negsuc, ◌≤ℤ◌, ℕ, List}
-use Rattle.std.proofs.lemmas.Int.{ints}
-use Rattle.std.specs.Bool.{OnTrue}
-use Rattle.teco_linear.specs.declared.term.Term.{Term}
-use Rattle.teco_linear.specs.Form.{Valuation, value}
-use Rattle.teco_linear.specs.Implied.{Implies}
-use Rattle.teco_rows.specs.declared.case.Case.{Case}
+use Rattle.teco_paths.proofs.Prelude.{◌≡◌, arith, Bool, true, false, Result, Ok, Err, IfOk, pos, negsuc, ◌≤ℤ◌, ints}
+use Rattle.teco_paths.proofs.Prelude.{OnTrue, Term, Valuation, value, Implies, Case, IsImpossible}
+use Rattle.std.specs.Prelude.{ℕ, List}
 use Rattle.teco_paths.specs.declared.fault.PathFault.{PathFault}
-use Rattle.teco_paths.specs.Steps.{IsImpossible}
 use Rattle.teco_paths.proofs.implied.is_impossible.Goals as goal
 
 below : (form : List Term) → ((n : ℕ) (v : Valuation) → value form n v ≡ negsuc 0) → (case : Case)

@@ -1,6 +1,4 @@
-use Rattle.std.proofs.Common.{subst, sym}
-use Rattle.std.specs.List.{All}
-use Rattle.teco_linear.specs.Implied.{Holds}
+use Rattle.teco_paths.proofs.Prelude.{subst, sym, All, Holds}
 use Rattle.teco_paths.proofs.Lists.{all_where_true}
 use Rattle.teco_paths.proofs.light.lighter.Goals as goal
 

@@ -1,7 +1,4 @@
-use Rattle.std.proofs.Common.{◌≤◌, ◌∙◌, length, subst, sym, Some}
-use Rattle.teco_model.specs.Element.{seen}
-use Rattle.teco_paths.specs.Paths.{Course}
-use Rattle.teco_paths.specs.Steps.{IsRead, LawAt}
+use Rattle.teco_paths.proofs.Prelude.{◌≤◌, ◌∙◌, length, subst, sym, Some, seen, Course, IsRead, LawAt}
 use Rattle.teco_paths.proofs.Lawful.{law_at_long_search}
 use Rattle.teco_paths.proofs.outcomes.long_search_at.Goals as goal
 

@@ -1,7 +1,4 @@
-use Rattle.std.proofs.Common.{subst}
-use Rattle.teco_model.specs.Element.{seen}
-use Rattle.teco_paths.specs.Paths.{Course}
-use Rattle.teco_paths.specs.Steps.{IsMet}
+use Rattle.teco_paths.proofs.Prelude.{subst, seen, Course, IsMet}
 use Rattle.teco_paths.proofs.Lawful.{law_at_page}
 use Rattle.teco_paths.proofs.outcomes.page_at.Goals as goal
 

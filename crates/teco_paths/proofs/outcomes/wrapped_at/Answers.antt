@@ -1,4 +1,4 @@
-use Rattle.teco_model.specs.Element.{seen}
+use Rattle.teco_paths.proofs.Prelude.{seen}
 use Rattle.teco_paths.proofs.Lawful.{law_at_element}
 use Rattle.teco_paths.proofs.outcomes.wrapped_at.Goals as goal
 

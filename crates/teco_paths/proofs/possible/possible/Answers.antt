@@ -1,6 +1,4 @@
-use Rattle.std.proofs.Common.{subst, arith}
-use Rattle.std.specs.Bool.{OnTrue}
-use Rattle.teco_paths.specs.Steps.{AreSifted, IsImpossible}
+use Rattle.teco_paths.proofs.Prelude.{subst, arith, OnTrue, AreSifted, IsImpossible}
 use Rattle.teco_paths.proofs.Sifting.{one_found, one_less, sifted_last}
 use Rattle.teco_paths.proofs.possible.possible.Goals as goal
 use Rattle.teco_paths.proofs.possible.possible.Goals.{then-not-is_none+in_ok-push, else-not-is_none}

@@ -1,4 +1,4 @@
-use Rattle.teco_paths.specs.Steps.{AreSifted}
+use Rattle.teco_paths.proofs.Prelude.{AreSifted}
 use Rattle.teco_paths.proofs.possible.possible.Given as goal
 
 -- a state as which one of the cases is, is as one that is left or one that was found

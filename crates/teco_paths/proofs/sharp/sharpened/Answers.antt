@@ -1,7 +1,4 @@
-use Rattle.std.proofs.Common.{subst}
-use Rattle.std.specs.Bool.{OnTrue}
-use Rattle.teco_linear.specs.Implied.{Implies}
-use Rattle.teco_paths.specs.Steps.{IsSharper, IsWith}
+use Rattle.teco_paths.proofs.Prelude.{subst, OnTrue, Implies, IsSharper, IsWith}
 use Rattle.teco_paths.proofs.Answered.{if_ok}
 use Rattle.teco_paths.proofs.Sharpening.{sharper}
 use Rattle.teco_paths.proofs.sharp.sharpened.Goals as goal

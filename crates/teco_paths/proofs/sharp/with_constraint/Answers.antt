@@ -1,4 +1,4 @@
-use Rattle.teco_linear.specs.Implied.{Holds}
+use Rattle.teco_paths.proofs.Prelude.{Holds}
 use Rattle.teco_paths.proofs.Lists.{all_last}
 use Rattle.teco_paths.proofs.sharp.with_constraint.Goals as goal
 

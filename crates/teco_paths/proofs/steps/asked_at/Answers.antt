@@ -1,6 +1,4 @@
-use Rattle.std.proofs.Common.{subst}
-use Rattle.std.specs.Bool.{OnTrue}
-use Rattle.teco_paths.specs.Steps.{AreMet}
+use Rattle.teco_paths.proofs.Prelude.{subst, OnTrue, AreMet}
 use Rattle.teco_paths.proofs.steps.asked_at.Goals as goal
 
 pub returns-then-is_asked : goal.returns-then-is_asked

@@ -1,8 +1,4 @@
-use Rattle.std.proofs.Common.{subst}
-use Rattle.std.specs.Bool.{OnTrue}
-use Rattle.std.specs.List.{All}
-use Rattle.teco_paths.specs.Paths.{Leads, LeadsOn}
-use Rattle.teco_paths.specs.Steps.{GoOn, IsSmall}
+use Rattle.teco_paths.proofs.Prelude.{subst, OnTrue, All, Leads, LeadsOn, GoOn, IsSmall}
 use Rattle.teco_paths.proofs.Answered.{if_ok}
 use Rattle.teco_paths.proofs.Onward.{leads_by}
 use Rattle.teco_paths.proofs.steps.behind.Goals as goal

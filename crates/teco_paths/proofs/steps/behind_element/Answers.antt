@@ -1,7 +1,4 @@
-use Rattle.std.proofs.Common.{subst}
-use Rattle.teco_model.specs.Element.{seen}
-use Rattle.teco_paths.specs.Paths.{Course}
-use Rattle.teco_paths.specs.Steps.{AreSpots, GoOn, IsPlain}
+use Rattle.teco_paths.proofs.Prelude.{subst, seen, Course, AreSpots, GoOn, IsPlain}
 use Rattle.teco_paths.proofs.Answered.{if_ok}
 use Rattle.teco_paths.proofs.Stepping.{go_on_element}
 use Rattle.teco_paths.proofs.steps.behind_element.Goals as goal

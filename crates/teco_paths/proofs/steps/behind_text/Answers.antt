@@ -1,11 +1,7 @@
-use Rattle.std.proofs.Common.{◌≡◌, subst, sym, arith, Some}
-use Rattle.std.specs.Bool.{OnTrue}
-use Rattle.teco_paths.specs.Paths.{Course}
-use Rattle.teco_paths.specs.Steps.{AreMet, AreSpots, GoOn}
+use Rattle.teco_paths.proofs.Prelude.{◌≡◌, subst, sym, arith, Some, OnTrue, Course, AreMet, AreSpots, GoOn, numbered}
 use Rattle.teco_paths.proofs.Answered.{if_ok}
 use Rattle.teco_paths.proofs.Stepping.{go_on_text}
 use Rattle.teco_paths.proofs.steps.behind_text.Goals as goal
-use Rattle.teco_verifier.specs.expansion.Node.{numbered}
 
 pub returns : goal.returns
 returns c =

@@ -1,9 +1,4 @@
-use Rattle.std.proofs.Common.{subst}
-use Rattle.std.specs.Bool.{OnTrue}
-use Rattle.teco_linear.specs.Implied.{Implies}
-use Rattle.teco_rows.specs.States.{Point}
-use Rattle.teco_paths.specs.Paths.{Course}
-use Rattle.teco_paths.specs.Steps.{IsInTime}
+use Rattle.teco_paths.proofs.Prelude.{subst, OnTrue, Implies, Point, Course, IsInTime}
 use Rattle.teco_poly.specs.Polynomial.{value}
 use Rattle.teco_paths.proofs.Answered.{if_ok, on_true}
 use Rattle.teco_paths.proofs.Claiming.{bounded}

@@ -1,9 +1,4 @@
-use Rattle.std.proofs.Common.{◌+◌, length, subst}
-use Rattle.std.specs.Bool.{OnTrue}
-use Rattle.teco_linear.specs.Implied.{Implies}
-use Rattle.teco_rows.specs.States.{Point}
-use Rattle.teco_paths.specs.Paths.{Course}
-use Rattle.teco_paths.specs.Steps.{IsSmall}
+use Rattle.teco_paths.proofs.Prelude.{◌+◌, length, subst, OnTrue, Implies, Point, Course, IsSmall}
 use Rattle.teco_poly.specs.Polynomial.{value}
 use Rattle.teco_paths.proofs.Answered.{if_ok, on_true}
 use Rattle.teco_paths.proofs.Claiming.{bounded}

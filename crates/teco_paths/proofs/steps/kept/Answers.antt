@@ -1,5 +1,4 @@
-use Rattle.std.proofs.Common.{subst, arith}
-use Rattle.teco_paths.specs.Steps.{AreLeft}
+use Rattle.teco_paths.proofs.Prelude.{subst, arith, AreLeft}
 use Rattle.teco_paths.proofs.Keeping.{left_none, one_kept}
 use Rattle.teco_paths.proofs.steps.kept.Goals as goal
 

@@ -1,4 +1,4 @@
-use Rattle.teco_paths.specs.Steps.{AreLeft}
+use Rattle.teco_paths.proofs.Prelude.{AreLeft}
 use Rattle.teco_paths.proofs.steps.kept.Given as goal
 
 -- one of the cases that are left, or one of the spots

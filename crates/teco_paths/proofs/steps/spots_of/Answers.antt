@@ -1,5 +1,4 @@
-use Rattle.std.proofs.Common.{◌≡◌, ◌++◌}
-use Rattle.teco_paths.specs.Steps.{AreSpots}
+use Rattle.teco_paths.proofs.Prelude.{◌≡◌, ◌++◌, AreSpots}
 use Rattle.teco_paths.proofs.Answered.{if_ok}
 use Rattle.teco_paths.proofs.Keeping.{spots_both}
 use Rattle.teco_paths.proofs.steps.spots_of.Goals as goal

@@ -1,8 +1,4 @@
-use Rattle.std.proofs.Common.{sym, ap, ◌∙◌, option_map}
-use Rattle.std.specs.Bool.{OnTrue}
-use Rattle.teco_linear.specs.Implied.{Implies}
-use Rattle.teco_paths.specs.Paths.{Course}
-use Rattle.teco_paths.specs.Steps.{TypesNoMore}
+use Rattle.teco_paths.proofs.Prelude.{sym, ap, ◌∙◌, option_map, OnTrue, Implies, Course, TypesNoMore}
 use Rattle.teco_paths.proofs.Answered.{if_ok, on_true}
 use Rattle.teco_paths.proofs.Claiming.{types_within}
 use Rattle.teco_paths.proofs.steps.types_no_more.Goals as goal

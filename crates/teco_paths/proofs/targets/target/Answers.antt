@@ -1,4 +1,4 @@
-use Rattle.std.proofs.Common.{arith}
+use Rattle.teco_paths.proofs.Prelude.{arith}
 use Rattle.teco_paths.proofs.Leading.{first_target, one_target, open_target, second_target}
 use Rattle.teco_paths.proofs.targets.target.Goals as goal
 

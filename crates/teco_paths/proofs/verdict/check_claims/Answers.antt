@@ -1,7 +1,4 @@
-use Rattle.std.proofs.Common.{subst}
-use Rattle.teco_paths.specs.Claims.{IsCaseOf}
-use Rattle.teco_paths.specs.Entry.{IsEntryCut}
-use Rattle.teco_paths.specs.Paths.{Course}
+use Rattle.teco_paths.proofs.Prelude.{subst, IsCaseOf, IsEntryCut, Course}
 use Rattle.teco_paths.proofs.Answered.{on_ok}
 use Rattle.teco_paths.proofs.Certain.{certain}
 use Rattle.teco_paths.proofs.verdict.check_claims.Goals as goal

@@ -1,4 +1,4 @@
-use Rattle.std.proofs.Common.{arith, ◌∙◌}
+use Rattle.teco_poly.proofs.Prelude.{arith, ◌∙◌}
 use Rattle.teco_poly.proofs.Arrays.{all_filled, differences_filled, differences_refused}
 use Rattle.teco_poly.proofs.coefficients.difference.Goals as goal
 

@@ -1,4 +1,4 @@
-use Rattle.std.proofs.Common.{ℕ, ◌-◌, ◌<◌, ◌≤◌, get_or}
+use Rattle.teco_poly.proofs.Prelude.{ℕ, ◌-◌, ◌<◌, ◌≤◌, get_or}
 use Rattle.teco_poly.proofs.Arrays.{IsFilled}
 use Rattle.teco_poly.proofs.coefficients.difference.Given as goal
 

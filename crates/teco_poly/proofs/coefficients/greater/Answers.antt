@@ -1,4 +1,4 @@
-use Rattle.std.proofs.Common.{arith}
+use Rattle.teco_poly.proofs.Prelude.{arith}
 use Rattle.teco_poly.proofs.Arrays.{all_filled, greater_filled}
 use Rattle.teco_poly.proofs.coefficients.greater.Goals as goal
 

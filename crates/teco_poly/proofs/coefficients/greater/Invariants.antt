@@ -1,4 +1,4 @@
-use Rattle.std.proofs.Common.{max, get_or}
+use Rattle.teco_poly.proofs.Prelude.{max, get_or}
 use Rattle.teco_poly.proofs.Arrays.{IsFilled}
 use Rattle.teco_poly.proofs.coefficients.greater.Given as goal
 

@@ -1,4 +1,4 @@
-use Rattle.std.proofs.Common.{arith}
+use Rattle.teco_poly.proofs.Prelude.{arith}
 use Rattle.teco_poly.proofs.Arrays.{none_above, one_above}
 use Rattle.teco_poly.proofs.coefficients.is_at_most.Goals as goal
 

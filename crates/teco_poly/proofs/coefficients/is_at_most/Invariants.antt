@@ -1,4 +1,4 @@
-use Rattle.std.proofs.Common.{ℕ, ◌<◌, ◌≤◌, get_or}
+use Rattle.teco_poly.proofs.Prelude.{ℕ, ◌<◌, ◌≤◌, get_or}
 use Rattle.teco_poly.proofs.coefficients.is_at_most.Given as goal
 
 -- no place before this power refuses

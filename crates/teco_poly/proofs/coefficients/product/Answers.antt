@@ -1,5 +1,4 @@
-use Rattle.std.proofs.Common.{arith, ap, ◌-◌, ◌∙◌}
-use Rattle.teco_poly.specs.Polynomial.{product, fitted}
+use Rattle.teco_poly.proofs.Prelude.{arith, ap, ◌-◌, ◌∙◌, product, fitted}
 use Rattle.teco_poly.proofs.Products.{product_begun, product_more, product_unfit, all_left}
 use Rattle.teco_poly.proofs.coefficients.product.Goals as goal
 

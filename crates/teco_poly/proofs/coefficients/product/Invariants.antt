@@ -1,5 +1,4 @@
-use Rattle.std.proofs.Common.{◌≡◌, drop, Some}
-use Rattle.teco_poly.specs.Polynomial.{product, fitted}
+use Rattle.teco_poly.proofs.Prelude.{◌≡◌, drop, Some, product, fitted}
 use Rattle.teco_poly.proofs.coefficients.product.Given as goal
 
 -- the product of the part of the left side from this power on

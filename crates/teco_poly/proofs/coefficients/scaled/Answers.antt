@@ -1,4 +1,4 @@
-use Rattle.std.proofs.Common.{arith, ◌∙◌}
+use Rattle.teco_poly.proofs.Prelude.{arith, ◌∙◌}
 use Rattle.teco_poly.proofs.Arrays.{all_filled, products_filled, products_unfit}
 use Rattle.teco_poly.proofs.coefficients.scaled.Goals as goal
 

@@ -1,4 +1,4 @@
-use Rattle.std.proofs.Common.{◌*◌, get_or}
+use Rattle.teco_poly.proofs.Prelude.{◌*◌, get_or}
 use Rattle.teco_poly.proofs.Arrays.{IsFilled}
 use Rattle.teco_poly.proofs.coefficients.scaled.Given as goal
 

@@ -1,5 +1,4 @@
-use Rattle.std.proofs.Common.{arith, ap, ◌-◌, ◌∙◌}
-use Rattle.teco_poly.specs.Polynomial.{value}
+use Rattle.teco_poly.proofs.Prelude.{arith, ap, ◌-◌, ◌∙◌, value}
 use Rattle.teco_poly.proofs.Products.{value_begun, value_more, product_too_large, sum_too_large, at_some, all_left}
 use Rattle.teco_poly.proofs.coefficients.value.Goals as goal
 

@@ -1,5 +1,4 @@
-use Rattle.std.proofs.Common.{◌≡◌, ◌^◌, ◌<◌, drop}
-use Rattle.teco_poly.specs.Polynomial.{value}
+use Rattle.teco_poly.proofs.Prelude.{◌≡◌, ◌^◌, ◌<◌, drop, value}
 use Rattle.teco_poly.proofs.coefficients.value.Given as goal
 
 -- the value of the coefficients from this power on

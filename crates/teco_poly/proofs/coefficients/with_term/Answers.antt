@@ -1,4 +1,4 @@
-use Rattle.std.proofs.Common.{◌∙◌}
+use Rattle.teco_poly.proofs.Prelude.{◌∙◌}
 use Rattle.teco_poly.proofs.Products.{scaled_unfit, raised_unfit, summed}
 use Rattle.teco_poly.proofs.coefficients.with_term.Goals as goal
 

@@ -1,4 +1,4 @@
-use Rattle.std.proofs.Common.{arith, ◌+◌}
+use Rattle.teco_poly.proofs.Prelude.{arith, ◌+◌}
 use Rattle.teco_poly.proofs.Spelling.{next_refused, next_read}
 use Rattle.teco_poly.proofs.text.+read_from.Goals as goal
 

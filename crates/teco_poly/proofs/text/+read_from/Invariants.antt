@@ -1,4 +1,4 @@
-use Rattle.std.proofs.Common.{◌-◌}
+use Rattle.teco_poly.proofs.Prelude.{◌-◌}
 use Rattle.teco_poly.proofs.text.+read_from.Given as goal
 
 -- the powers that are left

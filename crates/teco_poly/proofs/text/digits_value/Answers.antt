@@ -1,4 +1,4 @@
-use Rattle.std.proofs.Common.{arith}
+use Rattle.teco_poly.proofs.Prelude.{arith}
 use Rattle.teco_poly.proofs.Digits.{product_larger, sum_larger, read_all, digit_bounds}
 use Rattle.teco_poly.proofs.text.digits_value.Goals as goal
 

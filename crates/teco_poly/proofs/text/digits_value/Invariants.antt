@@ -1,4 +1,4 @@
-use Rattle.std.proofs.Common.{◌≡◌, ◌^◌, ◌<◌, drop}
+use Rattle.teco_poly.proofs.Prelude.{◌≡◌, ◌^◌, ◌<◌, drop}
 use Rattle.teco_poly.proofs.Digits.{read_on}
 use Rattle.teco_poly.proofs.text.digits_value.Given as goal
 

@@ -1,5 +1,4 @@
-use Rattle.std.proofs.Common.{◌≡◌, true, false, refl, sym, ◌∙◌}
-use Rattle.std.proofs.lemmas.Bool.Decides.{Decides-eqb}
+use Rattle.teco_poly.proofs.Prelude.{◌≡◌, true, false, refl, sym, ◌∙◌, Decides-eqb}
 use Rattle.teco_poly.proofs.Digits.{none_empty, none_padded, none_larger, number_found, some_digits}
 use Rattle.teco_poly.proofs.text.number.Goals as goal
 use Rattle.teco_poly.proofs.text.number.Goals.{then-is_empty-via-then-is_empty}

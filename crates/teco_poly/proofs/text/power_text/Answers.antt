@@ -1,4 +1,4 @@
-use Rattle.std.proofs.Common.{arith, lit<}
+use Rattle.teco_poly.proofs.Prelude.{arith, lit<}
 use Rattle.teco_poly.proofs.Powers.{power_is}
 use Rattle.teco_poly.proofs.text.power_text.Goals as goal
 

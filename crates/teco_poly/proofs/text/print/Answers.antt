@@ -1,9 +1,6 @@
-use Rattle.std.proofs.Common.{◌≡◌, ◌+◌, ◌++◌, length, get_or, drop, arith, sym, ap, ◌∙◌}
-use Rattle.std.proofs.lemmas.Bool.{eqb-false}
-use Rattle.std.proofs.lemmas.Bool.Decides.{Decides-eqb}
-use Rattle.std.proofs.lemmas.List.{drop_more}
-use Rattle.std.specs.String.{string_bytes, string_len}
-use Rattle.teco_poly.specs.Text.{terms_from, joined, lead_behind}
+use Rattle.teco_poly.proofs.Prelude.{◌≡◌, ◌+◌, ◌++◌, length, get_or, drop, arith, sym, ap, ◌∙◌, eqb-false, Decides-eqb}
+use Rattle.teco_poly.proofs.Prelude.{drop_more, string_bytes, terms_from, joined, lead_behind}
+use Rattle.std.specs.String.{string_len}
 use Rattle.teco_poly.proofs.Spelling.{written_more, all_written, printed_zero, printed_terms, small_by}
 use Rattle.teco_poly.proofs.text.print.Goals as goal
 use Rattle.teco_poly.proofs.text.print.Goals.{then-is_empty+in_ok-push_str, else-is_empty}

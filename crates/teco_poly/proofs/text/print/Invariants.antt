@@ -1,6 +1,4 @@
-use Rattle.std.proofs.Common.{◌≡◌, [], ◌++◌, drop}
-use Rattle.std.specs.String.{string_bytes}
-use Rattle.teco_poly.specs.Text.{terms_from, joined, lead_behind}
+use Rattle.teco_poly.proofs.Prelude.{◌≡◌, [], ◌++◌, drop, string_bytes, terms_from, joined, lead_behind}
 use Rattle.teco_poly.proofs.text.print.Given as goal
 
 -- what is written and the terms that are left are all the terms

@@ -1,5 +1,4 @@
-use Rattle.std.proofs.Common.{sym}
-use Rattle.std.proofs.lemmas.Bool.Decides.{Decides-eqb}
+use Rattle.teco_poly.proofs.Prelude.{sym, Decides-eqb}
 use Rattle.teco_poly.proofs.Spelling.{spelled_some}
 use Rattle.teco_poly.proofs.text.read.Goals as goal
 

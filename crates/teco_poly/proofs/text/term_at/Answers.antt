@@ -1,4 +1,4 @@
-use Rattle.std.proofs.Common.{◌≡◌, ◌<◌, true, false, ◌∙◌, refl, arith}
+use Rattle.teco_poly.proofs.Prelude.{◌≡◌, ◌<◌, true, false, ◌∙◌, refl, arith}
 use Rattle.teco_poly.proofs.Terms.{power_refused, power_stripped, term_refused, term_read}
 use Rattle.teco_poly.proofs.text.term_at.Goals as goal
 use Rattle.teco_poly.proofs.text.term_at.Goals.{then-coefficient-eq0-via-then-coefficient-eq0}

@@ -1,9 +1,6 @@
-use Rattle.std.proofs.Common.{◌≡◌, refl, sym, ap, subst, ◌∙◌, None, slice_index_or, rules, take}
-use Rattle.std.specs.List.{All}
-use Rattle.std.proofs.lemmas.List.{take_all}
-use Rattle.teco_rows.specs.declared.applied.Draft.{Draft}
+use Rattle.teco_rows.proofs.Prelude.{◌≡◌, refl, sym, ap, subst, ◌∙◌, None, slice_index_or, rules, take, All, take_all}
+use Rattle.teco_rows.proofs.Prelude.{Draft, Adds, IsAbout, IsWhole, value_if}
 use Rattle.teco_linear.specs.Implied.{Holds}
-use Rattle.teco_rows.specs.Cases.{Adds, IsAbout, IsWhole, value_if}
 use Rattle.teco_rows.proofs.Applying.{adds_more, carried_at}
 use Rattle.teco_rows.proofs.applied.applied.Goals as goal
 

@@ -1,5 +1,4 @@
-use Rattle.std.proofs.Common.{take}
-use Rattle.teco_rows.specs.Cases.{Adds}
+use Rattle.teco_rows.proofs.Prelude.{take, Adds}
 use Rattle.teco_rows.proofs.applied.applied.Given as goal
 
 -- what the clauses before this one make is there

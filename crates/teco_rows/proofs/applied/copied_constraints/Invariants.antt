@@ -1,6 +1,4 @@
-use Rattle.std.proofs.Common.{ℕ}
-use Rattle.std.specs.List.{All}
-use Rattle.teco_linear.specs.Form.{Valuation}
+use Rattle.teco_rows.proofs.Prelude.{ℕ, All, Valuation}
 use Rattle.teco_linear.specs.Implied.{Holds}
 use Rattle.teco_rows.proofs.applied.copied_constraints.Given as goal
 

@@ -1,7 +1,5 @@
-use Rattle.std.proofs.Common.{◌≡◌, refl, sym, ap, ◌∙◌, arith, to_z, of_z, w64}
-use Rattle.std.proofs.lemmas.Grind.{common_steps}
-use Rattle.std.proofs.lemmas.Int.{to_z-of_z}
-use Rattle.teco_rows.specs.Measures.{place}
+use Rattle.teco_rows.proofs.Prelude.{◌≡◌, refl, sym, ap, ◌∙◌, arith, to_z, of_z, common_steps, to_z-of_z, place}
+use Rattle.std.proofs.Common.{w64}
 use Rattle.teco_rows.proofs.Following.{adds_set, adds_drop}
 use Rattle.teco_rows.proofs.applied.follow.Goals as goal
 

@@ -1,4 +1,4 @@
-use Rattle.std.proofs.Common.{◌≡◌, ℕ, ◌+◌, ◌-◌, None, slice_index_or, length}
+use Rattle.teco_rows.proofs.Prelude.{◌≡◌, ℕ, ◌+◌, ◌-◌, None, slice_index_or, length}
 use Rattle.teco_rows.proofs.applied.reach.Given as goal
 
 -- what stands in each place is as before

@@ -1,10 +1,6 @@
-use Rattle.std.proofs.Common.{◌≡◌, ◌*ℤ◌, get_or, to_z, of_z, arith}
+use Rattle.teco_rows.proofs.Prelude.{◌≡◌, ◌*ℤ◌, get_or, to_z, of_z, arith, common_steps, ints, to_z-of_z, value, weight}
+use Rattle.teco_rows.proofs.Prelude.{read_by}
 use mir.Syntax.{w128}
-use Rattle.std.proofs.lemmas.Grind.{common_steps}
-use Rattle.std.proofs.lemmas.Int.{ints, to_z-of_z}
-use Rattle.teco_linear.specs.Form.{value}
-use Rattle.teco_rows.specs.Rows.{weight}
-use Rattle.teco_rows.specs.Cases.{read_by}
 use Rattle.teco_rows.proofs.Sums.{no_part, sum_of-drop, product_is}
 use Rattle.teco_rows.proofs.applied.sum.Goals as goal
 

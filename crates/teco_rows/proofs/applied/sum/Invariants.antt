@@ -1,7 +1,4 @@
-use Rattle.std.proofs.Common.{◌≡◌, ℕ, ◌+ℤ◌, drop}
-use Rattle.teco_linear.specs.Form.{Valuation, value}
-use Rattle.teco_rows.specs.Rows.{sum_of, total}
-use Rattle.teco_rows.specs.Cases.{read_by}
+use Rattle.teco_rows.proofs.Prelude.{◌≡◌, ℕ, ◌+ℤ◌, drop, Valuation, value, sum_of, total, read_by}
 use Rattle.teco_rows.proofs.applied.sum.Given as goal
 
 -- what is added so far and the rest are the whole

@@ -1,6 +1,4 @@
-use Rattle.std.proofs.Common.{rules}
-use Rattle.std.proofs.lemmas.Result.{IfOk-weaker}
-use Rattle.teco_rows.specs.Commands.{row_of}
+use Rattle.teco_rows.proofs.Prelude.{rules, IfOk-weaker, row_of}
 use Rattle.teco_rows.proofs.Commanding.{is_commanded}
 use Rattle.teco_rows.proofs.commands.command.Goals as goal
 

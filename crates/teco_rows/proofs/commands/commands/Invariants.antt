@@ -1,5 +1,4 @@
-use Rattle.std.proofs.Common.{take}
-use Rattle.teco_rows.specs.Commands.{AreCommanded}
+use Rattle.teco_rows.proofs.Prelude.{take, AreCommanded}
 use Rattle.teco_rows.proofs.commands.commands.Given as goal
 
 -- the ways before this one are gone

@@ -1,7 +1,4 @@
-use Rattle.std.proofs.Common.{◌≡◌, sym, ap, ◌∙◌, None, arith}
-use Rattle.std.proofs.lemmas.Grind.{common_steps}
-use Rattle.std.proofs.lemmas.Result.{IfOk-weaker}
-use Rattle.teco_rows.specs.Cases.{value_if}
+use Rattle.teco_rows.proofs.Prelude.{◌≡◌, sym, ap, ◌∙◌, None, arith, common_steps, IfOk-weaker, value_if}
 use Rattle.teco_rows.proofs.Pending.{value_there}
 use Rattle.teco_rows.proofs.Commanding.{final_alone, final_signed}
 use Rattle.teco_rows.proofs.commands.final_value.Goals as goal

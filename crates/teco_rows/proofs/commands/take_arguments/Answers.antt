@@ -1,5 +1,4 @@
-use Rattle.std.proofs.Common.{◌≡◌, sym, ◌∙◌, arith, false, ◌&&◌, is_some, is_none}
-use Rattle.std.proofs.lemmas.Grind.{common_steps}
+use Rattle.teco_rows.proofs.Prelude.{◌≡◌, sym, ◌∙◌, arith, false, ◌&&◌, is_some, is_none, common_steps}
 use Rattle.teco_rows.proofs.Pending.{first_there}
 use Rattle.teco_rows.proofs.Commanding.{taken_is, not_alone}
 use Rattle.teco_rows.proofs.commands.take_arguments.Goals as goal

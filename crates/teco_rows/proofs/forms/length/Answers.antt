@@ -1,10 +1,6 @@
-use Rattle.std.proofs.Common.{◌≡◌, ◌<◌, Some, length, pos, slice_get, sym, ap, ◌∙◌, arith}
-use Rattle.std.proofs.lemmas.Grind.{common_steps}
-use Rattle.teco_base.specs.declared.TheConstants.{REGISTERS}
-use Rattle.teco_linear.specs.Form.{value}
+use Rattle.teco_rows.proofs.Prelude.{◌≡◌, ◌<◌, Some, length, pos, slice_get, sym, ap, ◌∙◌, arith, common_steps}
+use Rattle.teco_rows.proofs.Prelude.{REGISTERS, value, value_if, length_of}
 use Rattle.teco_model.specs.Storage.{text_in}
-use Rattle.teco_rows.specs.Cases.{value_if}
-use Rattle.teco_rows.specs.States.{length_of}
 use Rattle.teco_rows.proofs.Registering.{pair_there}
 use Rattle.teco_rows.proofs.forms.length.Goals as goal
 

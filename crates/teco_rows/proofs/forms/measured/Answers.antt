@@ -1,5 +1,4 @@
-use Rattle.std.proofs.Common.{ap, ◌∙◌, None, slice_index_or}
-use Rattle.teco_rows.specs.Cases.{value_if}
+use Rattle.teco_rows.proofs.Prelude.{ap, ◌∙◌, None, slice_index_or, value_if}
 use Rattle.teco_rows.proofs.forms.measured.Goals as goal
 
 pub returns : goal.returns

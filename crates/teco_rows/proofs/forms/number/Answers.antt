@@ -1,10 +1,6 @@
-use Rattle.std.proofs.Common.{◌≡◌, ◌<◌, Some, slice_get, sym, ap, ◌∙◌, arith}
-use Rattle.std.proofs.lemmas.Grind.{common_steps}
-use Rattle.teco_base.specs.declared.TheConstants.{REGISTERS}
-use Rattle.teco_linear.specs.Form.{value}
+use Rattle.teco_rows.proofs.Prelude.{◌≡◌, ◌<◌, Some, slice_get, sym, ap, ◌∙◌, arith, common_steps, REGISTERS, value}
+use Rattle.teco_rows.proofs.Prelude.{value_if, number_of}
 use Rattle.teco_model.specs.Storage.{number_in}
-use Rattle.teco_rows.specs.Cases.{value_if}
-use Rattle.teco_rows.specs.States.{number_of}
 use Rattle.teco_rows.proofs.Registering.{pair_there}
 use Rattle.teco_rows.proofs.forms.number.Goals as goal
 

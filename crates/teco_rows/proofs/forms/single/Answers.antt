@@ -1,7 +1,4 @@
-use Rattle.std.proofs.Common.{◌≡◌, Some, sym, ap, ◌∙◌}
-use Rattle.teco_linear.specs.Form.{value}
-use Rattle.teco_rows.specs.Cases.{value_if}
-use Rattle.teco_rows.specs.States.{single}
+use Rattle.teco_rows.proofs.Prelude.{◌≡◌, Some, sym, ap, ◌∙◌, value, value_if, single}
 use Rattle.teco_rows.proofs.forms.single.Goals as goal
 
 pub returns-in-Some : goal.returns-in-Some

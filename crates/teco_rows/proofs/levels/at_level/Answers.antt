@@ -1,5 +1,4 @@
-use Rattle.std.proofs.Common.{arith}
-use Rattle.std.proofs.lemmas.Grind.{common_steps}
+use Rattle.teco_rows.proofs.Prelude.{arith, common_steps}
 use Rattle.teco_rows.proofs.Pending.{depth}
 use Rattle.teco_rows.proofs.levels.at_level.Goals as goal
 

@@ -1,6 +1,4 @@
-use Rattle.std.proofs.Common.{arith, refl}
-use Rattle.std.proofs.lemmas.Int.{ints}
-use Rattle.std.proofs.lemmas.Result.{IfOk-weaker}
+use Rattle.teco_rows.proofs.Prelude.{arith, refl, ints, IfOk-weaker}
 use Rattle.teco_rows.proofs.Giving.{is_from_zero}
 use Rattle.teco_rows.proofs.levels.divided_from_zero.Goals as goal
 

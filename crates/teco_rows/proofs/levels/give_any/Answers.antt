@@ -1,7 +1,4 @@
-use Rattle.std.proofs.Common.{◌≡◌, ◌∙◌, ap, arith, false, sym}
-use Rattle.std.proofs.lemmas.Grind.{common_steps}
-use Rattle.std.proofs.lemmas.Result.{IfOk-weaker}
-use Rattle.teco_rows.specs.Foretold.{is_over}
+use Rattle.teco_rows.proofs.Prelude.{◌≡◌, ◌∙◌, ap, arith, false, sym, common_steps, IfOk-weaker, is_over}
 use Rattle.teco_rows.proofs.Giving.{gives_any}
 use Rattle.teco_rows.proofs.levels.give_any.Goals as goal
 

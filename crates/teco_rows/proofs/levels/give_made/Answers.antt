@@ -1,4 +1,4 @@
-use Rattle.std.proofs.lemmas.Result.{IfOk-weaker}
+use Rattle.teco_rows.proofs.Prelude.{IfOk-weaker}
 use Rattle.teco_rows.proofs.Giving.{values_one}
 use Rattle.teco_rows.proofs.levels.give_made.Goals as goal
 

@@ -1,4 +1,4 @@
-use Rattle.std.proofs.lemmas.Result.{IfOk-weaker}
+use Rattle.teco_rows.proofs.Prelude.{IfOk-weaker}
 use Rattle.teco_rows.proofs.Giving.{masks_one}
 use Rattle.teco_rows.proofs.levels.give_masked.Goals as goal
 

@@ -1,8 +1,5 @@
-use Rattle.std.proofs.Common.{◌≡◌, subst}
-use Rattle.std.proofs.lemmas.Int.{to_z-of_z}
-use Rattle.std.proofs.lemmas.Result.{IfOk-weaker}
-use Rattle.std.specs.Int.{w64, cast_signed, cast_unsigned}
-use Rattle.teco_rows.specs.Foretold.{IsBelowZero, IsDivided, IsFromZero}
+use Rattle.teco_rows.proofs.Prelude.{◌≡◌, subst, to_z-of_z, IfOk-weaker, w64, cast_signed, cast_unsigned, IsBelowZero}
+use Rattle.teco_rows.proofs.Prelude.{IsDivided, IsFromZero}
 use Rattle.teco_rows.proofs.Giving.{quotients_two}
 use Rattle.teco_rows.proofs.levels.give_quotient.Goals as goal
 

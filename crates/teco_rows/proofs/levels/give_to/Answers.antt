@@ -1,9 +1,6 @@
-use Rattle.std.proofs.Common.{◌≡◌, rules, subst}
-use Rattle.std.proofs.lemmas.Int.{to_z-of_z}
-use Rattle.std.proofs.lemmas.Result.{IfOk-weaker}
+use Rattle.teco_rows.proofs.Prelude.{◌≡◌, rules, subst, to_z-of_z, IfOk-weaker, w64, cast_signed, cast_unsigned}
+use Rattle.teco_rows.proofs.Prelude.{Quotients}
 use Rattle.std.specs.Prelude.{FitsSigned}
-use Rattle.std.specs.Int.{w64, cast_signed, cast_unsigned}
-use Rattle.teco_rows.specs.Foretold.{Quotients}
 use Rattle.teco_rows.proofs.Giving.{gives_made, gives_quotient, gives_wrapped}
 use Rattle.teco_rows.proofs.levels.give_to.Goals as goal
 

@@ -1,6 +1,4 @@
-use Rattle.std.proofs.Common.{ap, sym, ◌∙◌, pos, unwrap_or}
-use Rattle.teco_linear.specs.Form.{value}
-use Rattle.teco_rows.specs.Cases.{value_if}
+use Rattle.teco_rows.proofs.Prelude.{ap, sym, ◌∙◌, pos, unwrap_or, value, value_if}
 use Rattle.teco_rows.proofs.Pending.{value_there}
 use Rattle.teco_rows.proofs.levels.left_value.Goals as goal
 

@@ -1,6 +1,4 @@
-use Rattle.std.proofs.Common.{ap, ◌∙◌}
-use Rattle.std.proofs.lemmas.Result.{IfOk-weaker}
-use Rattle.teco_rows.specs.States.{each}
+use Rattle.teco_rows.proofs.Prelude.{ap, ◌∙◌, IfOk-weaker, each}
 use Rattle.teco_rows.proofs.levels.pending.Goals as goal
 
 pub returns : goal.returns

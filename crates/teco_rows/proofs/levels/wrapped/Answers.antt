@@ -1,5 +1,4 @@
-use Rattle.std.proofs.Common.{refl}
-use Rattle.std.proofs.lemmas.Result.{IfOk-weaker}
+use Rattle.teco_rows.proofs.Prelude.{refl, IfOk-weaker}
 use Rattle.teco_rows.proofs.Giving.{is_wrapped}
 use Rattle.teco_rows.proofs.levels.wrapped.Goals as goal
 

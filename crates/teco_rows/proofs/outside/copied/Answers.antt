@@ -1,8 +1,6 @@
-use Rattle.std.proofs.Common.{◌∙◌, None, ap, arith, refl, slice_index_or, subst, sym}
-use Rattle.std.proofs.lemmas.Grind.{common_steps}
-use Rattle.std.specs.List.{All}
+use Rattle.teco_rows.proofs.Prelude.{◌∙◌, None, ap, arith, refl, slice_index_or, subst, sym, common_steps, All}
+use Rattle.teco_rows.proofs.Prelude.{value_if}
 use Rattle.teco_linear.specs.Implied.{Holds}
-use Rattle.teco_rows.specs.Cases.{value_if}
 use Rattle.teco_rows.proofs.Closing.{is_copy}
 use Rattle.teco_rows.proofs.outside.copied.Goals as goal
 

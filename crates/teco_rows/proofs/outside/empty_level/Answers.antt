@@ -1,5 +1,4 @@
-use Rattle.std.proofs.Common.{◌∙◌, ap}
-use Rattle.teco_rows.specs.Measures.{place}
+use Rattle.teco_rows.proofs.Prelude.{◌∙◌, ap, place}
 use Rattle.teco_rows.proofs.Closing.{empties}
 use Rattle.teco_rows.proofs.outside.empty_level.Goals as goal
 

@@ -1,5 +1,4 @@
-use Rattle.std.proofs.Common.{◌<◌, ◌≤◌, length, arith}
-use Rattle.std.proofs.lemmas.Grind.{common_steps}
+use Rattle.teco_rows.proofs.Prelude.{◌<◌, ◌≤◌, length, arith, common_steps}
 use Rattle.teco_rows.proofs.Closing.{reached_first, reached_last, reached_more}
 use Rattle.teco_rows.proofs.outside.outermost.Goals as goal
 

@@ -1,4 +1,4 @@
-use Rattle.std.proofs.Common.{◌-◌}
+use Rattle.teco_rows.proofs.Prelude.{◌-◌}
 use Rattle.teco_rows.proofs.Closing.{IsReached}
 use Rattle.teco_rows.proofs.outside.outermost.Given as goal
 

@@ -1,4 +1,4 @@
-use Rattle.std.proofs.Common.{refl}
+use Rattle.teco_rows.proofs.Prelude.{refl}
 use Rattle.teco_rows.proofs.Closing.{is_outside}
 use Rattle.teco_rows.proofs.outside.outside.Goals as goal
 

@@ -1,5 +1,4 @@
-use Rattle.std.proofs.Common.{rules, sym, w32}
-use Rattle.std.proofs.lemmas.Int.{to_z-of_z}
+use Rattle.teco_run.proofs.Prelude.{rules, sym, w32, to_z-of_z}
 use Rattle.teco_run.proofs.arguments.give_value.Goals as goal
 
 pub returns-in-One : goal.returns-in-One

@@ -1,5 +1,4 @@
-use Rattle.std.proofs.Common.{ap, ◌∙◌, pos, refl, rules, w32}
-use Rattle.std.proofs.lemmas.Int.{to_z-of_z}
+use Rattle.teco_run.proofs.Prelude.{ap, ◌∙◌, pos, refl, rules, w32, to_z-of_z}
 use Rattle.teco_run.proofs.arguments.value_of.Goals as goal
 
 pub returns-in-Size : goal.returns-in-Size

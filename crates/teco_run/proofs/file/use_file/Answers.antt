@@ -1,8 +1,6 @@
-use Rattle.std.proofs.Common.{◌≡◌, Err, rules}
+use Rattle.teco_run.proofs.Prelude.{◌≡◌, Err, rules, filed, halt_by_stuck}
 use Rattle.teco_model.specs.Memory.{file_grows}
-use Rattle.teco_model.specs.Outside.{filed}
 use Rattle.teco_model.specs.declared.kind.Kind.TheVariants as kind
-use Rattle.teco_filing.specs.Halts.{halt_by_stuck}
 use Rattle.teco_run.proofs.Taking.{taken, untaken}
 use Rattle.teco_run.proofs.file.use_file.Goals as goal
 

@@ -1,6 +1,5 @@
-use Rattle.std.proofs.Common.{Ok, true, false, refl}
+use Rattle.teco_run.proofs.Prelude.{Ok, true, false, refl, World}
 use Rattle.teco_model.specs.Filing as filing
-use Rattle.teco_model.specs.State.{World}
 use Rattle.teco_model.specs.declared.kind.File.TheVariants as file
 use Rattle.teco_model.specs.declared.kind.Kind.TheVariants as kind
 use Rattle.teco_run.proofs.Together.{Joined-map}

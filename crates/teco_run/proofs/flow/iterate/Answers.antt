@@ -1,5 +1,4 @@
-use Rattle.std.proofs.Common.{w32, rules}
-use Rattle.std.proofs.lemmas.Int.{to_z-of_z}
+use Rattle.teco_run.proofs.Prelude.{w32, rules, to_z-of_z}
 use Rattle.teco_run.proofs.flow.iterate.Goals as goal
 
 pub returns-in-None-clause-way : goal.returns-in-None-clause-way

@@ -1,4 +1,4 @@
-use Rattle.teco_model.specs.Element.{seen}
+use Rattle.teco_run.proofs.Prelude.{seen}
 use Rattle.teco_run.proofs.Turns.{jump_some, jump_none}
 use Rattle.teco_run.proofs.flow.jump.Goals as goal
 

@@ -1,5 +1,4 @@
-use Rattle.std.proofs.Common.{◌≡◌, is_some, true}
-use Rattle.teco_model.specs.Element.{seen}
+use Rattle.teco_run.proofs.Prelude.{◌≡◌, is_some, true, seen}
 use Rattle.teco_run.proofs.Turns.{to_turn_end-open}
 use Rattle.teco_run.proofs.flow.to_turn_end.Goals as goal
 

@@ -1,7 +1,5 @@
-use Rattle.std.proofs.Common.{◌≡◌, false, Option, Some, None, Result, Ok, Err, ap, refl, ◌∙◌, arith}
-use Rattle.std.specs.Option.{option_map_or}
-use Rattle.teco_base.specs.declared.code.Code.{Code}
-use Rattle.teco_model.specs.Element.{Element, seen}
+use Rattle.teco_run.proofs.Prelude.{◌≡◌, false, Option, Some, None, Result, Ok, Err, ap, refl, ◌∙◌, arith}
+use Rattle.teco_run.proofs.Prelude.{option_map_or, Code, Element, seen}
 use Rattle.teco_model.specs.Searching.{is_leave, is_leave_kind}
 use Rattle.teco_scan.specs.Reached.{kind_of}
 use Rattle.teco_run.proofs.miss.has_colon.Goals as goal

@@ -1,13 +1,9 @@
-use Rattle.std.proofs.Common.{◌≡◌, Err, rules}
-use Rattle.teco_model.specs.Memory.{reads_page, taken_at}
-use Rattle.teco_model.specs.Outside.{append_reply}
+use Rattle.teco_run.proofs.Prelude.{◌≡◌, Err, rules, reads_page, taken_at, append_reply, halt_by_stuck, Holdings}
+use Rattle.teco_run.proofs.Prelude.{Pending}
 use Rattle.teco_model.specs.declared.kind.Kind.TheVariants as kind
 use Rattle.teco_model.specs.declared.kind.Page.TheVariants as page
-use Rattle.teco_filing.specs.Halts.{halt_by_stuck}
 use Rattle.teco_run.proofs.Pages.{character-answers}
 use Rattle.teco_run.proofs.Taking.{untaken}
-use Rattle.teco_run.specs.Holdings.{Holdings}
-use Rattle.teco_run.specs.Pending.{Pending}
 use Rattle.teco_run.proofs.page.append.Goals as goal
 
 pub returns-in_err-n-clause-answers : goal.returns-in_err-n-clause-answers

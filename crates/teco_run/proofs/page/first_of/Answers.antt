@@ -1,16 +1,10 @@
-use Rattle.std.proofs.Common.{◌≡◌, Result, Ok, Err, Some, None, pos, w32, rules, subst, sym}
-use Rattle.std.specs.Prelude.{unwrap_or}
-use Rattle.teco_base.specs.declared.code.Code.{Code}
-use Rattle.std.proofs.lemmas.Int.{to_z-of_z}
-use Rattle.teco_model.specs.Memory.{reads_page}
-use Rattle.teco_model.specs.Paging.{Progress, one_page_of, page_count, pages_of}
-use Rattle.teco_model.specs.Outside.{in_pages}
-use Rattle.teco_model.specs.State.{World}
+use Rattle.teco_run.proofs.Prelude.{◌≡◌, Result, Ok, Err, Some, None, pos, w32, rules, subst, sym, unwrap_or, Code}
+use Rattle.teco_run.proofs.Prelude.{to_z-of_z, reads_page, Progress, one_page_of, page_count, pages_of, in_pages, World}
+use Rattle.teco_run.proofs.Prelude.{Answers, IsNoRange, page_done, reads_one}
 use Rattle.teco_model.specs.declared.kind.Kind.TheVariants as kind
 use Rattle.teco_filing.specs.declared.halt.Halt.TheVariants as halt
 use Rattle.teco_run.proofs.Pages.{pages-counted, pages-uncounted, range-answers, reads-counted, reads-range}
 use Rattle.teco_run.proofs.Together.{Joined-map, Joined-on}
-use Rattle.teco_run.specs.Replies.{Answers, IsNoRange, page_done, reads_one}
 use Rattle.teco_run.proofs.page.first_of.Goals as goal
 
 pub returns-in_err-n-clause-answers : goal.returns-in_err-n-clause-answers

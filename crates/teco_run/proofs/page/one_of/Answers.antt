@@ -1,11 +1,8 @@
-use Rattle.std.proofs.Common.{◌≡◌, Err, rules, subst}
-use Rattle.std.specs.Prelude.{IsSome}
+use Rattle.teco_run.proofs.Prelude.{◌≡◌, Err, rules, subst, IsSome, Holdings, page_done, reads_one}
 use Rattle.teco_base.specs.declared.code.Code.TheVariants as code
 use Rattle.teco_model.specs.declared.kind.Kind.TheVariants as kind
 use Rattle.teco_filing.specs.declared.halt.Halt.TheVariants as halt
 use Rattle.teco_run.proofs.Pages.{page-answers, page-needs}
-use Rattle.teco_run.specs.Holdings.{Holdings}
-use Rattle.teco_run.specs.Replies.{page_done, reads_one}
 use Rattle.teco_run.proofs.page.one_of.Goals as goal
 
 pub returns-in_err-need_output-clause-answers : goal.returns-in_err-need_output-clause-answers

@@ -1,16 +1,11 @@
-use Rattle.std.proofs.Common.{◌≡◌, Err, Some, None, rules, ap, subst, sym}
-use Rattle.std.specs.Prelude.{IsSome}
+use Rattle.teco_run.proofs.Prelude.{◌≡◌, Err, Some, None, rules, ap, subst, sym, IsSome, reads_page, taken_at, in_pages}
+use Rattle.teco_run.proofs.Prelude.{pages, pages_of, halt_by_stuck, Holdings, Joined, Answers, page_done}
 use Rattle.teco_base.specs.declared.code.Code.TheVariants as code
-use Rattle.teco_model.specs.Memory.{reads_page, taken_at, taken_if_any}
-use Rattle.teco_model.specs.Outside.{in_pages}
-use Rattle.teco_model.specs.Paging.{pages, pages_of}
+use Rattle.teco_model.specs.Memory.{taken_if_any}
 use Rattle.teco_model.specs.declared.kind.Kind.TheVariants as kind
-use Rattle.teco_filing.specs.Halts.{halt_by_stuck}
 use Rattle.teco_filing.specs.declared.halt.Halt.TheVariants as halt
 use Rattle.teco_run.proofs.Pages.{pages-need, pages-open, reads-more}
 use Rattle.teco_run.proofs.Taking.{taken, untaken}
-use Rattle.teco_run.specs.Holdings.{Holdings, Joined}
-use Rattle.teco_run.specs.Replies.{Answers, page_done}
 use Rattle.teco_run.proofs.page.write_pages.Goals as goal
 
 pub returns-in-Some-clause-answers : goal.returns-in-Some-clause-answers

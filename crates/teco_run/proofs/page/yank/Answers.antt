@@ -1,9 +1,7 @@
-use Rattle.std.proofs.Common.{◌≡◌, Err, true, rules}
-use Rattle.teco_model.specs.Outside.{going_on}
+use Rattle.teco_run.proofs.Prelude.{◌≡◌, Err, true, rules, going_on, halt_by_stuck}
 use Rattle.teco_model.specs.Paging.{yank}
 use Rattle.teco_model.specs.declared.kind.Kind.TheVariants as kind
 use Rattle.teco_model.specs.declared.kind.Page.TheVariants as page
-use Rattle.teco_filing.specs.Halts.{halt_by_stuck}
 use Rattle.teco_run.proofs.Taking.{untaken}
 use Rattle.teco_run.proofs.page.yank.Goals as goal
 

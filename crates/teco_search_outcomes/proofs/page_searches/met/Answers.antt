@@ -1,6 +1,4 @@
-use Rattle.std.proofs.Common.{Some, None, negsuc, refl, subst, sym}
-use Rattle.std.proofs.lemmas.Result.{IfOk-weaker}
-use Rattle.teco_command_outcomes.specs.Changes.{IsTold}
+use Rattle.teco_search_outcomes.proofs.Prelude.{Some, None, negsuc, refl, subst, sym, IfOk-weaker, IsTold}
 use Rattle.teco_search_outcomes.specs.PageSearches.{answer_of}
 use Rattle.teco_search_outcomes.proofs.page_searches.met.Goals as goal
 

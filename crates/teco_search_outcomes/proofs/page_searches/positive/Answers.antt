@@ -1,8 +1,4 @@
-use Rattle.std.proofs.Common.{◌≡◌, [], ◌∷◌, arith, subst}
-use Rattle.std.proofs.lemmas.Grind.{common_steps}
-use Rattle.std.proofs.lemmas.Int.{ints}
-use Rattle.std.proofs.lemmas.List.Elements.{All-head}
-use Rattle.std.specs.List.{All}
+use Rattle.teco_search_outcomes.proofs.Prelude.{◌≡◌, [], ◌∷◌, arith, subst, common_steps, ints, All-head, All}
 use Rattle.teco_linear.specs.Implied as linear
 use Rattle.teco_search_outcomes.proofs.page_searches.positive.Goals as goal
 

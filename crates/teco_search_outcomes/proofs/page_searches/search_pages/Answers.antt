@@ -1,14 +1,8 @@
-use Rattle.std.proofs.Common.{◌≡◌, ◌∙◌, ◌++◌, ◌∷◌, [], Some, ap, arith, refl, subst, sym}
-use Rattle.std.proofs.lemmas.Grind.{common_steps}
-use Rattle.std.proofs.lemmas.List.Elements.{All-head, All-pop, All-tail}
-use Rattle.std.specs.List.{All}
+use Rattle.teco_search_outcomes.proofs.Prelude.{◌≡◌, ◌∙◌, ◌++◌, ◌∷◌, [], Some, ap, arith, refl, subst, sym}
+use Rattle.teco_search_outcomes.proofs.Prelude.{common_steps, All-head, All-pop, All-tail, All, seen, FindInPages}
+use Rattle.teco_search_outcomes.proofs.Prelude.{ReplaceInPages, IsGuarded, Ahead, IsFoundBy, IsReplacedBy}
 use Rattle.teco_linear.specs.Implied as linear
-use Rattle.teco_model.specs.Element.{seen}
 use Rattle.teco_model.specs.declared.kind.Kind.TheVariants as kind
-use Rattle.teco_model.specs.declared.kind.Search.TheVariants.{FindInPages, ReplaceInPages}
-use Rattle.teco_rows.specs.Foretold.{IsGuarded}
-use Rattle.teco_search_outcomes.specs.declared.searches.Direction.TheVariants.{Ahead}
-use Rattle.teco_search_outcomes.specs.Searches.{IsFoundBy, IsReplacedBy}
 use Rattle.teco_search_outcomes.proofs.Looking.{keeps_found_later, keeps_replaced_later, more_here, more_later}
 use Rattle.teco_search_outcomes.proofs.Looking.{pages_law}
 use Rattle.teco_search_outcomes.proofs.Seeking.{keeps_found, keeps_replaced}

@@ -1,4 +1,4 @@
-use Rattle.std.proofs.lemmas.Result.{IfOk-weaker}
+use Rattle.teco_search_outcomes.proofs.Prelude.{IfOk-weaker}
 use Rattle.teco_search_outcomes.proofs.Looking.{is_through}
 use Rattle.teco_search_outcomes.proofs.page_searches.through.Goals as goal
 

@@ -1,5 +1,4 @@
-use Rattle.std.proofs.Common.{arith, refl}
-use Rattle.std.proofs.lemmas.Grind.{common_steps}
+use Rattle.teco_search_outcomes.proofs.Prelude.{arith, refl, common_steps}
 use Rattle.teco_search_outcomes.proofs.page_searches.with_later.Goals as goal
 
 pub returns : goal.returns

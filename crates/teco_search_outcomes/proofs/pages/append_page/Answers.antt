@@ -1,7 +1,4 @@
-use Rattle.std.proofs.Common.{◌≡◌, [], ◌∷◌, None, arith, refl, subst}
-use Rattle.std.proofs.lemmas.Grind.{common_steps}
-use Rattle.std.proofs.lemmas.List.Elements.{All-head}
-use Rattle.std.specs.List.{All}
+use Rattle.teco_search_outcomes.proofs.Prelude.{◌≡◌, [], ◌∷◌, None, arith, refl, subst, common_steps, All-head, All}
 use Rattle.teco_linear.specs.Implied as linear
 use Rattle.teco_search_outcomes.proofs.Paging.{appends_page}
 use Rattle.teco_search_outcomes.proofs.pages.append_page.Goals as goal

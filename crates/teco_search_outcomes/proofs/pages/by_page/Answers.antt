@@ -1,8 +1,5 @@
-use Rattle.std.proofs.Common.{◌≡◌, ◌∙◌, true, if◌then◌else◌, arith, subst, sym}
-use Rattle.std.proofs.lemmas.Grind.{common_steps}
-use Rattle.std.proofs.lemmas.Result.{IfOk-weaker}
-use Rattle.teco_model.specs.Paging.{page_turned, page_written}
-use Rattle.teco_search_outcomes.specs.Pages.{Writes}
+use Rattle.teco_search_outcomes.proofs.Prelude.{◌≡◌, ◌∙◌, true, if◌then◌else◌, arith, subst, sym, common_steps}
+use Rattle.teco_search_outcomes.proofs.Prelude.{IfOk-weaker, page_turned, page_written, Writes}
 use Rattle.teco_search_outcomes.proofs.pages.by_page.Goals as goal
 
 pub returns-in-Some-value : goal.returns-in-Some-value

@@ -1,6 +1,4 @@
-use Rattle.std.proofs.Common.{ap, arith}
-use Rattle.std.proofs.lemmas.Int.{ints}
-use Rattle.teco_linear.specs.Form.{value}
+use Rattle.teco_search_outcomes.proofs.Prelude.{ap, arith, ints, value}
 use Rattle.teco_search_outcomes.proofs.pages.is_empty.Goals as goal
 
 pub returns : goal.returns

@@ -1,5 +1,4 @@
-use Rattle.std.proofs.Common.{◌≡◌, [], ◌∷◌, None, refl, arith}
-use Rattle.std.proofs.lemmas.Grind.{common_steps}
+use Rattle.teco_search_outcomes.proofs.Prelude.{◌≡◌, [], ◌∷◌, None, refl, arith, common_steps}
 use Rattle.teco_search_outcomes.proofs.Paging.{turns_page}
 use Rattle.teco_search_outcomes.proofs.pages.next_page.Goals as goal
 

@@ -1,11 +1,8 @@
-use Rattle.std.proofs.Common.{ap, refl, subst, sym, ◌∙◌}
-use Rattle.std.proofs.lemmas.Result.{IfOk-weaker}
-use Rattle.teco_model.specs.Outside.{append_reply, going_on}
-use Rattle.teco_model.specs.Paging.{append, yank}
+use Rattle.teco_search_outcomes.proofs.Prelude.{ap, refl, subst, sym, ◌∙◌, IfOk-weaker, going_on, append, yank}
+use Rattle.teco_search_outcomes.proofs.Prelude.{value_if, PageLaw}
+use Rattle.teco_model.specs.Outside.{append_reply}
 use Rattle.teco_model.specs.declared.kind.Kind.TheVariants as kind
 use Rattle.teco_model.specs.declared.kind.Page.TheVariants.{Append, Yank}
-use Rattle.teco_rows.specs.Cases.{value_if}
-use Rattle.teco_search_outcomes.specs.Pages.{PageLaw}
 use Rattle.teco_search_outcomes.proofs.Paging.{reads_law}
 use Rattle.teco_search_outcomes.proofs.pages.read_pages.Goals as goal
 

@@ -1,5 +1,4 @@
-use Rattle.std.proofs.Common.{None, refl}
-use Rattle.std.proofs.lemmas.Result.{IfOk-weaker}
+use Rattle.teco_search_outcomes.proofs.Prelude.{None, refl, IfOk-weaker}
 use Rattle.teco_search_outcomes.proofs.Paging.{writes_buffer}
 use Rattle.teco_search_outcomes.proofs.pages.write_one.Goals as goal
 

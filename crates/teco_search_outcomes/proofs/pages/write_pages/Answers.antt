@@ -1,9 +1,7 @@
-use Rattle.std.proofs.Common.{ap, refl, subst, sym, ◌∙◌}
-use Rattle.std.proofs.lemmas.Result.{IfOk-weaker}
-use Rattle.teco_model.specs.Paging.{page_turned, page_written}
+use Rattle.teco_search_outcomes.proofs.Prelude.{ap, refl, subst, sym, ◌∙◌, IfOk-weaker, page_turned, page_written}
+use Rattle.teco_search_outcomes.proofs.Prelude.{PageLaw}
 use Rattle.teco_model.specs.declared.kind.Kind.TheVariants as kind
 use Rattle.teco_model.specs.declared.kind.Page.TheVariants.{Next, Write}
-use Rattle.teco_search_outcomes.specs.Pages.{PageLaw}
 use Rattle.teco_search_outcomes.proofs.Paging.{pages_law}
 use Rattle.teco_search_outcomes.proofs.pages.write_pages.Goals as goal
 

@@ -1,6 +1,4 @@
-use Rattle.std.proofs.Common.{None, refl, subst}
-use Rattle.std.proofs.lemmas.Result.{IfOk-weaker}
-use Rattle.std.specs.List.{All}
+use Rattle.teco_search_outcomes.proofs.Prelude.{None, refl, subst, IfOk-weaker, All}
 use Rattle.teco_linear.specs.Implied as linear
 use Rattle.teco_search_outcomes.proofs.Paging.{writes_range}
 use Rattle.teco_search_outcomes.proofs.pages.write_range.Goals as goal

@@ -1,6 +1,4 @@
-use Rattle.std.proofs.Common.{◌≡◌, [], ◌∷◌, ◌++◌, Some, arith}
-use Rattle.std.proofs.lemmas.Grind.{common_steps}
-use Rattle.std.proofs.lemmas.List.Elements.{All-head, All-pop}
+use Rattle.teco_search_outcomes.proofs.Prelude.{◌≡◌, [], ◌∷◌, ◌++◌, Some, arith, common_steps, All-head, All-pop}
 use Rattle.teco_linear.specs.Implied as linear
 use Rattle.teco_search_outcomes.proofs.Paging.{yanks_page}
 use Rattle.teco_search_outcomes.proofs.pages.yank_page.Goals as goal

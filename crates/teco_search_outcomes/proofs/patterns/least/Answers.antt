@@ -1,7 +1,4 @@
-use Rattle.std.proofs.Common.{◌≡◌, [], ◌∷◌, arith, get_or, pos, subst}
-use Rattle.std.proofs.lemmas.Grind.{common_steps}
-use Rattle.std.proofs.lemmas.Int.{ints}
-use Rattle.teco_linear.specs.Form.{value}
+use Rattle.teco_search_outcomes.proofs.Prelude.{◌≡◌, [], ◌∷◌, arith, get_or, pos, subst, common_steps, ints, value}
 use Rattle.teco_search_outcomes.proofs.Parting.{count, count_all, count_more, no_part}
 use Rattle.teco_search_outcomes.proofs.patterns.least.Goals as goal
 

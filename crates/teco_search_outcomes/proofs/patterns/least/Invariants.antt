@@ -1,7 +1,5 @@
-use Rattle.std.proofs.Common.{◌≡◌, ℕ, pos, ◌+ℤ◌, drop, Bool}
-use Rattle.teco_linear.specs.Form.{Valuation, value}
-use Rattle.teco_model.specs.laws.Whole.{IsWhole}
-use Rattle.teco_rows.specs.States.{Point, IsTrueOf}
+use Rattle.teco_search_outcomes.proofs.Prelude.{◌≡◌, ℕ, pos, drop, Bool, Valuation, value, IsWhole, Point, IsTrueOf}
+use Rattle.std.proofs.Common.{◌+ℤ◌}
 use Rattle.teco_search_outcomes.proofs.Parting.{count}
 use Rattle.teco_search_outcomes.proofs.patterns.least.Given as goal
 

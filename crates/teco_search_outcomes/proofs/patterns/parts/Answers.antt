@@ -1,5 +1,4 @@
-use Rattle.std.proofs.Common.{◌≡◌, ◌+◌, ◌-◌, ◌∙◌, [], ◌∷◌, ◌++◌, ap, arith, length, sym}
-use Rattle.std.proofs.lemmas.Grind.{common_steps}
+use Rattle.teco_search_outcomes.proofs.Prelude.{◌≡◌, ◌+◌, ◌-◌, ◌∙◌, [], ◌∷◌, ◌++◌, ap, arith, length, sym, common_steps}
 use Rattle.teco_model.specs.Pattern as model
 use Rattle.teco_search_outcomes.proofs.Parting.{all_read, none_read, part_read, reading_starts, with_rest}
 use Rattle.teco_search_outcomes.proofs.patterns.parts.Goals as goal

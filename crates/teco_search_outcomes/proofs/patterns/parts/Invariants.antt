@@ -1,5 +1,4 @@
-use Rattle.std.proofs.Common.{◌≡◌, ◌-◌, length}
-use Rattle.teco_model.specs.Pattern.{parts}
+use Rattle.teco_search_outcomes.proofs.Prelude.{◌≡◌, ◌-◌, length, parts}
 use Rattle.teco_search_outcomes.proofs.Parting.{with_rest}
 use Rattle.teco_search_outcomes.proofs.patterns.parts.Given as goal
 

@@ -1,5 +1,4 @@
-use Rattle.std.proofs.Common.{◌≡◌, [], ◌∷◌, negsuc, pos, refl, Some, arith}
-use Rattle.std.proofs.lemmas.Grind.{common_steps}
+use Rattle.teco_search_outcomes.proofs.Prelude.{◌≡◌, [], ◌∷◌, negsuc, pos, refl, Some, arith, common_steps}
 use Rattle.teco_search_outcomes.proofs.Seeking.{answers_both}
 use Rattle.teco_search_outcomes.proofs.searches.answering.Goals as goal
 

@@ -1,5 +1,4 @@
-use Rattle.std.proofs.Common.{rules, ◌==◌}
-use Rattle.std.proofs.lemmas.Result.{IfOk-weaker}
+use Rattle.teco_search_outcomes.proofs.Prelude.{rules, ◌==◌, IfOk-weaker}
 use Rattle.teco_search_outcomes.proofs.Searching.{finds}
 use Rattle.teco_search_outcomes.proofs.searches.find.Goals as goal
 

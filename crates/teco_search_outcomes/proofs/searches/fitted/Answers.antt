@@ -1,7 +1,5 @@
-use Rattle.std.proofs.Common.{refl, subst, sym}
-use Rattle.std.specs.List.{All}
+use Rattle.teco_search_outcomes.proofs.Prelude.{refl, subst, sym, All, Guarded}
 use Rattle.teco_linear.specs.Implied as linear
-use Rattle.teco_rows.specs.declared.outcomes.Guarded.{Guarded}
 use Rattle.teco_search_outcomes.proofs.Searching.{has_room}
 use Rattle.teco_search_outcomes.proofs.searches.fitted.Goals as goal
 

@@ -1,5 +1,4 @@
-use Rattle.std.proofs.Common.{◌≡◌, [], ◌∷◌, None, refl, arith}
-use Rattle.std.proofs.lemmas.Grind.{common_steps}
+use Rattle.teco_search_outcomes.proofs.Prelude.{◌≡◌, [], ◌∷◌, None, refl, arith, common_steps}
 use Rattle.teco_search_outcomes.proofs.Seeking.{leaves_both}
 use Rattle.teco_search_outcomes.proofs.searches.leaving.Goals as goal
 

@@ -1,6 +1,4 @@
-use Rattle.std.proofs.Common.{arith}
-use Rattle.std.proofs.lemmas.Grind.{common_steps}
-use Rattle.std.proofs.lemmas.Result.{IfOk-weaker}
+use Rattle.teco_search_outcomes.proofs.Prelude.{arith, common_steps, IfOk-weaker}
 use Rattle.teco_search_outcomes.proofs.Searching.{misses, misses_here}
 use Rattle.teco_search_outcomes.proofs.searches.missed.Goals as goal
 

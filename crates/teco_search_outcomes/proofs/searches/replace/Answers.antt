@@ -1,14 +1,13 @@
-use Rattle.std.proofs.Common.{◌≡◌, ◌≤◌, ◌∙◌, ap, arith, false, nat_eq, nat_lt, pos, refl, rules, subst, sym}
-use Rattle.std.proofs.lemmas.Bool.Decides.{nat_tests}
-use Rattle.std.proofs.lemmas.Result.{IfOk-weaker}
-use Rattle.teco_search_outcomes.specs.declared.searches.Known.{Known}
+use Rattle.teco_search_outcomes.proofs.Prelude.{◌≡◌, ◌≤◌, ◌∙◌, ap, arith, false, pos, refl, rules, subst, sym}
+use Rattle.teco_search_outcomes.proofs.Prelude.{nat_tests, IfOk-weaker, KnownMatch}
+use Rattle.std.proofs.Common.{nat_eq, nat_lt}
 use Rattle.teco_search_outcomes.proofs.Searching.{replaces}
 use Rattle.teco_search_outcomes.proofs.searches.replace.Goals as goal
 
 pub returns : goal.returns
 returns c =
     let start = c.last_start-start.result in
-    let known : Known = record {
+    let known : KnownMatch = record {
       direction = c.known_of.result.direction;
       is_exact = c.known_of.result.is_exact;
       ends_line = false;

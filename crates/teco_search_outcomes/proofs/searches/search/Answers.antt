@@ -1,13 +1,8 @@
-use Rattle.std.proofs.Common.{◌≡◌, ◌∙◌, ◌∷◌, [], ap, arith, refl, subst, sym}
-use Rattle.std.proofs.lemmas.Grind.{common_steps}
-use Rattle.std.proofs.lemmas.List.Elements.{All-head}
-use Rattle.std.specs.List.{All}
-use Rattle.teco_rows.specs.Foretold.{IsGuarded}
+use Rattle.teco_search_outcomes.proofs.Prelude.{◌≡◌, ◌∙◌, ◌∷◌, [], ap, arith, refl, subst, sym, common_steps, All-head}
+use Rattle.teco_search_outcomes.proofs.Prelude.{All, IsGuarded, seen, IsFoundBy, IsReplacedBy}
 use Rattle.teco_linear.specs.Implied as linear
-use Rattle.teco_model.specs.Element.{seen}
 use Rattle.teco_model.specs.declared.kind.Kind.TheVariants as kind
 use Rattle.teco_model.specs.declared.kind.Search.TheVariants.{Find, Replace}
-use Rattle.teco_search_outcomes.specs.Searches.{IsFoundBy, IsReplacedBy}
 use Rattle.teco_search_outcomes.proofs.Seeking.{keeps_found, keeps_replaced, search_law, searches}
 use Rattle.teco_search_outcomes.proofs.searches.search.Goals as goal
 

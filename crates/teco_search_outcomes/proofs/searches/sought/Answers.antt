@@ -1,11 +1,6 @@
-use Rattle.std.proofs.Common.{◌≡◌, [], ◌∷◌, sym, subst, arith}
-use Rattle.std.proofs.lemmas.Grind.{common_steps}
-use Rattle.std.proofs.lemmas.Int.{ints}
-use Rattle.std.proofs.lemmas.List.Elements.{All-head}
-use Rattle.std.specs.List.{All}
+use Rattle.teco_search_outcomes.proofs.Prelude.{◌≡◌, [], ◌∷◌, sym, subst, arith, common_steps, ints, All-head, All, Aim}
+use Rattle.teco_search_outcomes.proofs.Prelude.{Aims}
 use Rattle.teco_linear.specs.Implied as linear
-use Rattle.teco_search_outcomes.specs.declared.searches.Aim.{Aim}
-use Rattle.teco_search_outcomes.specs.Searches.{Aims}
 use Rattle.teco_search_outcomes.proofs.Seeking.{aims_ahead, aims_known, aims_once}
 use Rattle.teco_search_outcomes.proofs.searches.sought.Goals as goal
 

@@ -1,4 +1,4 @@
-use Rattle.std.proofs.lemmas.Result.{IfOk-weaker}
+use Rattle.teco_search_outcomes.proofs.Prelude.{IfOk-weaker}
 use Rattle.teco_search_outcomes.proofs.Searching.{warns}
 use Rattle.teco_search_outcomes.proofs.searches.warned.Goals as goal
 

@@ -1,5 +1,4 @@
-use Rattle.std.proofs.Common.{◌≡◌, length}
-use Rattle.std.specs.Io.KnownBytes.{Keeps}
+use Rattle.teco_session.proofs.Prelude.{◌≡◌, length, Keeps}
 use Rattle.teco_session.proofs.ahead.read_some.Given as goal
 
 -- a read that is interrupted takes nothing

@@ -1,4 +1,4 @@
-use Rattle.std.proofs.lemmas.Result.{err_from_is_err_and}
+use Rattle.teco_session.proofs.Prelude.{err_from_is_err_and}
 use Rattle.teco_session.proofs.Known.{WritesPart-front, Writes-behind}
 use Rattle.teco_session.proofs.output.write_both.Goals as goal
 

@@ -1,5 +1,5 @@
-use Rattle.std.proofs.Common.{◌≡◌, ◌-◌, length, take, drop, arith, length-drop}
-use Rattle.std.proofs.lemmas.List.{take_all}
+use Rattle.teco_session.proofs.Prelude.{◌≡◌, ◌-◌, length, take, drop, arith, take_all}
+use Rattle.std.proofs.Common.{length-drop}
 use Rattle.teco_session.proofs.Known.{Appends-part}
 use Rattle.teco_session.proofs.output.write_bytes.Goals as goal
 

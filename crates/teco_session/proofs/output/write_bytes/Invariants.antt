@@ -1,5 +1,4 @@
-use Rattle.std.proofs.Common.{◌≤◌, length, take}
-use Rattle.std.specs.Io.KnownBytes.{Appends}
+use Rattle.teco_session.proofs.Prelude.{◌≤◌, length, take, Appends}
 use Rattle.teco_session.proofs.output.write_bytes.Given as goal
 
 -- the bytes up to here are written, one or more in each turn

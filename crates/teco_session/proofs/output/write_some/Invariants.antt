@@ -1,4 +1,4 @@
-use Rattle.std.specs.Io.KnownBytes.{Keeps}
+use Rattle.teco_session.proofs.Prelude.{Keeps}
 use Rattle.teco_session.proofs.output.write_some.Given as goal
 
 -- a write that is interrupted writes nothing

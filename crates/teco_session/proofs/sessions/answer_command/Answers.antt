@@ -1,12 +1,10 @@
-use Rattle.std.proofs.Common.{◌++◌, ap, sym, refl}
-use Rattle.teco_model.specs.Run.{Stops}
-use Rattle.teco_model.specs.Session.{code_line, code_of, is_code, is_exit}
-use Rattle.teco_model.specs.State.{Kept, World, start}
+use Rattle.teco_session.proofs.Prelude.{◌++◌, ap, sym, refl, Stops, code_line, code_of, is_code, is_exit, World, start}
+use Rattle.teco_session.proofs.Prelude.{Answers}
+use Rattle.teco_model.specs.State.{Kept}
 use Rattle.teco_session.proofs.Counting.{stop-rises, said-counts}
 use Rattle.teco_session.proofs.Said.{said-writes, said-coded, said-exit}
 use Rattle.teco_session.proofs.Together.{Joined-typed}
 use Rattle.teco_session.proofs.sessions.answer_command.Goals as goal
-use Rattle.teco_session.specs.Answers.{Answers}
 use Rattle.teco_session.specs.declared.strings.Piece.TheVariants as piece
 
 pub returns-clause-run : goal.returns-clause-run

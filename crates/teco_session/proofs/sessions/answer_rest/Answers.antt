@@ -1,10 +1,7 @@
-use Rattle.std.proofs.Common.{false, refl}
-use Rattle.teco_model.specs.Session.{code_line, is_code, rest_code}
-use Rattle.teco_model.specs.State.{World}
+use Rattle.teco_session.proofs.Prelude.{false, refl, code_line, is_code, rest_code, World, Answers}
 use Rattle.teco_session.proofs.Said.{said-writes, said-coded, said-exit}
 use Rattle.teco_session.proofs.Together.{Joined-stays}
 use Rattle.teco_session.proofs.sessions.answer_rest.Goals as goal
-use Rattle.teco_session.specs.Answers.{Answers}
 use Rattle.teco_session.specs.declared.strings.Piece.TheVariants as piece
 
 pub returns : goal.returns

@@ -1,16 +1,10 @@
-use Rattle.std.proofs.Common.{[], length, ap, arith, refl, false, true, Ok, Err, ◌||◌, ◌+◌}
-use Rattle.std.proofs.KnownBytes.{Consumes-nil}
-use Rattle.std.proofs.lemmas.Result.{err_from_is_err_and}
-use Rattle.std.specs.Io.KnownBytes.{prepend_known}
-use Rattle.teco_model.specs.State.{World}
+use Rattle.teco_session.proofs.Prelude.{[], length, ap, arith, refl, false, true, Ok, Err, ◌||◌, ◌+◌, Consumes-nil}
+use Rattle.teco_session.proofs.Prelude.{err_from_is_err_and, prepend_known, World, Answers, Hears, Serves, setting}
 use Rattle.teco_session.proofs.Counting.{behind-rises}
 use Rattle.teco_session.proofs.FirstCode.{Hears-write, Hears-break, Hears-full, Hears-exit, Hears-rest, Hears-code}
 use Rattle.teco_session.proofs.SessionSteps.{Serves-start, Serves-more}
 use Rattle.teco_session.proofs.Together.{Joined-on, Joined-stays, Joined-then}
 use Rattle.teco_session.proofs.Touching.{in_session-behind, in_session-piece, so_far-more, so_far-none}
-use Rattle.teco_session.specs.Answers.{Answers}
-use Rattle.teco_session.specs.FirstCode.{Hears}
-use Rattle.teco_session.specs.Sessions.{Serves, setting}
 use Rattle.teco_session.proofs.sessions.session_heard.Goals as goal
 use Rattle.teco_session.proofs.sessions.session_heard.Goals.{else-conduct-via-then-conduct+else-coded}
 use Rattle.teco_session.proofs.sessions.session_heard.Goals.{else-conduct-via-else-conduct}

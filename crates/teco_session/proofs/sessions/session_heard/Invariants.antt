@@ -1,10 +1,6 @@
-use Rattle.std.proofs.Common.{◌≡◌, ◌≤◌, length, true, false}
-use Rattle.std.specs.Io.KnownBytes.{prepend_known}
-use Rattle.teco_run.specs.Holdings.{Joined}
+use Rattle.teco_session.proofs.Prelude.{◌≡◌, ◌≤◌, length, true, false, prepend_known, Joined, Serves, setting, CHUNK}
 use Rattle.teco_session.proofs.Counting.{RisesCoded}
 use Rattle.teco_session.proofs.Touching.{TouchesSoFar}
-use Rattle.teco_session.specs.Sessions.{Serves, setting}
-use Rattle.teco_session.specs.declared.ahead.TheConstants.{CHUNK}
 use Rattle.teco_session.proofs.sessions.session_heard.Given as goal
 
 -- As many strings as turns were served, and one read's bytes at most are ahead. The strings touched files by the

@@ -1,4 +1,4 @@
-use Rattle.std.proofs.Common.{◌∙◌, sym}
+use Rattle.teco_session.proofs.Prelude.{◌∙◌, sym}
 use Rattle.teco_session.proofs.Pairs.{AreApart, apart_by_first, apart_by_last, ended_at_meeting, endless_behind}
 use Rattle.teco_session.proofs.Pairs.{ended_within}
 use Rattle.teco_session.proofs.strings.end_behind.Goals as goal

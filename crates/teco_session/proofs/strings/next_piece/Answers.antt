@@ -1,5 +1,4 @@
-use Rattle.std.proofs.Common.{length, ap, arith}
-use Rattle.std.proofs.KnownBytes.{Consumes-nil}
+use Rattle.teco_session.proofs.Prelude.{length, ap, arith, Consumes-nil}
 use Rattle.teco_session.proofs.Pairs.{string_end-nil}
 use Rattle.teco_session.proofs.strings.next_piece.Goals as goal
 

@@ -1,7 +1,4 @@
-use Rattle.std.proofs.Common.{◌≡◌, ◌-◌, ◌≤◌, length, None}
-use Rattle.std.specs.Io.KnownBytes.{Consumes, prepend_known}
-use Rattle.teco_model.specs.Session.{string_end}
-use Rattle.teco_session.specs.declared.ahead.TheConstants.{CHUNK}
+use Rattle.teco_session.proofs.Prelude.{◌≡◌, ◌-◌, ◌≤◌, length, None, Consumes, prepend_known, string_end, CHUNK}
 use Rattle.teco_session.proofs.strings.next_piece.Given as goal
 
 -- the string's bytes came from the input, and hold no end

@@ -1,6 +1,6 @@
+use Rattle.teco_verify.proofs.Prelude.{IsFound, plain_fields}
 use Rattle.std.proofs.Common.{rules}
 use Rattle.teco_verify.proofs.Again.{accepted_checked}
-use Rattle.teco_verify.specs.Straight.{IsFound, plain_fields}
 use Rattle.teco_verify.proofs.verdict.checked.Goals as goal
 
 pub returns-clause-accepted : goal.returns-clause-accepted

@@ -1,4 +1,4 @@
-use Rattle.std.proofs.Common.{◌∙◌}
+use Rattle.teco_verify.proofs.Prelude.{◌∙◌}
 use Rattle.teco_verify.proofs.verdict.found_again.Goals as goal
 
 pub returns-in-Ok-read-clause-again : goal.returns-in-Ok-read-clause-again

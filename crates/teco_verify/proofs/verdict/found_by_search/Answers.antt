@@ -1,11 +1,7 @@
-use Rattle.std.proofs.Common.{◌∙◌, subst, sym}
-use Rattle.std.specs.Prelude.{IfOk}
-use Rattle.teco_library.specs.Library.{argument_of}
+use Rattle.teco_verify.proofs.Prelude.{◌∙◌, subst, sym, IfOk, argument_of, AreMadeBy, plain_fields}
 use Rattle.teco_verify.proofs.Accepted.{begins_none}
 use Rattle.teco_verify.proofs.Again.{accepted_made, made_plain}
 use Rattle.teco_verify.proofs.Judged.{judged_where_plain}
-use Rattle.teco_verify.specs.Again.{AreMadeBy}
-use Rattle.teco_verify.specs.Straight.{plain_fields}
 use Rattle.teco_verify.proofs.verdict.found_by_search.Goals as goal
 
 pub returns-in-Ok-clause-accepted : goal.returns-in-Ok-clause-accepted

@@ -1,10 +1,7 @@
-use Rattle.std.proofs.Common.{◌≡◌, true, false, subst, sym, ap, ◌∙◌}
+use Rattle.teco_verify.proofs.Prelude.{◌≡◌, true, false, subst, sym, ap, ◌∙◌, IsTextOf, Fields, IsFound}
 use Rattle.std.proofs.lemmas.Slice.Eq.{bytes_eq-Decides}
-use Rattle.teco_certificate.specs.Reads.{IsTextOf}
 use Rattle.teco_certificate.specs.Text.{certificate_text}
-use Rattle.teco_verifier.specs.certificate.Fields.{Fields}
 use Rattle.teco_verify.proofs.Again.{made_by_choices}
-use Rattle.teco_verify.specs.Straight.{IsFound}
 use Rattle.teco_verify.proofs.verdict.found_from.Goals as goal
 
 pub returns-in_default-clause-again : goal.returns-in_default-clause-again

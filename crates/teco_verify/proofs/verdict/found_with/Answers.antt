@@ -1,11 +1,8 @@
-use Rattle.std.proofs.Common.{◌≡◌, subst, sym, ap, ◌∙◌, Ok, Err}
-use Rattle.teco_library.specs.Library.{argument_of}
-use Rattle.teco_check.specs.Derived.{Derives, DerivesUpTo}
-use Rattle.teco_verifier.specs.table.Deriving.{derive}
+use Rattle.teco_verify.proofs.Prelude.{◌≡◌, subst, sym, ap, ◌∙◌, Ok, Err, argument_of, Derives, DerivesUpTo, derive}
+use Rattle.teco_verify.proofs.Prelude.{refusal_of_unfit, unfit_by, unfit_of, IsJudged}
 use Rattle.teco_verify.proofs.Again.{flawed_only_memory, found_same, underived_only_memory}
 use Rattle.teco_verify.proofs.Judged.{underived_judged, flawed_judged, certified_judged}
 use Rattle.teco_verify.proofs.Refused.{memory_is_found}
-use Rattle.teco_verify.specs.Refusing.{refusal_of_unfit, unfit_by, unfit_of, IsJudged}
 use Rattle.teco_verify.proofs.verdict.found_with.Goals as goal
 
 pub returns-in-Err-clause-judged : goal.returns-in-Err-clause-judged

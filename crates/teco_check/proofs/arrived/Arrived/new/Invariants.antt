@@ -1,4 +1,4 @@
-use Rattle.std.proofs.Common.{◌≡◌, replicate, Ok, None}
+use Rattle.teco_check.proofs.Prelude.{◌≡◌, replicate, Ok, None}
 use Rattle.teco_check.proofs.arrived.Arrived.new.Given as goal
 
 -- so many are there

@@ -1,4 +1,4 @@
-use Rattle.std.proofs.Common.{◌≡◌, ◌≤◌, length, refl, arith}
+use Rattle.teco_check.proofs.Prelude.{◌≡◌, ◌≤◌, length, refl, arith}
 use Rattle.teco_check.proofs.Arriving.{arrived_inside, arrived_outside}
 use Rattle.teco_check.proofs.arrived.Arrived.put.Goals as goal
 use Rattle.teco_check.proofs.arrived.Arrived.put.Goals.{else-target-gt0-via-then-target-gt0+else-target-len}

@@ -1,6 +1,5 @@
-use Rattle.std.proofs.Common.{◌≡◌, sym, ◌∙◌, ap, refl, Some, None, option_map}
+use Rattle.teco_check.proofs.Prelude.{◌≡◌, sym, ◌∙◌, ap, refl, Some, None, option_map, node_at}
 use Rattle.teco_model.specs.Element as elements
-use Rattle.teco_check.specs.Here.{node_at}
 use Rattle.teco_check.proofs.here.Here.at.Goals as goal
 
 pub returns-in-None : goal.returns-in-None

@@ -1,4 +1,4 @@
-use Rattle.std.proofs.Common.{◌≡◌, sym, ap, ◌∙◌, Err, rules}
+use Rattle.teco_check.proofs.Prelude.{◌≡◌, sym, ap, ◌∙◌, Err, rules}
 use Rattle.teco_check.proofs.Deleted.{deletes_by, left_by}
 use Rattle.teco_check.proofs.transfer.deletion.deletion.Goals as goal
 

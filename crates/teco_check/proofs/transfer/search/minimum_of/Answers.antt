@@ -1,4 +1,4 @@
-use Rattle.std.proofs.Common.{arith}
+use Rattle.teco_check.proofs.Prelude.{arith}
 use Rattle.teco_check.proofs.Searched.{minimum_within}
 use Rattle.teco_check.proofs.transfer.search.minimum_of.Goals as goal
 

@@ -1,9 +1,7 @@
-use Rattle.std.proofs.Common.{◌≡◌, List, ℕ, map, Some, ap, ◌∙◌}
-use Rattle.teco_model.specs.Element.{element_at}
+use Rattle.teco_expansion.proofs.Prelude.{◌≡◌, List, ℕ, map, Some, ap, ◌∙◌, element_at, Node, numbered, node_seen}
 use Rattle.teco_model.specs.Searching.{has_colon}
 use Rattle.teco_model.specs.State.{frame_of}
-use Rattle.teco_verifier.specs.expansion.Node.{Node, numbered}
-use Rattle.teco_expansion.specs.Seen.{read_of, node_seen}
+use Rattle.teco_expansion.specs.Seen.{read_of}
 use Rattle.teco_expansion.proofs.Numbered.{seen_at}
 use Rattle.teco_expansion.proofs.nodes.Nodes.colon.Goals as goal
 

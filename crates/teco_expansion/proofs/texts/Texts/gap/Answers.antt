@@ -1,4 +1,4 @@
-use Rattle.teco_expansion.specs.Texts.{library_of}
+use Rattle.teco_expansion.proofs.Prelude.{library_of}
 use Rattle.teco_expansion.proofs.texts.Texts.gap.Goals as goal
 
 pub returns : goal.returns

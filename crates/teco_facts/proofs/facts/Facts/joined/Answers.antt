@@ -1,4 +1,4 @@
-use Rattle.std.proofs.Common.{rules}
+use Rattle.teco_facts.proofs.Prelude.{rules}
 use Rattle.teco_facts.proofs.Joined.{fails_before, registers_fail, with_registers}
 use Rattle.teco_facts.proofs.facts.Facts.joined.Goals as goal
 

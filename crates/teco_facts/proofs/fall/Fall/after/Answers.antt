@@ -1,6 +1,4 @@
-use Rattle.std.proofs.Common.{◌<ℤ◌, arith}
-use Rattle.std.proofs.lemmas.Int.{ints}
-use Rattle.teco_facts.specs.Least.{unknown}
+use Rattle.teco_facts.proofs.Prelude.{◌<ℤ◌, arith, ints, unknown}
 use Rattle.teco_facts.proofs.Least.{kept_known, after_known, small_known}
 use Rattle.teco_facts.proofs.fall.Fall.after.Goals as goal
 

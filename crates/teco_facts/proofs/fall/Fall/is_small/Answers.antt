@@ -1,5 +1,4 @@
-use Rattle.std.proofs.Common.{arith}
-use Rattle.std.proofs.lemmas.Int.{ints}
+use Rattle.teco_facts.proofs.Prelude.{arith, ints}
 use Rattle.teco_facts.proofs.Least.{none_small}
 use Rattle.teco_facts.proofs.fall.Fall.is_small.Goals as goal
 

@@ -1,5 +1,4 @@
-use Rattle.std.proofs.Common.{sym, arith}
-use Rattle.std.proofs.lemmas.Int.{ints}
+use Rattle.teco_facts.proofs.Prelude.{sym, arith, ints}
 use Rattle.teco_facts.proofs.Least.{none_known}
 use Rattle.teco_facts.proofs.fall.Fall.known.Goals as goal
 

@@ -1,5 +1,4 @@
-use Rattle.std.proofs.Common.{pos, arith}
-use Rattle.std.proofs.lemmas.Int.{ints}
+use Rattle.teco_facts.proofs.Prelude.{pos, arith, ints}
 use Rattle.teco_facts.proofs.Least.{kept_known, some_known}
 use Rattle.teco_facts.proofs.fall.Fall.nothing.Goals as goal
 

@@ -1,6 +1,4 @@
-use Rattle.std.proofs.Common.{arith}
-use Rattle.std.proofs.lemmas.Int.{ints}
-use Rattle.teco_facts.specs.Least.{unknown}
+use Rattle.teco_facts.proofs.Prelude.{arith, ints, unknown}
 use Rattle.teco_facts.proofs.Least.{kept_known, none_known}
 use Rattle.teco_facts.proofs.fall.Fall.unknown.Goals as goal
 

@@ -1,4 +1,4 @@
-use Rattle.std.proofs.Common.{◌≤◌, ◌∙◌, length, arith}
+use Rattle.teco_facts.proofs.Prelude.{◌≤◌, ◌∙◌, length, arith}
 use Rattle.teco_facts.proofs.Shifted.{dropped_front, drop_fewer}
 use Rattle.teco_facts.proofs.few.Few.drop_front.Goals as goal
 

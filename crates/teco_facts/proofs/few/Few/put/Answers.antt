@@ -1,4 +1,4 @@
-use Rattle.std.proofs.Common.{◌<◌, length, length-take, arith}
+use Rattle.teco_facts.proofs.Prelude.{◌<◌, length, length-take, arith}
 use Rattle.teco_facts.proofs.Shifted.{put_front}
 use Rattle.teco_facts.proofs.few.Few.put.Goals as goal
 

@@ -1,5 +1,4 @@
-use Rattle.std.proofs.Common.{◌≡◌, true}
-use Rattle.teco_verifier.specs.facts.Values.{is_linear}
+use Rattle.teco_facts.proofs.Prelude.{◌≡◌, true, is_linear}
 use Rattle.teco_facts.proofs.Linear.{linear_is_number}
 use Rattle.teco_facts.proofs.number.Number.linear_or.Goals as goal
 

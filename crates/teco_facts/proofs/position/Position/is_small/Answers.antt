@@ -1,6 +1,4 @@
-use Rattle.std.proofs.Common.{sym, subst}
-use Rattle.teco_verifier.specs.facts.Facts.{Position}
-use Rattle.teco_facts.specs.Numbers.{AreSmall}
+use Rattle.teco_facts.proofs.Prelude.{sym, subst, Position, AreSmall}
 use Rattle.teco_facts.proofs.position.Position.is_small.Goals as goal
 
 pub returns-clause-no : goal.returns-clause-no

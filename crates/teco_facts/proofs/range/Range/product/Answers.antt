@@ -1,5 +1,4 @@
-use Rattle.std.proofs.Common.{refl, w64}
-use Rattle.std.proofs.lemmas.Int.{to_z-of_z}
+use Rattle.teco_facts.proofs.Prelude.{refl, w64, to_z-of_z}
 use Rattle.teco_facts.proofs.Wholes.{low_whole, high_whole}
 use Rattle.teco_facts.proofs.range.Range.product.Goals as goal
 

@@ -1,5 +1,4 @@
-use Rattle.std.proofs.Common.{arith}
-use Rattle.std.proofs.lemmas.Int.{ints, clamps}
+use Rattle.teco_facts.proofs.Prelude.{arith, ints, clamps}
 use Rattle.teco_facts.proofs.range.RangeMeets.met.Goals as goal
 
 pub invariant_of-result : goal.invariant_of-result

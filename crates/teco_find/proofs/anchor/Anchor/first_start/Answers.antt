@@ -1,5 +1,4 @@
-use Rattle.std.proofs.Common.{ap, ◌∙◌, drop}
-use Rattle.teco_find.specs.Pieces.{joined}
+use Rattle.teco_find.proofs.Prelude.{ap, ◌∙◌, drop, joined}
 use Rattle.teco_find.proofs.Starts.{first_start, no_start}
 use Rattle.teco_find.proofs.anchor.Anchor.first_start.Goals as goal
 

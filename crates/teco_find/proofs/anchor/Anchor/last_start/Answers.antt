@@ -1,5 +1,4 @@
-use Rattle.std.proofs.Common.{ap, ◌∙◌, take}
-use Rattle.teco_find.specs.Pieces.{joined}
+use Rattle.teco_find.proofs.Prelude.{ap, ◌∙◌, take, joined}
 use Rattle.teco_find.proofs.Starts.{last_start}
 use Rattle.teco_find.proofs.anchor.Anchor.last_start.Goals as goal
 

@@ -1,6 +1,5 @@
-use Rattle.std.proofs.Common.{◌≡◌, ◌≤◌, ◌-◌, length}
+use Rattle.teco_find.proofs.Prelude.{◌≡◌, ◌≤◌, ◌-◌, length, joined}
 use Rattle.teco_model.specs.Match.{first_from}
-use Rattle.teco_find.specs.Pieces.{joined}
 use Rattle.teco_find.proofs.pattern.Pattern.first_tried.Given as goal
 
 -- no match starts at a place that is passed

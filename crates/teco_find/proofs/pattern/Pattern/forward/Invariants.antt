@@ -1,6 +1,5 @@
-use Rattle.std.proofs.Common.{◌≡◌, ◌≤◌, ◌-◌, suc, length}
+use Rattle.teco_find.proofs.Prelude.{◌≡◌, ◌≤◌, ◌-◌, suc, length, joined}
 use Rattle.teco_model.specs.Match.{forward}
-use Rattle.teco_find.specs.Pieces.{joined}
 use Rattle.teco_find.proofs.pattern.Pattern.forward.Given as goal
 
 -- the matches that are left, from the last on, are those of all

@@ -1,5 +1,4 @@
-use Rattle.std.proofs.Common.{sym, ◌∙◌, arith}
-use Rattle.teco_find.specs.Pieces.{joined}
+use Rattle.teco_find.proofs.Prelude.{sym, ◌∙◌, arith, joined}
 use Rattle.teco_find.proofs.Matches.{last_found, last_missed, last_nowhere}
 use Rattle.teco_find.proofs.pattern.Pattern.last_before.Goals as goal
 

@@ -1,6 +1,5 @@
-use Rattle.std.proofs.Common.{◌≡◌, ◌≤◌}
+use Rattle.teco_find.proofs.Prelude.{◌≡◌, ◌≤◌, joined}
 use Rattle.teco_model.specs.Match.{last_before}
-use Rattle.teco_find.specs.Pieces.{joined}
 use Rattle.teco_find.proofs.pattern.Pattern.last_before.Given as goal
 
 -- no match starts at a place that is passed

@@ -1,6 +1,4 @@
-use Rattle.std.proofs.Common.{subst}
-use Rattle.teco_find.specs.Anchors.{Anchors}
-use Rattle.teco_find.specs.Pieces.{joined}
+use Rattle.teco_find.proofs.Prelude.{subst, Anchors, joined}
 use Rattle.teco_find.proofs.Matches.{last_standing}
 use Rattle.teco_find.proofs.pattern.Pattern.last_tried.Goals as goal
 

@@ -1,4 +1,4 @@
-use Rattle.teco_find.specs.Pieces.{joined}
+use Rattle.teco_find.proofs.Prelude.{joined}
 use Rattle.teco_find.proofs.Needled.{needle_rests}
 use Rattle.teco_find.proofs.pattern.Pattern.literals_rest.Goals as goal
 

@@ -1,7 +1,4 @@
-use Rattle.std.proofs.Common.{subst}
-use Rattle.teco_find.specs.Anchors.{Anchors}
-use Rattle.teco_find.specs.Needles.{IsNeedle}
-use Rattle.teco_find.specs.Pieces.{joined}
+use Rattle.teco_find.proofs.Prelude.{subst, Anchors, IsNeedle, joined}
 use Rattle.teco_find.proofs.Matches.{next_needle, next_standing}
 use Rattle.teco_find.proofs.pattern.Pattern.next_tried.Goals as goal
 

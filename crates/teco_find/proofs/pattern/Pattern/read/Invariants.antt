@@ -1,6 +1,4 @@
-use Rattle.std.proofs.Common.{◌≡◌, ◌++◌, ◌≤◌, Ok, length}
-use Rattle.std.specs.Prelude.{flat_map}
-use Rattle.teco_model.specs.Checked.{◌>>=◌}
+use Rattle.teco_find.proofs.Prelude.{◌≡◌, ◌++◌, ◌≤◌, Ok, length, flat_map, ◌>>=◌}
 use Rattle.teco_model.specs.Pattern as model
 use Rattle.teco_find.proofs.pattern.Pattern.read.Given as goal
 

@@ -1,10 +1,6 @@
-use Rattle.std.proofs.Common.{◌≡◌, ◌-◌, ◌+◌, suc, sym, ap, ◌∙◌, Some}
-use Rattle.std.specs.Option.{option_map_or}
+use Rattle.teco_find.proofs.Prelude.{◌≡◌, ◌-◌, ◌+◌, suc, sym, ap, ◌∙◌, Some, option_map_or, sought, Wanted, Span}
+use Rattle.teco_find.proofs.Prelude.{joined}
 use Rattle.teco_model.specs.Match as model
-use Rattle.teco_model.specs.Paging.{sought}
-use Rattle.teco_model.specs.declared.pattern.Sought.TheVariants.{Wanted}
-use Rattle.teco_model.specs.declared.pattern.Span.{Span}
-use Rattle.teco_find.specs.Pieces.{joined}
 use Rattle.teco_find.proofs.Matches.{sought_more}
 use Rattle.teco_find.proofs.pattern.Pattern.seek.Goals as goal
 

@@ -1,6 +1,4 @@
-use Rattle.std.proofs.Common.{◌≡◌, ◌≤◌, ◌-◌, suc, length}
-use Rattle.teco_model.specs.Paging.{sought}
-use Rattle.teco_find.specs.Pieces.{joined}
+use Rattle.teco_find.proofs.Prelude.{◌≡◌, ◌≤◌, ◌-◌, suc, length, sought, joined}
 use Rattle.teco_find.proofs.pattern.Pattern.seek.Given as goal
 
 -- the matches that are left, from the last on, are those of all

@@ -1,6 +1,4 @@
-use Rattle.std.proofs.Common.{arith, subst, sym, ◌-ℤ◌, ◌≤ℤ◌}
-use Rattle.std.proofs.lemmas.Int.{ints}
-use Rattle.teco_linear.specs.DifferenceBounds.{Table, AreBounds, number_at}
+use Rattle.teco_linear.proofs.Prelude.{arith, subst, sym, ◌-ℤ◌, ◌≤ℤ◌, ints, Table, AreBounds, number_at}
 use Rattle.teco_linear.proofs.Integers.{passed}
 use Rattle.teco_linear.proofs.Differences.{bounded}
 use Rattle.teco_linear.proofs.bounds.DifferenceBounds.add.Goals as goal

@@ -1,6 +1,4 @@
-use Rattle.std.proofs.Common.{subst, IfSome, ◌-ℤ◌, ◌≤ℤ◌}
-use Rattle.teco_linear.specs.Form.{Valuation}
-use Rattle.teco_linear.specs.DifferenceBounds.{Table, AreBounds, number_of}
+use Rattle.teco_linear.proofs.Prelude.{subst, IfSome, ◌-ℤ◌, ◌≤ℤ◌, Valuation, Table, AreBounds, number_of}
 use Rattle.teco_linear.proofs.Differences.{bound_at}
 use Rattle.teco_linear.proofs.bounds.DifferenceBounds.bound.Goals as goal
 

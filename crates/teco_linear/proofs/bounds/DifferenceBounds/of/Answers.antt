@@ -1,5 +1,4 @@
-use Rattle.std.proofs.Common.{arith, subst, sym, get_or}
-use Rattle.teco_linear.specs.Implied.{Holds}
+use Rattle.teco_linear.proofs.Prelude.{arith, subst, sym, get_or, Holds}
 use Rattle.teco_linear.proofs.bounds.DifferenceBounds.of.Goals as goal
 
 pub loop-constraint-preserved : goal.loop-constraint-preserved

@@ -1,8 +1,4 @@
-use Rattle.std.proofs.Common.{ℕ}
-use Rattle.std.specs.List.{All}
-use Rattle.teco_linear.specs.Form.{Valuation}
-use Rattle.teco_linear.specs.Implied.{Holds}
-use Rattle.teco_linear.specs.DifferenceBounds.{AreBounds}
+use Rattle.teco_linear.proofs.Prelude.{ℕ, All, Valuation, Holds, AreBounds}
 use Rattle.teco_linear.proofs.bounds.DifferenceBounds.of.Given as goal
 
 -- the bounds hold as they stand

@@ -1,5 +1,5 @@
-use Rattle.std.proofs.Common.{arith, rules}
-use Rattle.std.proofs.lemmas.Int.{to_z-of_z, ints}
+use Rattle.teco_linear.proofs.Prelude.{arith, to_z-of_z, ints}
+use Rattle.std.proofs.Common.{rules}
 use Rattle.teco_linear.proofs.Integers.{passed}
 use Rattle.teco_linear.proofs.Differences.{slack-number, slack-right, slack-left}
 use Rattle.teco_linear.proofs.difference.Difference.with.Goals as goal

@@ -1,5 +1,4 @@
-use Rattle.std.proofs.Common.{arith, negsuc}
-use Rattle.std.proofs.lemmas.Int.{ints}
+use Rattle.teco_linear.proofs.Prelude.{arith, negsuc, ints}
 use Rattle.teco_linear.proofs.Integers.{passed}
 use Rattle.teco_linear.proofs.Values.{value-minus}
 use Rattle.teco_linear.proofs.form.Form.sub.Goals as goal

@@ -1,5 +1,4 @@
-use Rattle.std.proofs.Common.{arith}
-use Rattle.std.proofs.lemmas.Int.{to_z-of_z}
+use Rattle.teco_linear.proofs.Prelude.{arith, to_z-of_z}
 use Rattle.teco_linear.proofs.Integers.{passed}
 use Rattle.teco_linear.proofs.Values.{term_value-scaled}
 use Rattle.teco_linear.proofs.term.Term.scaled.Goals as goal

@@ -1,8 +1,6 @@
-use Rattle.std.proofs.Common.{◌≡◌, ◌≤◌, ◌+◌, ◌-◌, ◌++◌, length, take, drop, sym, ap, ◌∙◌, arith, length-append}
-use Rattle.std.proofs.Common.{slice_range}
-use Rattle.teco_base.specs.declared.TheConstants.{LIMIT}
+use Rattle.teco_pages.proofs.Prelude.{◌≡◌, ◌≤◌, ◌+◌, ◌-◌, ◌++◌, length, take, drop, sym, ap, ◌∙◌, arith, length-append}
+use Rattle.teco_pages.proofs.Prelude.{slice_range, LIMIT, before_form_feed, has_form_feed, behind_form_feed}
 use Rattle.teco_pages.proofs.Cuts.{drop-part, take-part}
-use Rattle.teco_model.specs.Pages.{before_form_feed, has_form_feed, behind_form_feed}
 use Rattle.teco_pages.proofs.ahead.Ahead.give.Goals as goal
 
 pub returns : goal.returns

@@ -21,7 +21,7 @@ use denote.Triple.Entry.{on_entry}
 use denote.Triple.Spec.{Meets, triple_of}
 use denote.Triple.Table.{entered}
 use denote.Triple.Walked.{says, ends_at, walked, walk_Meets}
-use Rattle.teco_pages.specs.declared.count.Count.{Count}
+use Rattle.teco_pages.proofs.Prelude.{Count}
 use Rattle.teco_pages.specs.contracts.count.Count as T
 use Rattle.teco_pages.specs.contracts.count.Count.new.Key.{name as #it}
 use Rattle.teco_pages.specs.contracts.count.Count.new as it

@@ -1,5 +1,6 @@
 -- An empty body. The borrow is opened and closed at the next number.
-use Rattle.std.proofs.Common.{ℕ, suc, [], ◌∷◌, List, refl, MutBor}
+use Rattle.teco_pages.proofs.Prelude.{ℕ, suc, [], ◌∷◌, List, refl, Count}
+use Rattle.std.proofs.Common.{MutBor}
 use seplogic.Ra.Ura.{Ura}
 use mir.Syntax.{named}
 use mir.Val.{Val, vunit, vptr}
@@ -26,7 +27,6 @@ use denote.Triple.Entry.{on_entry}
 use denote.Triple.Spec.{Meets, triple_of}
 use denote.Triple.Table.{entered}
 use denote.Triple.Walked.{says, Stays, stay_ref, walk_of, AllGo, Goes-ref, Walks, ends_at, walked, walk_Meets}
-use Rattle.teco_pages.specs.declared.count.Count.{Count}
 use Rattle.teco_pages.specs.contracts.count.Count as T
 use Rattle.teco_pages.specs.contracts.count.Count.rise.Key.{name as #it}
 use Rattle.teco_pages.specs.contracts.count.Count.rise as it

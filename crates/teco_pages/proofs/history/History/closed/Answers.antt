@@ -1,6 +1,5 @@
-use Rattle.std.proofs.Common.{rules}
+use Rattle.teco_pages.proofs.Prelude.{rules, closed}
 use Rattle.teco_pages.proofs.Bytes.{noted}
-use Rattle.teco_pages.specs.Events.{closed}
 use Rattle.teco_pages.proofs.history.History.closed.Goals as goal
 
 pub returns-clause-files : goal.returns-clause-files

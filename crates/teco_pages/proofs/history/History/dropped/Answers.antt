@@ -1,6 +1,5 @@
-use Rattle.std.proofs.Common.{rules}
+use Rattle.teco_pages.proofs.Prelude.{rules, dropped}
 use Rattle.teco_pages.proofs.Bytes.{noted}
-use Rattle.teco_pages.specs.Events.{dropped}
 use Rattle.teco_pages.proofs.history.History.dropped.Goals as goal
 
 pub returns-clause-files : goal.returns-clause-files

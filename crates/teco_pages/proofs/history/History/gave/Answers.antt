@@ -1,6 +1,5 @@
-use Rattle.std.proofs.Common.{rules, take}
+use Rattle.teco_pages.proofs.Prelude.{rules, take, gave}
 use Rattle.teco_pages.proofs.Bytes.{noted}
-use Rattle.teco_pages.specs.Events.{gave}
 use Rattle.teco_pages.proofs.history.History.gave.Goals as goal
 
 pub returns-else-n-eq0-clause-bytes : goal.returns-else-n-eq0-clause-bytes

@@ -1,6 +1,5 @@
-use Rattle.std.proofs.Common.{rules}
+use Rattle.teco_pages.proofs.Prelude.{rules, measured}
 use Rattle.teco_pages.proofs.Bytes.{noted}
-use Rattle.teco_pages.specs.Events.{measured}
 use Rattle.teco_pages.proofs.history.History.measured.Goals as goal
 
 pub returns-clause-files : goal.returns-clause-files

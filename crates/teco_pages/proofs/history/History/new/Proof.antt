@@ -1,5 +1,5 @@
 -- The history begins with no events.
-use Rattle.std.proofs.Common.{[], ◌∷◌, refl}
+use Rattle.teco_pages.proofs.Prelude.{[], ◌∷◌, refl}
 use seplogic.Ra.Ura.{Ura}
 use mir.Val.{Val}
 use base.Logic.{SProp, ent}

@@ -1,6 +1,5 @@
-use Rattle.std.proofs.Common.{rules}
+use Rattle.teco_pages.proofs.Prelude.{rules, opened_output}
 use Rattle.teco_pages.proofs.Bytes.{noted}
-use Rattle.teco_pages.specs.Events.{opened_output}
 use Rattle.teco_pages.proofs.history.History.opened_output.Goals as goal
 
 pub returns-clause-files : goal.returns-clause-files

@@ -1,5 +1,5 @@
 -- The new history has the events of the old one, and behind them the one that is noted.
-use Rattle.std.proofs.Common.{List, [], ◌∷◌, ◌++◌, refl}
+use Rattle.teco_pages.proofs.Prelude.{List, [], ◌∷◌, ◌++◌, refl}
 use seplogic.Ra.Ura.{Ura}
 use mir.Val.{Val, vptr}
 use base.Logic.{SProp, ent}

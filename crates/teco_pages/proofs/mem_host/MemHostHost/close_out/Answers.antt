@@ -1,4 +1,4 @@
-use Rattle.std.proofs.Common.{rules}
+use Rattle.teco_pages.proofs.Prelude.{rules}
 use Rattle.teco_pages.proofs.Bytes.{told-closed}
 use Rattle.teco_pages.proofs.mem_host.MemHostHost.close_out.Goals as goal
 

@@ -1,6 +1,5 @@
-use Rattle.std.proofs.Common.{◌≡◌, ◌≤◌, ◌+◌, ◌-◌, ◌++◌, take, length, drop, sym, ap, ◌∙◌, arith}
+use Rattle.teco_pages.proofs.Prelude.{◌≡◌, ◌≤◌, ◌+◌, ◌-◌, ◌++◌, take, length, drop, sym, ap, ◌∙◌, arith, HostFiles}
 use Rattle.teco_pages.proofs.Bytes.{told-end, told-read}
-use Rattle.teco_pages.specs.HostFiles.{HostFiles}
 use Rattle.teco_pages.specs.MemFiles.{MemFiles, output_in}
 use Rattle.teco_pages.proofs.Named.{read-part, read-end}
 use Rattle.teco_pages.proofs.mem_host.MemHostHost.read.Goals as goal

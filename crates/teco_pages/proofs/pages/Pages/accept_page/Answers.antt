@@ -1,6 +1,4 @@
-use Rattle.std.proofs.Common.{◌≡◌, true}
-use Rattle.std.specs.Prelude.{is_some}
-use Rattle.teco_pages.specs.Held.{name_in}
+use Rattle.teco_pages.proofs.Prelude.{◌≡◌, true, is_some, name_in}
 use Rattle.teco_pages.proofs.Ready.{accepted-some}
 use Rattle.teco_pages.proofs.pages.Pages.accept_page.Goals as goal
 

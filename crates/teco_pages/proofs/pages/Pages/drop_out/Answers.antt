@@ -1,7 +1,5 @@
-use Rattle.std.proofs.Common.{◌≡◌, ap}
+use Rattle.teco_pages.proofs.Prelude.{◌≡◌, ap, dropped, Held}
 use Rattle.teco_pages.proofs.Touching.{touches-just}
-use Rattle.teco_pages.specs.Events.{dropped}
-use Rattle.teco_pages.specs.Held.{Held}
 use Rattle.teco_pages.proofs.pages.Pages.drop_out.Goals as goal
 
 pub returns-in-Err-clause-noted : goal.returns-in-Err-clause-noted

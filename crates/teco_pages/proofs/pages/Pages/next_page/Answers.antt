@@ -1,6 +1,4 @@
-use Rattle.std.proofs.Common.{◌≡◌, true, false}
-use Rattle.std.specs.Prelude.{is_some}
-use Rattle.teco_pages.specs.Held.{name_in}
+use Rattle.teco_pages.proofs.Prelude.{◌≡◌, true, false, is_some, name_in}
 use Rattle.teco_pages.proofs.Ready.{ready-some, ready-none, refused-none, readied-none}
 use Rattle.teco_pages.proofs.pages.Pages.next_page.Goals as goal
 

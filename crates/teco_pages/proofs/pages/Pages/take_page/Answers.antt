@@ -1,6 +1,5 @@
-use Rattle.std.proofs.Common.{◌≡◌, ap, subst, sym, ◌∙◌, true, IsSome}
-use Rattle.std.specs.Prelude.{is_some}
-use Rattle.teco_pages.specs.Held.{name_in}
+use Rattle.teco_pages.proofs.Prelude.{◌≡◌, ap, subst, sym, ◌∙◌, true, is_some, name_in}
+use Rattle.std.proofs.Common.{IsSome}
 use Rattle.teco_pages.proofs.Ready.{accepted-some, is-ready}
 use Rattle.teco_pages.proofs.pages.Pages.take_page.Goals as goal
 

@@ -1,5 +1,4 @@
-use Rattle.std.proofs.Common.{◌++◌}
-use Rattle.std.proofs.lemmas.Result.{err_from_is_err_and}
+use Rattle.teco_pages.proofs.Prelude.{◌++◌, err_from_is_err_and}
 use Rattle.teco_pages.proofs.Touching.{touches-more}
 use Rattle.teco_pages.proofs.Written.{front-more, both-as}
 use Rattle.teco_pages.proofs.pages.Pages.write_page.Goals as goal

@@ -1,6 +1,6 @@
-use Rattle.std.proofs.Common.{◌≡◌, ◌++◌, false, true, None, Err, ap, subst, ◌∙◌}
-use Rattle.std.proofs.lemmas.Result.{err_from_is_err_and}
-use Rattle.teco_pages.specs.Held.{Held, written_if_any, behind_held, name_in}
+use Rattle.teco_pages.proofs.Prelude.{◌≡◌, ◌++◌, false, true, None, ap, subst, ◌∙◌, err_from_is_err_and, Held}
+use Rattle.teco_pages.proofs.Prelude.{written_if_any, behind_held, name_in}
+use Rattle.std.proofs.Common.{Err}
 use Rattle.teco_pages.proofs.Ready.{held}
 use Rattle.teco_pages.proofs.Rest.{held-parts, rest-all, rest-cut, rest-copied, rest-end}
 use Rattle.teco_pages.proofs.Touching.{touches-more}

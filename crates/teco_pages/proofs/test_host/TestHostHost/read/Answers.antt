@@ -1,4 +1,4 @@
-use Rattle.std.proofs.Common.{rules, ◌≡◌, ◌<◌, ◌++◌, length, drop}
+use Rattle.teco_pages.proofs.Prelude.{rules, ◌≡◌, ◌<◌, ◌++◌, length, drop}
 use Rattle.teco_pages.proofs.Named.{reads-more}
 use Rattle.teco_pages.proofs.test_host.TestHostHost.read.Goals as goal
 

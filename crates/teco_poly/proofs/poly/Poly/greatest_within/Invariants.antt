@@ -1,5 +1,4 @@
-use Rattle.std.proofs.Common.{ℕ, List, ◌+◌, ◌^◌, ◌<◌, ◌≤◌}
-use Rattle.teco_poly.specs.Polynomial.{value}
+use Rattle.teco_poly.proofs.Prelude.{ℕ, List, ◌+◌, ◌^◌, ◌<◌, ◌≤◌, value}
 use Rattle.teco_poly.proofs.poly.Poly.greatest_within.Given as goal
 
 -- the value is at most the bound here, and above it two to this power further on

@@ -1,4 +1,4 @@
-use Rattle.std.proofs.Common.{ap, Some}
+use Rattle.teco_poly.proofs.Prelude.{ap, Some}
 use Rattle.teco_poly.proofs.Spelling.{one_text}
 use Rattle.teco_poly.proofs.poly.Poly.read.Goals as goal
 

@@ -1,6 +1,5 @@
-use Rattle.std.proofs.Common.{◌≡◌, refl}
+use Rattle.teco_verify.proofs.Prelude.{◌≡◌, refl, node_at}
 use Rattle.teco_check.proofs.Numbered.{numbered_at}
-use Rattle.teco_check.specs.Here.{node_at}
 use Rattle.teco_verifier.specs.expansion.Node.{place_of}
 use Rattle.teco_verify.proofs.refusal.Refusal.at.Goals as goal
 

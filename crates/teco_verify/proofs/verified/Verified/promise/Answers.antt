@@ -1,7 +1,5 @@
-use Rattle.std.proofs.Common.{subst, sym}
-use Rattle.teco_verifier.specs.certificate.Fields.{Fields}
+use Rattle.teco_verify.proofs.Prelude.{subst, sym, Fields, IsCertified}
 use Rattle.teco_verify.proofs.Promised.{certified_ends}
-use Rattle.teco_verify.specs.Certified.{IsCertified}
 use Rattle.teco_verify.proofs.verified.Verified.promise.Goals as goal
 
 pub of-requires : goal.of-requires

@@ -1,6 +1,0 @@
-use Rattle.std.proofs.Common.{◌≡◌, length}
-use Rattle.teco_verify.proofs.course.Course.new.Given as goal
-
--- each node before this one is read
-abbrev pub invariant-loop-at : goal.invariant-loop-at
-invariant-loop-at l = length l.stops.items ≡ l.at

@@ -1,0 +1,5 @@
+use Rattle.teco_verify.proofs.Prelude.{◌≡◌, length, REGISTERS}
+use Rattle.teco_verify.proofs.memo.BodyText.needed.Given as goal
+
+abbrev pub invariant-loop-register : goal.invariant-loop-register
+invariant-loop-register l = length l.texts ≡ REGISTERS

@@ -1,0 +1,5 @@
+use Rattle.teco_verify.proofs.Prelude.{◌≡◌, length, REGISTERS}
+use Rattle.teco_verify.proofs.memo.BodyText.others.Given as goal
+
+abbrev pub invariant-loop-register : goal.invariant-loop-register
+invariant-loop-register l = length l.others ≡ REGISTERS
