@@ -4,19 +4,21 @@ use crate::cuts::around;
 use crate::fault::SearchStop;
 use crate::keys::{bound_form, key_of, projected};
 use crate::record::Record;
+use crate::reduced::{Bounded, UsedLimits};
 use crate::rounds::at_trail;
 use crate::search::{Keys, PathSearch};
 use crate::trail::Trail;
 use teco_linear::Form;
 
 // A path from a key to another, or to the end: the forms of the measures where it ends, its
-// constraints, and its last peak.
+// constraints, what these say without limits, and its last peak.
 #[derive(Drop)]
 pub struct Leg {
     pub source: usize,
     pub target: Option<usize>,
     pub forms: Vec<Option<Form>>,
     pub constraints: Vec<Form>,
+    pub bounded: Bounded,
     pub peak: Option<usize>,
     pub passed: Option<usize>,
 }
@@ -111,11 +113,13 @@ impl PathSearch<'_> {
         };
         let (peak, passed) = (trail.peak, trail.passed);
         let Trail { case, .. } = trail;
+        let bounded = Bounded::of(&case.constraints, UsedLimits::None, self.alloc)?;
         Ok(Leg {
             source,
             target,
             forms: case.forms,
             constraints: case.constraints,
+            bounded,
             peak,
             passed,
         })

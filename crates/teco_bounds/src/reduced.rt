@@ -6,7 +6,7 @@ use crate::numbers::common;
 use crate::programs::{Coefficient, add_form};
 use std::alloc::Global;
 use teco_linear::{Difference, Form, Scale};
-use teco_rows::applied::copied;
+use teco_rows::applied::{copied, copied_constraints};
 
 // The most rounds of taking symbols out.
 const ROUNDS: usize = 8;
@@ -288,41 +288,68 @@ pub struct Demand {
     pub constraints: Vec<Form>,
 }
 
-// The bounds that constraints give which bound differences; the others are put aside. Limits may be
-// left out.
-pub fn bounded(
-    constraints: &[Form],
-    limits: UsedLimits,
-    alloc: Global,
-) -> Result<(Bounds, Vec<Form>), SearchStop> {
-    let mut bounds = Bounds::none(alloc)?;
-    let mut rough: Vec<Form> = Vec::new(alloc);
-    for form in constraints {
-        if !limits.take(form) {
-            continue;
-        }
-        if Difference::of(form).is_some() {
-            bounds.add(form, alloc)?;
-        } else {
-            rough.push(copied(form, alloc)?)?;
-        }
+// What constraints say: the bounds of those that bound differences, and the others. Limits may be left out.
+#[derive(Drop)]
+pub struct Bounded {
+    pub bounds: Bounds,
+    pub rough: Vec<Form>,
+}
+
+impl Bounded {
+    pub fn of(
+        constraints: &[Form],
+        limits: UsedLimits,
+        alloc: Global,
+    ) -> Result<Bounded, SearchStop> {
+        let mut all = Bounded {
+            bounds: Bounds::none(alloc)?,
+            rough: Vec::new(alloc),
+        };
+        all.add(constraints, limits, alloc)?;
+        Ok(all)
     }
-    Ok((bounds, rough))
+
+    pub fn copied(&self, alloc: Global) -> Result<Bounded, SearchStop> {
+        Ok(Bounded {
+            bounds: self.bounds.copied(alloc)?,
+            rough: copied_constraints(&self.rough, alloc)?,
+        })
+    }
+
+    // Adds what more constraints say.
+    pub fn add(
+        &mut self,
+        constraints: &[Form],
+        limits: UsedLimits,
+        alloc: Global,
+    ) -> Result<(), SearchStop> {
+        for form in constraints {
+            if !limits.take(form) {
+                continue;
+            }
+            if Difference::of(form).is_some() {
+                self.bounds.add(form, alloc)?;
+            } else {
+                self.rough.push(copied(form, alloc)?)?;
+            }
+        }
+        Ok(())
+    }
 }
 
 // A demand that says as much by fewer constraints and symbols; none where the constraints can't all hold. Limits
 // may be left out.
 pub fn reduced(
     entries: &[Coefficient],
-    constraints: &[Form],
+    constraints: &Bounded,
     limits: UsedLimits,
     alloc: Global,
 ) -> Result<Option<Demand>, SearchStop> {
-    let (bounds, rough) = bounded(constraints, limits, alloc)?;
+    let Bounded { bounds, rough } = constraints;
     if bounds.is_void() {
         return Ok(None);
     }
-    let equals = equal_symbols(&bounds, alloc)?;
+    let equals = equal_symbols(bounds, alloc)?;
     let entries = equals.put_entries(entries, alloc)?;
     let mut kept: Vec<u32> = Vec::new(alloc);
     for entry in &entries {
@@ -334,12 +361,12 @@ pub fn reduced(
     }
     let mut symbols = Vec::from_slice(alloc, &kept)?;
     let mut forms: Vec<Form> = Vec::new(alloc);
-    for form in &rough {
+    for form in rough {
         let form = equals.put(form, alloc)?;
         add_symbols(&mut symbols, &form)?;
         add(&mut forms, form, alloc)?;
     }
-    for form in differences(&bounds, &symbols, alloc)? {
+    for form in differences(bounds, &symbols, alloc)? {
         if limits.take(&form) {
             add(&mut forms, form, alloc)?;
         }

@@ -2,7 +2,7 @@
 use crate::bounds::Bounds;
 use crate::fault::SearchStop;
 use crate::keys::{CODE_BEFORE, CODE_HERE, all_forms};
-use crate::reduced::{UsedLimits, add_symbols, bounded};
+use crate::reduced::{Bounded, UsedLimits, add_symbols};
 use std::alloc::Global;
 use teco_linear::{Difference, Form};
 use teco_paths::cut::copied_shape;
@@ -117,7 +117,11 @@ impl Trail {
         if self.is_lean || self.case.constraints.len() <= MOST_CONSTRAINTS {
             return Ok(());
         }
-        let (bounds, mut rough) = bounded(&self.case.constraints, UsedLimits::All, alloc)?;
+        let Bounded { bounds, mut rough } = Bounded::of(
+            &self.case.constraints,
+            UsedLimits::All,
+            alloc,
+        )?;
         let mut live: Vec<u32> = Vec::new(alloc);
         for form in self.case.forms.iter().flatten() {
             add_symbols(&mut live, form)?;

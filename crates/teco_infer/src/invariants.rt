@@ -37,7 +37,7 @@ fn add_legs(
         if span.is_none_or(|span| web.is_within(leg, span)) {
             add_source(sought, &mut entries, leg.source)?;
         }
-        sought.imply(leg.source, &leg.constraints, entries)?;
+        sought.imply_on(leg, entries)?;
     }
     Ok(())
 }
@@ -85,8 +85,8 @@ fn tried(
     sought.imply(open.source, &open.constraints, entries)?;
     sought.settle()?;
     let work = sought.draft.work(PIVOTS);
-    if work > known.work {
-        return Ok((None, work));
+    if !known.affords(work) {
+        return Err(SearchStop::Refused(SearchRefusal::TooMuch));
     }
     match sought.draft.solved(PIVOTS)? {
         Some(values) => Ok((Some(claims_of(&sought, &values)?), work)),
@@ -103,7 +103,7 @@ fn invariant(
     alloc: Global,
 ) -> Result<Option<Vec<Form>>, SearchStop> {
     let (found, work) = tried(web, known, open, span, alloc)?;
-    known.spend(work)?;
+    known.spend(work);
     Ok(found)
 }
 

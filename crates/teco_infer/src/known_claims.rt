@@ -1,6 +1,6 @@
 //! Claims that are known besides facts.
 use std::alloc::Global;
-use teco_bounds::fault::{SearchRefusal, SearchStop};
+use teco_bounds::fault::SearchStop;
 use teco_bounds::rounds::at_forms;
 use teco_linear::Form;
 use teco_rows::applied::copied;
@@ -36,13 +36,14 @@ impl KnownClaims {
         }
     }
 
-    // Takes from the work that is left.
-    pub fn spend(&mut self, work: usize) -> Result<(), SearchStop> {
-        self.work = self
-            .work
-            .checked_sub(work)
-            .ok_or(SearchStop::Refused(SearchRefusal::TooMuch))?;
-        Ok(())
+    // Whether so much work is left.
+    pub fn affords(&self, work: usize) -> bool {
+        work <= self.work
+    }
+
+    // Takes from the work that is left, which is as much.
+    pub fn spend(&mut self, work: usize) {
+        self.work = self.work.saturating_sub(work);
     }
 
     // Whether this is claimed at a key already.

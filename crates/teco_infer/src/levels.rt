@@ -5,7 +5,7 @@ use crate::polynomials::whole;
 use crate::potentials::{PotentialProgram, lowest, product};
 use crate::wanted::{Scope, WantedBound};
 use std::alloc::Global;
-use teco_bounds::fault::SearchStop;
+use teco_bounds::fault::{SearchRefusal, SearchStop};
 use teco_bounds::keys::STEPS;
 use teco_bounds::legs::{Leg, Web};
 use teco_bounds::programs::Coefficient;
@@ -205,7 +205,7 @@ fn add_inside(
         add_number(&mut entries, None, -1)?;
         turns.slacks.push((place, slack))?;
     }
-    sought.imply(leg.source, &leg.constraints, entries)
+    sought.imply_on(leg, entries)
 }
 
 // That what is sought is within the polynomial where a path comes to a level.
@@ -220,7 +220,7 @@ fn add_arrival(
     sought
         .unknowns
         .add(&mut entries, target, &leg.forms, -1, alloc)?;
-    sought.imply(leg.source, &leg.constraints, entries)
+    sought.imply_on(leg, entries)
 }
 
 // The program of a level.
@@ -327,8 +327,8 @@ fn tried(
 ) -> Result<(Option<KeyLevel>, usize), SearchStop> {
     let turns = turns_of(web, known, levels, &keys, highest)?;
     let work = turns.sought.draft.work(PIVOTS);
-    if work > known.work {
-        return Ok((None, work));
+    if !known.affords(work) {
+        return Err(SearchStop::Refused(SearchRefusal::TooMuch));
     }
     let solved = turns.sought.draft.solved(PIVOTS)?;
     let Some(values) = solved else {
@@ -351,7 +351,7 @@ fn add_level(
 ) -> Result<bool, SearchStop> {
     let alloc = web.record.alloc;
     let (found, work) = tried(web, known, levels, keys, highest)?;
-    known.spend(work)?;
+    known.spend(work);
     match found {
         Some(level) => {
             known.add(claims_of(&level, alloc)?, &[], alloc)?;

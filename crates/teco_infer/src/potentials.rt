@@ -2,17 +2,16 @@
 use crate::known_claims::{KnownClaims, is_plain};
 use crate::wanted::{Scope, WantedBound};
 use std::alloc::Global;
-use teco_bounds::bounds::Bounds;
-use teco_bounds::fault::SearchStop;
+use teco_bounds::fault::{SearchRefusal, SearchStop};
 use teco_bounds::keys::{STEPS, least_forms, power_of};
 use teco_bounds::legs::{Leg, LegStart, Web};
 use teco_bounds::numbers::common;
 use teco_bounds::programs::{Coefficient, DraftProgram, add_form};
-use teco_bounds::reduced::{Demand, UsedLimits, bounded, reduced};
+use teco_bounds::reduced::{Bounded, Demand, UsedLimits, reduced};
 use teco_bounds::rounds::at_forms;
 use teco_bounds::steps::constant;
 use teco_linear::{Form, Scale, Term};
-use teco_rows::applied::{copied, copied_constraints, form_at};
+use teco_rows::applied::{copied, form_at};
 use teco_simplex::{Assignment, Relation, Sign};
 
 // An unknown coefficient: of a form over the places of measures, times a power of N.
@@ -321,38 +320,18 @@ pub fn lowest(form: &Form, alloc: Global) -> Result<Form, SearchStop> {
     Ok(sum)
 }
 
-// The differences that a path tells of, which are bounded where that is first asked for.
-#[derive(Drop)]
-struct Told<'a> {
-    leg: &'a Leg,
-    bounds: Option<Bounds>,
-}
-
-impl Told<'_> {
-    // Whether a form is no greater than another.
-    fn is_below(
-        &mut self,
-        form: &Form,
-        above: &Option<Form>,
-        alloc: Global,
-    ) -> Result<bool, SearchStop> {
-        let Some(above) = above else {
-            return Ok(false);
-        };
-        let more = above.sub(form, alloc)?;
-        if more.is_harmless() {
-            return Ok(true);
-        }
-        if self.bounds.is_none() {
-            let (bounds, _rough) = bounded(&self.leg.constraints, UsedLimits::None, alloc)?;
-            self.bounds = Some(bounds);
-        }
-        Ok(
-            self.bounds
-                .as_ref()
-                .is_some_and(|bounds| bounds.shows(&more)),
-        )
-    }
+// Whether a form is no greater on a path than another.
+fn is_below(
+    leg: &Leg,
+    form: &Form,
+    above: &Option<Form>,
+    alloc: Global,
+) -> Result<bool, SearchStop> {
+    let Some(above) = above else {
+        return Ok(false);
+    };
+    let more = above.sub(form, alloc)?;
+    Ok(more.is_harmless() || leg.bounded.bounds.shows(&more))
 }
 
 // A program with its unknowns, for what is wanted.
@@ -408,20 +387,43 @@ impl<'a> PotentialProgram<'a> {
         })
     }
 
-    // That entries are implied by the constraints of a path from a key, and what is known there.
+    // That entries are implied by constraints on the way from a key, and what is known there.
     pub fn imply(
         &mut self,
         source: usize,
         constraints: &[Form],
         entries: Vec<Coefficient>,
     ) -> Result<(), SearchStop> {
-        let alloc = self.draft.alloc;
-        let mut all = copied_constraints(constraints, alloc)?;
-        if let Some(start) = self.web.starts.get(source) {
-            let mut known = self.known.at(source, &start.forms, alloc)?;
-            all.append(&mut known)?;
+        let bounded = Bounded::of(constraints, self.limits, self.draft.alloc)?;
+        self.imply_by(source, bounded, &entries)
+    }
+
+    // That entries are implied by the constraints of a path, and what is known where it begins.
+    pub fn imply_on(&mut self, leg: &Leg, entries: Vec<Coefficient>) -> Result<(), SearchStop> {
+        if self.limits != UsedLimits::None {
+            return self.imply(leg.source, &leg.constraints, entries);
         }
-        if let Some(demand) = reduced(&entries, &all, self.limits, alloc)? {
+        if leg.bounded.bounds.is_void() {
+            return Ok(());
+        }
+        let bounded = leg.bounded.copied(self.draft.alloc)?;
+        self.imply_by(leg.source, bounded, &entries)
+    }
+
+    // That entries are implied by what constraints say, and what is known at a key.
+    fn imply_by(
+        &mut self,
+        source: usize,
+        bounded: Bounded,
+        entries: &[Coefficient],
+    ) -> Result<(), SearchStop> {
+        let alloc = self.draft.alloc;
+        let mut all = bounded;
+        if let Some(start) = self.web.starts.get(source) {
+            let known = self.known.at(source, &start.forms, alloc)?;
+            all.add(&known, self.limits, alloc)?;
+        }
+        if let Some(demand) = reduced(entries, &all, self.limits, alloc)? {
             self.demand(demand)?;
         }
         Ok(())
@@ -498,7 +500,7 @@ impl<'a> PotentialProgram<'a> {
         if let Some(target) = leg.target {
             self.add_sum(&mut entries, target, &leg.forms, (wanted, -1))?;
         }
-        self.imply(leg.source, &leg.constraints, entries)
+        self.imply_on(leg, entries)
     }
 
     // That the sum is no less than the measure where it was raised, unless it is so behind that.
@@ -511,7 +513,6 @@ impl<'a> PotentialProgram<'a> {
         let alloc = self.draft.alloc;
         let mut at = leg.peak;
         let web = self.web;
-        let mut told = Told { leg, bounds: None };
         let mut above = match leg.target {
             Some(_) => form_at(&leg.forms, wanted.place as usize, alloc)?,
             None => None,
@@ -524,7 +525,7 @@ impl<'a> PotentialProgram<'a> {
                 break;
             };
             at = peak.before;
-            if peak.place != wanted.place || told.is_below(&peak.form, &above, alloc)? {
+            if peak.place != wanted.place || is_below(leg, &peak.form, &above, alloc)? {
                 continue;
             }
             above = Some(copied(&peak.form, alloc)?);
@@ -705,8 +706,8 @@ fn tried(
         return Ok((None, 0));
     }
     let work = sought.draft.work(wanted.pivots);
-    if work > known.work {
-        return Ok((None, work));
+    if !known.affords(work) {
+        return Err(SearchStop::Refused(SearchRefusal::TooMuch));
     }
     let promise = solved(&mut sought, wanted)?;
     Ok((promise, work))
@@ -720,6 +721,6 @@ pub fn promised(
     alloc: Global,
 ) -> Result<Option<FoundPromise>, SearchStop> {
     let (promise, work) = tried(web, known, wanted, alloc)?;
-    known.spend(work)?;
+    known.spend(work);
     Ok(promise)
 }

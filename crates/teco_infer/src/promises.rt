@@ -307,6 +307,40 @@ fn add_factors(
     Ok(())
 }
 
+// Raises the size to the least bound of a degree on a measure; says whether one is found.
+fn raise_to(
+    size: &mut Vec<u64>,
+    web: &Web,
+    known: &mut KnownClaims,
+    place: u32,
+    degree: u32,
+) -> Result<bool, SearchStop> {
+    let alloc = web.record.alloc;
+    let Some(promise) = least_promise(web, known, place, degree, alloc)? else {
+        return Ok(false);
+    };
+    let most = take(web, known, promise, alloc)?;
+    raise(size, &most)?;
+    Ok(true)
+}
+
+// The places of measures on which no bound of a degree is found. The size is raised to those on the others.
+fn unbounded(
+    size: &mut Vec<u64>,
+    web: &Web,
+    known: &mut KnownClaims,
+    places: &[u32],
+    degree: u32,
+) -> Result<Vec<u32>, SearchStop> {
+    let mut left = Vec::new(web.record.alloc);
+    for place in places {
+        if !raise_to(size, web, known, *place, degree)? {
+            left.push(*place)?;
+        }
+    }
+    Ok(left)
+}
+
 // What is held, and the texts that grow.
 fn sizes(
     web: &Web,
@@ -321,14 +355,7 @@ fn sizes(
         if degree == 2 {
             add_factors(web, keys, &loosely(STEPS, 1), known, alloc)?;
         }
-        let mut later: Vec<u32> = Vec::new(alloc);
-        for place in &left {
-            match least_promise(web, known, *place, degree, alloc)? {
-                Some(promise) => raise(&mut size, &take(web, known, promise, alloc)?)?,
-                None => later.push(*place)?,
-            }
-        }
-        left = later;
+        left = unbounded(&mut size, web, known, &left, degree)?;
         if left.is_empty() {
             return Ok(size);
         }

@@ -4,12 +4,12 @@ use crate::polynomials::whole;
 use crate::potentials::{PotentialProgram, lowest, product};
 use crate::wanted::WantedBound;
 use std::alloc::Global;
-use teco_bounds::fault::SearchStop;
+use teco_bounds::fault::{SearchRefusal, SearchStop};
 use teco_bounds::legs::{Leg, Web};
 use teco_bounds::measures::{FAMILIES, SINGLES, TURNS};
 use teco_bounds::programs::add_form;
 use teco_linear::Form;
-use teco_rows::applied::form_at;
+use teco_rows::applied::{copied, form_at};
 use teco_simplex::Assignment;
 
 // An iteration: where it begins, and the place of its turns.
@@ -68,7 +68,7 @@ fn add_arrival(
     let mut entries = Vec::new(alloc);
     sought.unknowns.add(&mut entries, 0, &leg.forms, 1, alloc)?;
     add_form(&mut entries, turns, 0, None, -1)?;
-    sought.imply(leg.source, &leg.constraints, entries)
+    sought.imply_on(leg, entries)
 }
 
 // The program of the turns of an iteration; none where they are not counted.
@@ -98,23 +98,36 @@ fn sought_of<'a>(
     Ok(Some(sought))
 }
 
-// That the turns are within the polynomial, at each key in the iteration.
+// That the turns are within the polynomial.
+fn claim_of(
+    sought: &PotentialProgram<'_>,
+    values: &Assignment,
+    iteration: IterationTurns,
+) -> Result<Form, SearchStop> {
+    let alloc = sought.draft.alloc;
+    let numerators = sought.unknowns.polynomial(values, alloc)?;
+    let most = product(
+        &whole(&numerators, alloc)?,
+        &Form::constant(1, alloc)?,
+        alloc,
+    )?;
+    let divisor = u128::try_from(values.denominator).unwrap_or(1);
+    let turns = product(&[divisor], &Form::symbol(iteration.place, alloc)?, alloc)?;
+    lowest(&most.sub(&turns, alloc)?, alloc)
+}
+
+// That they are, at each key in the iteration.
 fn claims_of(
     sought: &PotentialProgram<'_>,
     values: &Assignment,
     iteration: IterationTurns,
 ) -> Result<Vec<Form>, SearchStop> {
     let alloc = sought.draft.alloc;
-    let most = whole(&sought.unknowns.polynomial(values, alloc)?, alloc)?;
-    let one = Form::constant(1, alloc)?;
-    let mut divisor: Vec<u128> = Vec::new(alloc);
-    divisor.push(u128::try_from(values.denominator).unwrap_or(1))?;
-    let turns = product(&divisor, &Form::symbol(iteration.place, alloc)?, alloc)?;
-    let claim = lowest(&product(&most, &one, alloc)?.sub(&turns, alloc)?, alloc)?;
+    let claim = claim_of(sought, values, iteration)?;
     let mut claims = Vec::new(alloc);
     for key in 0..sought.web.starts.len() {
         claims.push(if is_in(sought.web, key, iteration) {
-            teco_rows::applied::copied(&claim, alloc)?
+            copied(&claim, alloc)?
         } else {
             Form::zero(alloc)
         })?;
@@ -133,8 +146,8 @@ fn tried(
         return Ok((None, 0));
     };
     let work = sought.draft.work(wanted.pivots);
-    if work > known.work {
-        return Ok((None, work));
+    if !known.affords(work) {
+        return Err(SearchStop::Refused(SearchRefusal::TooMuch));
     }
     match sought.draft.solved(wanted.pivots)? {
         Some(values) => Ok((Some(claims_of(&sought, &values, iteration)?), work)),
@@ -151,7 +164,7 @@ pub fn add_turns(
 ) -> Result<(), SearchStop> {
     for iteration in iterations(web, alloc)? {
         let (claims, work) = tried(web, known, wanted, iteration)?;
-        known.spend(work)?;
+        known.spend(work);
         if let Some(claims) = claims {
             known.add(claims, &[], alloc)?;
         }

@@ -5,7 +5,7 @@ use crate::polynomials::{most, plus, times, whole};
 use crate::potentials::{FoundPromise, PotentialProgram, lowest, product, rounded_up};
 use crate::wanted::{Scope, WantedBound};
 use std::alloc::Global;
-use teco_bounds::fault::SearchStop;
+use teco_bounds::fault::{SearchRefusal, SearchStop};
 use teco_bounds::keys::STEPS;
 use teco_bounds::legs::{Leg, Web};
 use teco_bounds::programs::add_form;
@@ -54,7 +54,7 @@ fn add_cost(
         costs.variables.push(cost)?;
         add_number(&mut entries, Some(cost), 1)?;
     }
-    sought.imply(leg.source, &leg.constraints, entries)
+    sought.imply_on(leg, entries)
 }
 
 // The program of costs: they are given, the number of its own steps for each path, or their sum is to
@@ -310,6 +310,47 @@ fn all_of(
     plus(&times(&paid.divisor, &first, alloc)?, &paid.most, alloc)
 }
 
+// What is to come: by levels, by what paths cost, and by what is to come at keys behind all levels.
+#[derive(Drop)]
+struct StepsToCome<'a> {
+    levels: &'a Levels,
+    paid: &'a Paid,
+    tops: &'a [Vec<u128>],
+    alloc: Global,
+}
+
+impl StepsToCome<'_> {
+    // What is claimed at a key: that the steps and what is to come are within a whole.
+    fn claim_at(&self, whole: &Form, key: usize) -> Result<Form, SearchStop> {
+        let alloc = self.alloc;
+        let steps = Form::symbol(STEPS, alloc)?;
+        let sum = ahead(self.levels, self.tops, key, alloc)?.add(&steps, alloc)?;
+        let mut sum = product(&self.paid.divisor, &sum, alloc)?;
+        if let Some(form) = self.paid.forms.get(key) {
+            sum = sum.add(form, alloc)?;
+        }
+        lowest(&whole.sub(&sum, alloc)?, alloc)
+    }
+
+    // What is claimed at each of so many keys.
+    fn claims(&self, whole: &Form, keys: usize) -> Result<Vec<Form>, SearchStop> {
+        let mut claims = Vec::new(self.alloc);
+        for key in 0..keys {
+            claims.push(self.claim_at(whole, key)?)?;
+        }
+        Ok(claims)
+    }
+}
+
+// Coefficients, as far as they fit.
+fn numerators_of(coefficients: &[u128], alloc: Global) -> Result<Vec<i128>, SearchStop> {
+    let mut numerators = Vec::new(alloc);
+    for coefficient in coefficients {
+        numerators.push(i128::try_from(*coefficient).unwrap_or(i128::MAX))?;
+    }
+    Ok(numerators)
+}
+
 // What is promised of the steps.
 fn promise_of(
     web: &Web,
@@ -319,27 +360,19 @@ fn promise_of(
 ) -> Result<FoundPromise, SearchStop> {
     let tops = tails_of(web, levels, None, paid, alloc)?;
     let all = all_of(web, levels, paid, &tops, alloc)?;
-    let one = Form::constant(1, alloc)?;
-    let whole = product(&all, &one, alloc)?;
-    let steps = Form::symbol(0, alloc)?;
-    let mut claims = Vec::new(alloc);
-    for key in 0..web.starts.len() {
-        let mut sum = ahead(levels, &tops, key, alloc)?.add(&steps, alloc)?;
-        sum = product(&paid.divisor, &sum, alloc)?;
-        if let Some(form) = paid.forms.get(key) {
-            sum = sum.add(form, alloc)?;
-        }
-        claims.push(lowest(&whole.sub(&sum, alloc)?, alloc)?)?;
-    }
-    let mut numerators = Vec::new(alloc);
-    for coefficient in &all {
-        numerators.push(i128::try_from(*coefficient).unwrap_or(i128::MAX))?;
-    }
+    let whole = product(&all, &Form::constant(1, alloc)?, alloc)?;
+    let to_come = StepsToCome {
+        levels,
+        paid,
+        tops: &tops,
+        alloc,
+    };
+    let claims = to_come.claims(&whole, web.starts.len())?;
     let divisor = paid.divisor.first().copied().unwrap_or(1);
     Ok(FoundPromise {
         place: STEPS,
         sign: 1,
-        numerators,
+        numerators: numerators_of(&all, alloc)?,
         divisor: i128::try_from(divisor).unwrap_or(1),
         claims,
     })
@@ -353,8 +386,8 @@ fn tried(
 ) -> Result<(Option<Paid>, usize), SearchStop> {
     let (sought, costs) = costs_of(web, known, is_given)?;
     let work = sought.draft.work(PIVOTS);
-    if work > known.work {
-        return Ok((None, work));
+    if !known.affords(work) {
+        return Err(SearchStop::Refused(SearchRefusal::TooMuch));
     }
     let solved = sought.draft.solved(PIVOTS)?;
     match solved {
@@ -367,7 +400,7 @@ fn tried(
 fn found_costs(web: &Web, known: &mut KnownClaims) -> Result<Option<Paid>, SearchStop> {
     for is_given in [true, false] {
         let (found, work) = tried(web, known, is_given)?;
-        known.spend(work)?;
+        known.spend(work);
         if found.is_some() {
             return Ok(found);
         }

@@ -45,7 +45,7 @@ pub fn sum(left: &[Term], right: &[Term], alloc: Global) -> Result<Vec<Term>, Li
         → value sum.items n v ≡ value left.now n v +ℤ value right.now n v) }
     ensures length { IfOk result (λ sum. vec_len sum ≤ MAX_TERMS) }
 {
-    let mut sum = Vec::new(alloc);
+    let mut sum = Vec::with_capacity(alloc, left.len().saturating_add(right.len()))?;
     let (mut i, mut j) = (0, 0);
     'terms: while i < left.len() && j < right.len() {
         let (first, second) = (left[i], right[j]);
@@ -73,7 +73,7 @@ pub fn scaled(terms: &[Term], scale: &Scale, alloc: Global) -> Result<Vec<Term>,
         → value scaled.items n v ≡ scale_value scale.now n *ℤ value terms.now n v) }
     ensures length { IfOk result (λ scaled. vec_len scaled ≤ MAX_TERMS) }
 {
-    let mut scaled = Vec::new(alloc);
+    let mut scaled = Vec::with_capacity(alloc, terms.len())?;
     for term in terms {
         push(&mut scaled, term.scaled(scale)?)?;
     }

@@ -435,6 +435,12 @@ pub fn find(
     if target.is_harmless() {
         return Ok(Some(once(&[], alloc)?));
     }
+    if let Some(place) = constraints
+        .iter()
+        .position(|form| form.terms() == target.terms())
+    {
+        return Ok(Some(once(&[place], alloc)?));
+    }
     let places = relevant(constraints, seeds, alloc)?;
     let mut graph = Graph::of(constraints, &places, alloc)?;
     if let Some(found) = graph.chain(target, alloc)? {

@@ -179,7 +179,7 @@ pub fn copied_forms(forms: &[Option<Form>], alloc: Global) -> Result<Vec<Option<
         → value_if (slice_index_or copies.items k None) n v
         ≡ value_if (slice_index_or forms.now k None) n v) }
 {
-    let mut copies = Vec::new(alloc);
+    let mut copies = Vec::with_capacity(alloc, forms.len())?;
     for form in forms {
         copies.push(copied_if(form, alloc)?)?;
     }
@@ -191,7 +191,7 @@ pub fn copied_constraints(forms: &[Form], alloc: Global) -> Result<Vec<Form>, Ro
     ensures { IfOk result (λ copies. (n : ℕ) (v : Valuation)
         → All (Holds n v) forms.now → All (Holds n v) copies.items) }
 {
-    let mut copies = Vec::new(alloc);
+    let mut copies = Vec::with_capacity(alloc, forms.len())?;
     for form in forms {
         copies.push(copied(form, alloc)?)?;
     }

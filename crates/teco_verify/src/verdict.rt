@@ -293,6 +293,9 @@ fn verified<'l>(alloc: Global, asked: &AskedMacro<'l>) -> Result<Verified<'l>, R
 /// let library = Library::read(alloc, b"@^UA/J<:Sa\x1b;-D>/").ok()?;
 /// let verified = verify(alloc, &library, Reg::of(b'A')?).ok()?;
 /// let certificate = verified.certificate(alloc).ok()?;
+/// if certificate.len() > LIMIT {
+///     return None;
+/// }
 /// Some(check_certificate(alloc, &library, &certificate).is_ok())
 /// ```
 pub fn verify<'l>(alloc: Global, library: &'l Library, entry: Reg) -> Result<Verified<'l>, Refusal>
