@@ -19,6 +19,11 @@ const MOST_PENDING: usize = 64;
 // The most terms of what a measure is: with more a path takes too long.
 const MOST_TERMS: usize = 24;
 
+// So many constraints, and so many bounds, count as a step more.
+const CONSTRAINTS_A_STEP: usize = 16;
+
+const BOUNDS_A_STEP: usize = 256;
+
 // How often a path may pass the whole macro between two cut points.
 const MOST_PASSES: usize = 3;
 
@@ -93,6 +98,18 @@ fn is_long(case: &Case) -> bool {
         .iter()
         .flatten()
         .any(|form| form.terms().len() > MOST_TERMS)
+}
+
+// What a step from a trail takes: by its constraints, and by the bounds that are copied and lowered.
+fn work_of(trail: &Trail) -> usize {
+    let size = trail.bounds.size();
+    let bounds = size.saturating_mul(size).saturating_div(BOUNDS_A_STEP);
+    let constraints = trail
+        .case
+        .constraints
+        .len()
+        .saturating_div(CONSTRAINTS_A_STEP);
+    bounds.saturating_add(constraints).saturating_add(1)
 }
 
 impl PathSearch<'_> {
@@ -184,12 +201,7 @@ impl PathSearch<'_> {
             if is_long(&trail.case) {
                 return Err(SearchStop::Refused(SearchRefusal::TooMuch));
             }
-            let work = trail
-                .case
-                .constraints
-                .len()
-                .saturating_div(16)
-                .saturating_add(1);
+            let work = work_of(trail);
             self.fuel = self
                 .fuel
                 .checked_sub(work)

@@ -85,9 +85,7 @@ fn tried(
     sought.imply(open.source, &open.constraints, entries)?;
     sought.settle()?;
     let work = sought.draft.work(PIVOTS);
-    if !known.affords(work) {
-        return Err(SearchStop::Refused(SearchRefusal::TooMuch));
-    }
+    known.afford(work)?;
     match sought.draft.solved(PIVOTS)? {
         Some(values) => Ok((Some(claims_of(&sought, &values)?), work)),
         None => Ok((None, work)),

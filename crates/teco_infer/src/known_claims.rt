@@ -1,6 +1,6 @@
 //! Claims that are known besides facts.
 use std::alloc::Global;
-use teco_bounds::fault::SearchStop;
+use teco_bounds::fault::{SearchRefusal, SearchStop};
 use teco_bounds::rounds::at_forms;
 use teco_linear::Form;
 use teco_rows::applied::copied;
@@ -14,8 +14,8 @@ const PLAIN: u128 = 100;
 pub struct KnownClaims {
     pub claims: Vec<(usize, Form)>,
     pub told: Vec<(usize, Form)>,
-    // The places of the turns, numbers and lengths of which a bound was found.
-    pub bounded: Vec<u32>,
+    // The places of the turns, numbers and lengths of which a bound was sought.
+    pub sought: Vec<u32>,
     // How many rows programs may still go through.
     pub work: usize,
 }
@@ -31,17 +31,20 @@ impl KnownClaims {
         KnownClaims {
             claims: Vec::new(alloc),
             told: Vec::new(alloc),
-            bounded: Vec::new(alloc),
+            sought: Vec::new(alloc),
             work,
         }
     }
 
-    // Whether so much work is left.
-    pub fn affords(&self, work: usize) -> bool {
-        work <= self.work
+    // Refuses work for which too little is left.
+    pub fn afford(&self, work: usize) -> Result<(), SearchStop> {
+        if work > self.work {
+            return Err(SearchStop::Refused(SearchRefusal::TooMuch));
+        }
+        Ok(())
     }
 
-    // Takes from the work that is left, which is as much.
+    // Takes work from what is left.
     pub fn spend(&mut self, work: usize) {
         self.work = self.work.saturating_sub(work);
     }

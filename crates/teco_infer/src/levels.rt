@@ -5,7 +5,7 @@ use crate::polynomials::whole;
 use crate::potentials::{PotentialProgram, lowest, product};
 use crate::wanted::{Scope, WantedBound};
 use std::alloc::Global;
-use teco_bounds::fault::{SearchRefusal, SearchStop};
+use teco_bounds::fault::SearchStop;
 use teco_bounds::keys::STEPS;
 use teco_bounds::legs::{Leg, Web};
 use teco_bounds::programs::Coefficient;
@@ -327,9 +327,7 @@ fn tried(
 ) -> Result<(Option<KeyLevel>, usize), SearchStop> {
     let turns = turns_of(web, known, levels, &keys, highest)?;
     let work = turns.sought.draft.work(PIVOTS);
-    if !known.affords(work) {
-        return Err(SearchStop::Refused(SearchRefusal::TooMuch));
-    }
+    known.afford(work)?;
     let solved = turns.sought.draft.solved(PIVOTS)?;
     let Some(values) = solved else {
         return Ok((None, work));

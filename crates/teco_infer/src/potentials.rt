@@ -2,7 +2,7 @@
 use crate::known_claims::{KnownClaims, is_plain};
 use crate::wanted::{Scope, WantedBound};
 use std::alloc::Global;
-use teco_bounds::fault::{SearchRefusal, SearchStop};
+use teco_bounds::fault::SearchStop;
 use teco_bounds::keys::{STEPS, least_forms, power_of};
 use teco_bounds::legs::{Leg, LegStart, Web};
 use teco_bounds::numbers::common;
@@ -706,9 +706,7 @@ fn tried(
         return Ok((None, 0));
     }
     let work = sought.draft.work(wanted.pivots);
-    if !known.affords(work) {
-        return Err(SearchStop::Refused(SearchRefusal::TooMuch));
-    }
+    known.afford(work)?;
     let promise = solved(&mut sought, wanted)?;
     Ok((promise, work))
 }

@@ -285,8 +285,8 @@ fn add_tame(
     }
 }
 
-// Adds bounds on turns, numbers and lengths to what is known, each sought like this one where none was
-// found before.
+// Adds bounds on turns, numbers and lengths to what is known, each sought like this one. Without limits each is
+// sought once.
 fn add_factors(
     web: &Web,
     keys: &Keys,
@@ -295,13 +295,15 @@ fn add_factors(
     alloc: Global,
 ) -> Result<(), SearchStop> {
     for place in factors(keys, alloc)? {
-        if known.bounded.contains(&place) {
+        if like.limits == UsedLimits::None && known.sought.contains(&place) {
             continue;
         }
         let wanted = WantedBound { place, ..*like };
+        if like.limits == UsedLimits::None {
+            known.sought.push(place)?;
+        }
         if let Some(promise) = promised(web, known, &wanted, alloc)? {
             let _most = take(web, known, promise, alloc)?;
-            known.bounded.push(place)?;
         }
     }
     Ok(())
@@ -325,7 +327,7 @@ fn raise_to(
 }
 
 // The places of measures on which no bound of a degree is found. The size is raised to those on the others.
-fn unbounded(
+fn without_bound(
     size: &mut Vec<u64>,
     web: &Web,
     known: &mut KnownClaims,
@@ -355,7 +357,7 @@ fn sizes(
         if degree == 2 {
             add_factors(web, keys, &loosely(STEPS, 1), known, alloc)?;
         }
-        left = unbounded(&mut size, web, known, &left, degree)?;
+        left = without_bound(&mut size, web, known, &left, degree)?;
         if left.is_empty() {
             return Ok(size);
         }

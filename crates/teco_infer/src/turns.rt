@@ -4,7 +4,7 @@ use crate::polynomials::whole;
 use crate::potentials::{PotentialProgram, lowest, product};
 use crate::wanted::WantedBound;
 use std::alloc::Global;
-use teco_bounds::fault::{SearchRefusal, SearchStop};
+use teco_bounds::fault::SearchStop;
 use teco_bounds::legs::{Leg, Web};
 use teco_bounds::measures::{FAMILIES, SINGLES, TURNS};
 use teco_bounds::programs::add_form;
@@ -98,7 +98,7 @@ fn sought_of<'a>(
     Ok(Some(sought))
 }
 
-// That the turns are within the polynomial.
+// That the turns are within the polynomial found.
 fn claim_of(
     sought: &PotentialProgram<'_>,
     values: &Assignment,
@@ -116,7 +116,7 @@ fn claim_of(
     lowest(&most.sub(&turns, alloc)?, alloc)
 }
 
-// That they are, at each key in the iteration.
+// What is claimed at each key: within the iteration, the turns' bound.
 fn claims_of(
     sought: &PotentialProgram<'_>,
     values: &Assignment,
@@ -146,9 +146,7 @@ fn tried(
         return Ok((None, 0));
     };
     let work = sought.draft.work(wanted.pivots);
-    if !known.affords(work) {
-        return Err(SearchStop::Refused(SearchRefusal::TooMuch));
-    }
+    known.afford(work)?;
     match sought.draft.solved(wanted.pivots)? {
         Some(values) => Ok((Some(claims_of(&sought, &values, iteration)?), work)),
         None => Ok((None, work)),

@@ -5,7 +5,7 @@ use crate::polynomials::{most, plus, times, whole};
 use crate::potentials::{FoundPromise, PotentialProgram, lowest, product, rounded_up};
 use crate::wanted::{Scope, WantedBound};
 use std::alloc::Global;
-use teco_bounds::fault::{SearchRefusal, SearchStop};
+use teco_bounds::fault::SearchStop;
 use teco_bounds::keys::STEPS;
 use teco_bounds::legs::{Leg, Web};
 use teco_bounds::programs::add_form;
@@ -386,9 +386,7 @@ fn tried(
 ) -> Result<(Option<Paid>, usize), SearchStop> {
     let (sought, costs) = costs_of(web, known, is_given)?;
     let work = sought.draft.work(PIVOTS);
-    if !known.affords(work) {
-        return Err(SearchStop::Refused(SearchRefusal::TooMuch));
-    }
+    known.afford(work)?;
     let solved = sought.draft.solved(PIVOTS)?;
     match solved {
         Some(values) => Ok((Some(paid_by(&sought, &costs, &values)?), work)),

@@ -81,6 +81,14 @@ impl Form {
         Form::term(once, alloc)
     }
 
+    /// The same form once more.
+    pub fn copied(&self, alloc: Global) -> Result<Form, LinearFault>
+        ensures { IfOk result (λ copy. copy ≡ self.now) }
+    {
+        let terms = Vec::from_slice(alloc, &self.terms)?;
+        Ok(Form { terms })
+    }
+
     /// The terms, by symbol and then by power. None has the coefficient 0.
     pub fn terms(&self) -> &[Term]
         ensures { result.now ≡ self.now }

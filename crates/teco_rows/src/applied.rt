@@ -1,9 +1,9 @@
 //! How a row takes a case to the one behind it.
 ghost use Rattle.std.specs.Prelude.{◌≡◌, ◌∷◌, [], ◌==◌, ℕ, if◌then◌else◌, IfOk, OnOk, None, slice_index_or, length};
-ghost use Rattle.std.specs.Prelude.{◌<◌};
+ghost use Rattle.std.specs.Prelude.{◌<◌, ◌*ℤ◌, IfSome};
 ghost use Rattle.std.specs.Prelude.{IsTrue, ◌↔◌};
 ghost use Rattle.std.specs.List.{All};
-ghost use Rattle.teco_linear.specs.Form.{Valuation, value};
+ghost use Rattle.teco_linear.specs.Form.{Valuation, scale_value, value};
 ghost use Rattle.teco_linear.specs.Implied.{Holds};
 ghost use Rattle.teco_rows.specs.Rows.{total, weight};
 ghost use Rattle.teco_rows.specs.Cases.{Adds, Carries, IsAbout, IsBelow, IsOptionallyAbout, IsWhole};
@@ -22,7 +22,7 @@ pub const MAX_PLACES: usize = 65_536;
 pub fn copied(form: &Form, alloc: Global) -> Result<Form, LinearFault>
     ensures { IfOk result (λ copy. (n : ℕ) (v : Valuation) → value copy n v ≡ value form.now n v) }
 {
-    form.add(&Form::zero(alloc), alloc)
+    form.copied(alloc)
 }
 
 // The same form, or none, once more.
@@ -81,6 +81,41 @@ fn form_of(case: &Case, step: &RowStep, of: Of, alloc: Global) -> Result<Form, R
     }
 }
 
+// The form of what a row takes a multiple of, where it stands in the case or is given.
+fn standing<'a>(case: &'a Case, step: &'a RowStep, of: Of) -> Option<&'a Form>
+    ensures { IfSome result (λ form. (n : ℕ) (v : Valuation)
+        → value form.now n v ≡ weight (read_by case.now step.now n v) of) }
+{
+    match of {
+        Of::Was(mark) => {
+            let place = step.here.measure(mark).place();
+            case.forms.get(place)?.as_ref()
+        }
+        Of::Given(index) => step.given.get(index),
+        Of::Unknown(_) => None,
+    }
+}
+
+// A multiple of what a row names.
+fn multiple(
+    case: &Case,
+    step: &RowStep,
+    scale: &Scale,
+    of: Of,
+    alloc: Global,
+) -> Result<Form, RowFault>
+    ensures { IfOk result (λ product. (n : ℕ) (v : Valuation)
+        → value product n v ≡ scale_value scale.now n *ℤ weight (read_by case.now step.now n v) of) }
+{
+    if let Some(form) = standing(case, step, of) {
+        let product = form.scaled(scale, alloc)?;
+        return Ok(product);
+    }
+    let form = form_of(case, step, of, alloc)?;
+    let product = form.scaled(scale, alloc)?;
+    Ok(product)
+}
+
 // The form of a constant and multiples.
 fn sum(
     case: &Case,
@@ -98,8 +133,7 @@ fn sum(
             factor: i128::from(*times),
             power: 0,
         };
-        let form = form_of(case, step, *of, alloc)?;
-        let product = form.scaled(&scale, alloc)?;
+        let product = multiple(case, step, &scale, *of, alloc)?;
         sum = sum.add(&product, alloc)?;
     }
     Ok(sum)

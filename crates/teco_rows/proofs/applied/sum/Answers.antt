@@ -1,4 +1,5 @@
-use Rattle.teco_rows.proofs.Prelude.{◌≡◌, ◌*ℤ◌, get_or, to_z, of_z, arith, common_steps, ints, to_z-of_z, value, weight}
+use Rattle.teco_rows.proofs.Prelude.{◌≡◌, refl, ◌*ℤ◌, get_or, to_z, of_z, arith, common_steps, ints, to_z-of_z}
+use Rattle.teco_rows.proofs.Prelude.{value, weight}
 use Rattle.teco_rows.proofs.Prelude.{read_by}
 use mir.Syntax.{w128}
 use Rattle.teco_rows.proofs.Sums.{no_part, sum_of-drop, product_is}
@@ -12,8 +13,7 @@ loop-times-preserved c = λ n v.
     let p = get_or parts i no_part in
     let factor : to_z w128 (of_z w128 c.from-in-loop-times.result) ≡ p.0 = grind (arith, common_steps, to_z-of_z) in
     let made : value c.in_ok-product.product n v ≡ p.0 *ℤ weight b p.1 =
-    product_is _ p.0 (value c.in_ok-form.form n v) _ (weight b p.1) n factor (c.in_ok-form.ensures n v)
-    (c.in_ok-product.ensures n v) in
+    product_is _ p.0 (weight b p.1) _ (weight b p.1) n factor refl (c.in_ok-product.ensures n v) in
     omega (
       arith,
       ints,
