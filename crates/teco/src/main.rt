@@ -14,8 +14,8 @@ use teco_console::{
 };
 use teco_edits::{InPlaceEdits, choose, edit_files};
 use teco_examples::{Tests, fuzz_macro, test_examples};
-use teco_pages::{Closing, FileHost};
-use teco_tools::{OUTPUT, Prompting, Run, Start, Streams, run_scripts};
+use teco_pages::{Closing, FileHost, Host};
+use teco_tools::{OUTPUT, Prompting, Reporting, Run, Start, Streams, ToolFault, run_scripts};
 use teco_verdicts::{
     check_macro, explain_macro, verify_library, verify_library_as_json, verify_macro,
     verify_macro_as_json,
@@ -47,6 +47,19 @@ fn start<'s>(given: &ArgMatches<'_>, settings: &'s [Setting]) -> Result<Start<'s
     })
 }
 
+// Runs scripts over the files of the system, and asks for their input.
+fn run_over<O: Write + Drop, E: Write + Drop>(
+    rt: &HostRuntime,
+    console: &mut Console<O, E>,
+    run: &Run<'_, '_>,
+) -> Result<Outcome, ToolFault> {
+    let errors = rt.stderr();
+    let is_terminal = rt.stdin().is_terminal() && errors.is_terminal();
+    let mut reader = Prompting::new(rt.reader(), io::writer(&errors), is_terminal);
+    let mut host = FileHost::new(rt.alloc(), *rt);
+    run_scripts(rt, console, run, &mut reader, &mut host)
+}
+
 // `run`.
 fn run<O: Write + Drop, E: Write + Drop>(
     rt: &HostRuntime,
@@ -64,11 +77,7 @@ fn run<O: Write + Drop, E: Write + Drop>(
         until_code: given.get_flag("stop"),
         start: start(given, &settings)?,
     };
-    let errors = rt.stderr();
-    let is_terminal = rt.stdin().is_terminal() && errors.is_terminal();
-    let mut reader = Prompting::new(rt.reader(), io::writer(&errors), is_terminal);
-    let mut host = FileHost::new(rt.alloc(), *rt);
-    Ok(run_scripts(rt, console, &run, &mut reader, &mut host)?)
+    Ok(run_over(rt, console, &run)?)
 }
 
 // The library that is named, how it writes ESC, and by which rules it is verified.
@@ -156,6 +165,40 @@ fn task<'m, 's>(
     })
 }
 
+// Applies a macro, and tells on standard error what there is to tell.
+fn apply_aside<H: Host + Reporting>(
+    rt: &HostRuntime,
+    is_quiet: bool,
+    task: &Task<'_, '_>,
+    names: Names<'_>,
+    host: &mut H,
+) -> Result<Outcome, ToolFault> {
+    let errors = rt.stderr();
+    let mut aside = Console::new(rt.alloc(), io::writer(&errors), io::writer(&errors));
+    if is_quiet {
+        aside.voice.hush();
+    }
+    apply_macro(rt, &mut aside, task, names, host)
+}
+
+// Applies a macro to files of the system, or to its streams.
+fn apply_over<O: Write + Drop, E: Write + Drop>(
+    rt: &HostRuntime,
+    console: &mut Console<O, E>,
+    is_quiet: bool,
+    task: &Task<'_, '_>,
+    names: Names<'_>,
+) -> Result<Outcome, ToolFault> {
+    let mut files = FileHost::new(rt.alloc(), *rt);
+    files.set_closing(Closing::ReplacesOther);
+    let mut host = Streams::new(rt.alloc(), files, rt.reader(), io::writer(rt));
+    if names.target == OUTPUT {
+        apply_aside(rt, is_quiet, task, names, &mut host)
+    } else {
+        apply_macro(rt, console, task, names, &mut host)
+    }
+}
+
 // `apply`. Where the text goes to standard output, all else goes to standard error.
 fn apply<'a, O: Write + Drop, E: Write + Drop>(
     rt: &HostRuntime,
@@ -163,7 +206,8 @@ fn apply<'a, O: Write + Drop, E: Write + Drop>(
     given: &ArgMatches<'a>,
     arguments: &'a CommandLine,
 ) -> Result<Outcome, ProgramFault> {
-    if given.get_flag("quiet") {
+    let is_quiet = given.get_flag("quiet");
+    if is_quiet {
         console.voice.hush();
     }
     let settings = settings(rt, given)?;
@@ -173,18 +217,7 @@ fn apply<'a, O: Write + Drop, E: Write + Drop>(
         source: teco_words::source_name(given, arguments)?,
         target: teco_words::target_name(given, arguments)?,
     };
-    let mut files = FileHost::new(rt.alloc(), *rt);
-    files.set_closing(Closing::ReplacesOther);
-    let mut host = Streams::new(rt.alloc(), files, rt.reader(), io::writer(rt));
-    if names.target == OUTPUT {
-        let errors = rt.stderr();
-        let mut aside = Console::new(rt.alloc(), io::writer(&errors), io::writer(&errors));
-        if given.get_flag("quiet") {
-            aside.voice.hush();
-        }
-        return Ok(apply_macro(rt, &mut aside, &task, names, &mut host)?);
-    }
-    Ok(apply_macro(rt, console, &task, names, &mut host)?)
+    Ok(apply_over(rt, console, is_quiet, &task, names)?)
 }
 
 // Are colours shown where the words leave that open?
@@ -278,7 +311,20 @@ fn edit<'a, O: Write + Drop, E: Write + Drop>(
     Ok(edit_files(rt, console, &task, &edit)?)
 }
 
-// `trace`. What the macro writes to files is dropped.
+// Traces a macro over files of the system, or standard input. What it writes to files is dropped.
+fn trace_over<O: Write + Drop, E: Write + Drop>(
+    rt: &HostRuntime,
+    console: &mut Console<O, E>,
+    task: &Task<'_, '_>,
+    listing: Listing<'_>,
+) -> Result<Outcome, ToolFault> {
+    let mut files = FileHost::new(rt.alloc(), *rt);
+    files.set_closing(Closing::Compares);
+    let mut host = Streams::new(rt.alloc(), files, rt.reader(), io::sink());
+    trace_macro(rt, console, task, listing, &mut host)
+}
+
+// `trace`.
 fn trace<'a, O: Write + Drop, E: Write + Drop>(
     rt: &HostRuntime,
     console: &mut Console<O, E>,
@@ -307,10 +353,7 @@ fn trace<'a, O: Write + Drop, E: Write + Drop>(
         },
         most: u64::from(teco_words::limit(given)),
     };
-    let mut files = FileHost::new(rt.alloc(), *rt);
-    files.set_closing(Closing::Compares);
-    let mut host = Streams::new(rt.alloc(), files, rt.reader(), io::sink());
-    Ok(trace_macro(rt, console, &task, listing, &mut host)?)
+    Ok(trace_over(rt, console, &task, listing)?)
 }
 
 // `explain`, of a macro where a register is named, or of a word.

@@ -6,7 +6,7 @@ use Rattle.teco_applied.specs.Terms.{IsPromised, n_at_most}
 use Rattle.teco_applied.specs.declared.watching.Terms.{Terms}
 use Rattle.teco_apply.specs.Apply.{IsNotRun}
 use Rattle.teco_apply.specs.ByPages.{AdmittedStops, IsAnswered}
-use Rattle.teco_apply.specs.Sure.{Call, IsReady, loaded}
+use Rattle.teco_apply.specs.Sure.{PromisedCall, IsReady, loaded}
 use Rattle.teco_law_tables.specs.Verified.{n_of}
 use Rattle.teco_model.specs.Paging.{unread_of}
 use Rattle.teco_model.specs.Run.{IsSure}
@@ -16,7 +16,7 @@ use Rattle.teco_poly.specs.Laws.{ValuesGrow}
 use Rattle.teco_poly.specs.Polynomial.{value}
 use Rattle.teco_console.specs.Premise.{IsPremise, IsWithin}
 
-module _ (grow : ValuesGrow) (terms : Terms) (call : Call) (strict : AreStrict terms call) where
+module _ (grow : ValuesGrow) (terms : Terms) (call : PromisedCall) (strict : AreStrict terms call) where
   -- where the last N is no less
   ready-by : (last : Option ℕ) → IsPremise call.promise.size call.promise.commands last
       → (n : ℕ) (world : World) → IsWithin last n → n_of world ≤ n → IsReady call.promise world
@@ -45,7 +45,7 @@ module _ (grow : ValuesGrow) (terms : Terms) (call : Call) (strict : AreStrict t
   runs old new stop (inl ran) = inl (ran.1.sure (admits old ran.0))
   runs old new stop (inr not_run) = inr not_run
 
-pub strict-admits : ValuesGrow → (terms : Terms) (call : Call) → AreStrict terms call → (old : World)
+pub strict-admits : ValuesGrow → (terms : Terms) (call : PromisedCall) → AreStrict terms call → (old : World)
     → IsAnswered (on_terms terms call) old true
     → IsReady call.promise (loaded call.promise.library old)
 strict-admits grow terms call strict = admits grow terms call strict

@@ -8,7 +8,7 @@ use Rattle.teco_applied.specs.declared.applying.Task.{Task}
 use Rattle.teco_applied.specs.declared.applying.Watched.{Watched}
 use Rattle.teco_apply.specs.ByPages.{FileEdited}
 use Rattle.teco_apply.specs.InPlace.{IsRewritten}
-use Rattle.teco_apply.specs.Sure.{Call}
+use Rattle.teco_apply.specs.Sure.{PromisedCall}
 use Rattle.teco_apply.specs.Touched.{EditTouches}
 use Rattle.teco_apply.specs.declared.by_pages.Edited.{Edited}
 use Rattle.teco_pages.specs.HostFiles.{Telling}
@@ -22,7 +22,7 @@ use Rattle.teco_console.specs.declared.outcome.Outcome.{Outcome}
 use Rattle.teco_console.specs.declared.outcome.Outcome.TheVariants.{Done, Coded, Refused}
 
 -- the macro of a job, and the argument that it is given
-abbrev pub call_of : Job → Call
+abbrev pub call_of : Job → PromisedCall
 call_of job = record { promise = promise_of job.accepted.now; given = job.task.now.argument }
 
 -- a host's count of failures, and what is written, as far as it is known
@@ -66,7 +66,7 @@ IsAnswerOf task (Err fault) result = result ≡ Err (tool.Session fault)
 
 -- ---- a file into another
 -- one edit, as its crate promises it on the task's terms, and the files that it touches
-pub record Edits (task : Task) (call : Call) (names : Names) (old new : Holdings) (before after : Telling)
+pub record Edits (task : Task) (call : PromisedCall) (names : Names) (old new : Holdings) (before after : Telling)
     (begun left : Trace) (edited : Result Edited SessionFault) : Type 0 where
   pub edits :
       OnTerms task.is_strict call (λ order. Joined (λ was is. FileEdited task.pages order names.source.now
@@ -74,21 +74,21 @@ pub record Edits (task : Task) (call : Call) (names : Names) (old new : Holdings
   pub touches : EditTouches call names.source.now names.target.now edited old new before after
 
 -- an edit was watched
-pub record Watches (task : Task) (call : Call) (names : Names) (old new : Holdings) (before after : Telling)
+pub record Watches (task : Task) (call : PromisedCall) (names : Names) (old new : Holdings) (before after : Telling)
     (begun left : Trace) (result : Result Watched ToolFault) : Type 0 where
   pub edited : Result Edited SessionFault
   pub edit : Edits task call names old new before after begun left edited
   pub seen : IsSeen edited result
 
 -- an edit on a machine, and what is answered of it
-pub record EditsOn (task : Task) (call : Call) (names : Names) (old new : Holdings) (before after : Telling)
+pub record EditsOn (task : Task) (call : PromisedCall) (names : Names) (old new : Holdings) (before after : Telling)
     (begun left : Trace) (result : Result Outcome ToolFault) : Type 0 where
   pub edited : Result Edited SessionFault
   pub edit : Edits task call names old new before after begun left edited
   pub answers : IsAnswerOf task edited result
 
 -- from a machine and files that are prepared: a new one and the files as they are, where nothing is to be prepared
-pub record EditsFrom (task : Task) (call : Call) (names : Names) (files after : Telling) (begun left : Trace)
+pub record EditsFrom (task : Task) (call : PromisedCall) (names : Names) (files after : Telling) (begun left : Trace)
     (result : Result Outcome ToolFault) : Type 0 where
   pub old : Holdings
   pub new : Holdings
@@ -101,34 +101,34 @@ pub record EditsFrom (task : Task) (call : Call) (names : Names) (files after : 
       EditsOn task call names old new before after (trace_of failures begun.written) left result
 
 -- or they could not be prepared, and nothing is written
-abbrev pub EditsBy : Task → Call → Names → Telling → Telling → Trace → Trace → Result Outcome ToolFault → Type 0
+abbrev pub EditsBy : Task → PromisedCall → Names → Telling → Telling → Trace → Trace → Result Outcome ToolFault → Type 0
 EditsBy task call names files after begun left result =
     (IsErr result × (left.written ≡ begun.written))
     ⊎ EditsFrom task call names files after begun left result
 
 -- ---- a file in place
 -- one edit in place, as its crate promises it on the task's terms
-abbrev pub Rewrites : Task → Call → List ℕ → Bool → Holdings → Holdings → Telling → ℕ → Option (List ℕ)
+abbrev pub Rewrites : Task → PromisedCall → List ℕ → Bool → Holdings → Holdings → Telling → ℕ → Option (List ℕ)
     → Option (List ℕ) → Result Edited SessionFault → Type 0
 Rewrites task call name replaces old new after f sink sunk edited =
     OnTerms task.is_strict call (λ order. IsRewritten task.pages order name replaces old new after f sink sunk edited)
 
 -- an edit in place was watched
-pub record WatchesFile (task : Task) (call : Call) (name : List ℕ) (replaces : Bool) (old new : Holdings)
+pub record WatchesFile (task : Task) (call : PromisedCall) (name : List ℕ) (replaces : Bool) (old new : Holdings)
     (after : Telling) (f : ℕ) (sink sunk : Option (List ℕ)) (result : Result Watched ToolFault) : Type 0 where
   pub edited : Result Edited SessionFault
   pub edit : Rewrites task call name replaces old new after f sink sunk edited
   pub seen : IsSeen edited result
 
 -- an edit in place on a machine, and what is answered of it
-pub record RewritesOn (task : Task) (call : Call) (name : List ℕ) (replaces : Bool) (old new : Holdings)
+pub record RewritesOn (task : Task) (call : PromisedCall) (name : List ℕ) (replaces : Bool) (old new : Holdings)
     (after : Telling) (f : ℕ) (sink sunk : Option (List ℕ)) (result : Result Outcome ToolFault) : Type 0 where
   pub edited : Result Edited SessionFault
   pub edit : Rewrites task call name replaces old new after f sink sunk edited
   pub answers : IsAnswerOf task edited result
 
 -- from a machine that is prepared: a new one, where nothing is to be
-pub record RewritesFrom (task : Task) (call : Call) (name : List ℕ) (replaces : Bool) (after : Telling) (f : ℕ)
+pub record RewritesFrom (task : Task) (call : PromisedCall) (name : List ℕ) (replaces : Bool) (after : Telling) (f : ℕ)
     (sink sunk : Option (List ℕ)) (result : Result Outcome ToolFault) : Type 0 where
   pub old : Holdings
   pub new : Holdings
@@ -136,7 +136,7 @@ pub record RewritesFrom (task : Task) (call : Call) (name : List ℕ) (replaces 
   pub edit : RewritesOn task call name replaces old new after f sink sunk result
 
 -- or it could not be prepared, and nothing is written
-abbrev pub RewritesBy : Task → Call → List ℕ → Bool → Telling → ℕ → Option (List ℕ) → Option (List ℕ)
+abbrev pub RewritesBy : Task → PromisedCall → List ℕ → Bool → Telling → ℕ → Option (List ℕ) → Option (List ℕ)
     → Result Outcome ToolFault → Type 0
 RewritesBy task call name replaces after f sink sunk result =
     (IsErr result × (sunk ≡ sink)) ⊎ RewritesFrom task call name replaces after f sink sunk result

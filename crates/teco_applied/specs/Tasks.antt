@@ -5,7 +5,7 @@ use Rattle.teco_applied.specs.Edits.{EditsBy, Trace}
 use Rattle.teco_applied.specs.declared.names.Names.{Names}
 use Rattle.teco_applied.specs.declared.applying.Task.{Task}
 use Rattle.teco_applied.specs.declared.subject.Subject.{Subject}
-use Rattle.teco_apply.specs.Sure.{Call}
+use Rattle.teco_apply.specs.Sure.{PromisedCall}
 use Rattle.teco_library.specs.Library.{LibraryFile}
 use Rattle.teco_pages.specs.HostFiles.{Telling}
 use Rattle.teco_tools.specs.declared.fault.ToolFault.{ToolFault}
@@ -53,7 +53,7 @@ pub record EditsNone (files after : Telling) (begun left : Trace) (result : Resu
   pub answers : AnswersNone begun.written left.written result
 
 -- the macro of a task, which is accepted, and the argument that it is given
-abbrev pub task_call : Task → Accepted → Call
+abbrev pub task_call : Task → Accepted → PromisedCall
 task_call task accepted = record { promise = promise_of accepted; given = task.argument }
 
 -- a file is edited by the macro of a library that is accepted

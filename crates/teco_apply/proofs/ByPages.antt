@@ -4,11 +4,11 @@ use Rattle.teco_apply.proofs.Prelude.{Option, Result, Ok, Err, refl, sym, ◌∙
 use Rattle.teco_apply.proofs.Prelude.{closing, has_esc, opening, stop_of, AdmittedStops, Behind, BehindMacro}
 use Rattle.teco_apply.proofs.Prelude.{BehindPage, Closing, EditsPages, EditsText, EndsInMacro, EndsWith, FileEdited}
 use Rattle.teco_apply.proofs.Prelude.{Gathers, Once, OpensBoth, Order, PagesCount, PagesGathered, PagesTurned}
-use Rattle.teco_apply.proofs.Prelude.{RunsAdmitted, is_dropped, nothing_done, to_start, Call, Calls, TakesArgument}
+use Rattle.teco_apply.proofs.Prelude.{RunsAdmitted, is_dropped, nothing_done, to_start, Calls, TakesArgument}
 use Rattle.teco_apply.proofs.Prelude.{kept_loaded, Edited, PageChoice, First, PAGES, NotReady, Ran, Tally, unread}
 use Rattle.teco_apply.proofs.Prelude.{code_of, is_code, Kept, World, Stop, told-map, Held, IsSameOutput, unread_bytes}
 use Rattle.teco_apply.proofs.Prelude.{HostFiles, Telling, world, Holdings, Joined, Joined-on, Joined-stays}
-use Rattle.teco_apply.proofs.Prelude.{SessionFault}
+use Rattle.teco_apply.proofs.Prelude.{SessionFault, PromisedCall}
 use Rattle.std.proofs.Common.{◌&&◌}
 use Rattle.std.specs.Prelude.{IfOk, option_map}
 use Rattle.teco_apply.proofs.Edits.{leaves_open}
@@ -141,7 +141,7 @@ Joined-runs order a b c f g k m sink sunk stop line result by counted writes tol
     (typed_lines b.kept after.kept stop sink sunk line same writes) told)
 
 -- what is lacking where the macro is not run
-lacks : (call : Call) (held : Held) (files : HostFiles) (why : NotReady) → TakesArgument call
+lacks : (call : PromisedCall) (held : Held) (files : HostFiles) (why : NotReady) → TakesArgument call
     → Answers {X = Unit {0}} call held (Err why) → IsSameOutput held files
     → Lacks call.promise.needs (files_of held files) why
 lacks call held files not_ready.NoInput taken is same =

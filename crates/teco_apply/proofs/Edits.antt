@@ -1,13 +1,13 @@
 -- An edit, where both files are open.
 use Rattle.teco_apply.proofs.Prelude.{◌≡◌, ℕ, List, true, false, Option, Ok, inl, inr, sym, subst, AnswersText}
-use Rattle.teco_apply.proofs.Prelude.{BothOpen, Lacks, MacroStops, has_esc, opening, stop_of, Call, NotReady, World}
-use Rattle.teco_apply.proofs.Prelude.{Stop}
+use Rattle.teco_apply.proofs.Prelude.{BothOpen, Lacks, MacroStops, has_esc, opening, stop_of, NotReady, World}
+use Rattle.teco_apply.proofs.Prelude.{Stop, PromisedCall}
 use Rattle.teco_apply.proofs.Opening.{opens_both}
 use Rattle.teco_apply.specs.Apply.{IsNotRun, WantsMemory}
 use Rattle.teco_apply.specs.declared.ready.NotReady.TheVariants.{NoInput, NoOutput, Argument, Memory}
 
 -- where both are open, only memory is lacked
-lacks_memory : (call : Call) (old : World) (stop : Stop) (new : World) → BothOpen old.files
+lacks_memory : (call : PromisedCall) (old : World) (stop : Stop) (new : World) → BothOpen old.files
     → IsNotRun call.promise.needs old stop new → WantsMemory old stop new
 lacks_memory call old stop new both is = among is.why is.lacks is.stopped
   where
@@ -18,7 +18,7 @@ lacks_memory call old stop new both is = among is.why is.lacks is.stopped
     among Argument missing stopped = absurd missing
     among Memory missing stopped = record { stopped = stopped; stays = is.stays }
 
-pub macro_stops : (call : Call) (old : World) (stop : Stop) (new : World) → BothOpen old.files
+pub macro_stops : (call : PromisedCall) (old : World) (stop : Stop) (new : World) → BothOpen old.files
     → MacroStops false call old stop new → MacroStops true call old stop new
 macro_stops call old stop new both (inl runs) = inl runs
 macro_stops call old stop new both (inr is) = inr (lacks_memory call old stop new both is)

@@ -2,9 +2,9 @@
 use Rattle.teco_apply.proofs.Prelude.{◌≡◌, ◌≢◌, ℕ, List, Bool, true, false, Option, Result, Ok, Err, inl, inr, refl}
 use Rattle.teco_apply.proofs.Prelude.{sym, ap, subst, ◌∙◌, AnswersText, BothOpen, MacroStops, closing, opening}
 use Rattle.teco_apply.proofs.Prelude.{AdmittedStops, Behind, BehindMacro, EditsText, EndsInMacro, EndsWith, FileEdited}
-use Rattle.teco_apply.proofs.Prelude.{Once, OpensBoth, Order, RunsAdmitted, is_dropped, nothing_done, order_by, Call}
+use Rattle.teco_apply.proofs.Prelude.{Once, OpensBoth, Order, RunsAdmitted, is_dropped, nothing_done, order_by}
 use Rattle.teco_apply.proofs.Prelude.{Edited, First, Ran, Tally, World, Stop, Telling, Holdings, Joined, Joined-on}
-use Rattle.teco_apply.proofs.Prelude.{Said, SessionFault, Done}
+use Rattle.teco_apply.proofs.Prelude.{Said, SessionFault, Done, PromisedCall}
 use Rattle.std.proofs.lemmas.Bool.{false≢true}
 use Rattle.teco_apply.proofs.Edits.{macro_stops}
 use Rattle.teco_apply.specs.Apply.{AnswersMacro, Applied, EditCounts, Edits, Finishes}
@@ -21,7 +21,7 @@ by_line done (Ok true) result ends = rw ends refl
 by_line done (Ok false) result ends = rw ends refl
 by_line done (Err cannot) result ends = rw ends refl
 
-module _ (call : Call) where
+module _ (call : PromisedCall) where
   -- no run is refused
   abbrev order : Order
   order = order_by (λ held most answer. answer ≡ true) call
@@ -105,7 +105,7 @@ module _ (call : Call) where
   applied_as source target old new f g sink sunk (Err fault.Argument) is done said = rw said is
   applied_as source target old new f g sink sunk (Err fault.Read) is done said = absurd is
 
-pub first-page : (call : Call) (source target : List ℕ) (a b : Holdings) (x y : Telling) (f g : ℕ)
+pub first-page : (call : PromisedCall) (source target : List ℕ) (a b : Holdings) (x y : Telling) (f g : ℕ)
     (sink sunk : Option (List ℕ)) (result : Result Edited SessionFault) (done : Result Done SessionFault)
     → Said (is_dropped result) false done
     → Joined (λ old new. FileEdited First (order_by (λ held most answer. answer ≡ true) call) source target old new f g

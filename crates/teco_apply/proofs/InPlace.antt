@@ -1,6 +1,7 @@
 -- The edit of a file in place, from the edit of the file into another.
 use Rattle.teco_apply.proofs.Prelude.{◌≡◌, ℕ, List, [], Bool, false, Option, Result, Ok, Err, refl, sym, subst}
-use Rattle.teco_apply.proofs.Prelude.{FileEdited, Order, Call, EditTouches, Edited, PageChoice, world, World, Event}
+use Rattle.teco_apply.proofs.Prelude.{FileEdited, Order, EditTouches, Edited, PageChoice, world, World, Event}
+use Rattle.teco_apply.proofs.Prelude.{PromisedCall}
 use Rattle.teco_apply.proofs.Prelude.{Telling, Tells, Notes, Touches, NotesFit, Holdings, Joined, SessionFault}
 use Rattle.std.specs.List.{AllByRecursion}
 use Rattle.teco_apply.specs.InPlace.{IsRewritten}
@@ -31,7 +32,8 @@ none_in_order : (events : List Event) → Notes events ≡ Notes [] → IsInOrde
 none_in_order events is = let none : events ≡ [] = cc in
     rw none (record { end = false; end' = false; order = λ h. h; bytes = tt })
 
-edit_in_order : {X : Type 0} (call : Call) (source target : List ℕ) (result : Result X SessionFault) (a b : Holdings)
+edit_in_order : {X : Type 0} (call : PromisedCall) (source target : List ℕ) (result : Result X SessionFault)
+    (a b : Holdings)
     (events : List Event) → EditTouches call source target result a b (Notes []) (Notes events) → IsInOrder events
 edit_in_order call source target (Ok edited) a b events t = in_order t.touched a.held.end b.held.end events t.notes
 edit_in_order call source target (Err fault.Write) a b events t =
@@ -48,7 +50,7 @@ module _ (fit : NotesFit) (replaced : FilesAreReplaced) (pages : PageChoice) (or
   Edits f g sink sunk result = Joined
       (λ old new. FileEdited pages order name (new_text name) old new f g sink sunk result)
 
-  pub rewritten : (call : Call) (a b : Holdings) (y under : Telling) (f g : ℕ) (sink sunk : Option (List ℕ))
+  pub rewritten : (call : PromisedCall) (a b : Holdings) (y under : Telling) (f g : ℕ) (sink sunk : Option (List ℕ))
       (result : Result Edited SessionFault) → Edits f g sink sunk result a b (Notes []) y
       → EditTouches call name (new_text name) result a b (Notes []) y → IsPassedOn replaces y under
       → IsRewritten pages order name replaces a b under f sink sunk result
@@ -88,7 +90,7 @@ module _ (fit : NotesFit) (replaced : FilesAreReplaced) (pages : PageChoice) (or
   }
 
   -- where the host began without notes
-  pub rewritten-from : (call : Call) (target : List ℕ) (a b : Holdings) (x y under : Telling) (f f' g : ℕ)
+  pub rewritten-from : (call : PromisedCall) (target : List ℕ) (a b : Holdings) (x y under : Telling) (f f' g : ℕ)
       (sink sunk : Option (List ℕ)) (result : Result Edited SessionFault) → target ≡ new_text name → x ≡ Notes []
       → f' ≡ f
       → Joined (λ old new. FileEdited pages order name target old new f' g sink sunk result) a b x y

@@ -1,6 +1,6 @@
 -- What the parts of an edit touch, one behind another.
 use Rattle.teco_apply.proofs.Prelude.{◌≡◌, ℕ, List, [], ◌++◌, Bool, false, Option, Result, Ok, Err, inl, inr, refl, sym}
-use Rattle.teco_apply.proofs.Prelude.{ap, opening, is_dropped, Call, IsReady, MOST, kept_loaded, EditTouches}
+use Rattle.teco_apply.proofs.Prelude.{ap, opening, is_dropped, PromisedCall, IsReady, MOST, kept_loaded, EditTouches}
 use Rattle.teco_apply.proofs.Prelude.{IsReadyLoaded, TouchesByParts, TouchesNone, by_none, by_string, by_dropping}
 use Rattle.teco_apply.proofs.Prelude.{in_turn, Edited, Event, Held, Telling, Tells, Notes, Touches, NotesFit, Holdings}
 use Rattle.teco_apply.proofs.Prelude.{Said, SessionFault, Done}
@@ -16,28 +16,29 @@ use Rattle.teco_session.specs.Touched.{TouchesByString}
 use Rattle.teco_session.specs.declared.fault.SessionFault.TheVariants as fault
 
 -- where no call is made
-pub parts-same : (call : Call) (a b : Holdings) (x : Telling) → b.held ≡ a.held → TouchesByParts call a b x x
+pub parts-same : (call : PromisedCall) (a b : Holdings) (x : Telling) → b.held ≡ a.held → TouchesByParts call a b x x
 parts-same call a b x same = by_none a b x x (rw (ap (λ (h : Held). h.end) same) (touches-none a.held.end x))
 
 -- where what was typed is taken
-pub parts-taken : (call : Call) (a b : Holdings) (x : Telling) → b ≡ record a { kept = record a.kept { typed = [] } }
+pub parts-taken : (call : PromisedCall) (a b : Holdings) (x : Telling)
+    → b ≡ record a { kept = record a.kept { typed = [] } }
     → TouchesByParts call a b x x
 parts-taken call a b x taken = parts-same call a b x (ap (λ (h : Holdings). h.held) taken)
 
 -- ---- runs of the macro, whose library is loaded
-asked-on : (call : Call) (a : Holdings) (x y : Telling)
+asked-on : (call : PromisedCall) (a : Holdings) (x y : Telling)
     → Measures (record a { kept = kept_loaded call.promise.library a.kept }) x y
     → TouchesByParts call a (record a { kept = kept_loaded call.promise.library a.kept }) x y
 asked-on call a x y measured =
     let ready = record a { kept = kept_loaded call.promise.library a.kept } in
     in_turn a ready ready x x y (parts-same call a ready x refl) (by_measure ready x y measured)
 
-pub asked-touches : (call : Call) (a ready : Holdings) (x y : Telling)
+pub asked-touches : (call : PromisedCall) (a ready : Holdings) (x y : Telling)
     → ready ≡ record a { kept = kept_loaded call.promise.library a.kept } → Measures ready x y
     → TouchesByParts call a ready x y
 asked-touches call a ready x y loaded measured = rw loaded (asked-on call a x y (rw loaded at measured))
 
-pub called-touches : (call : Call) (a ready b : Holdings) (x y z : Telling)
+pub called-touches : (call : PromisedCall) (a ready b : Holdings) (x y z : Telling)
     → ready ≡ record a { kept = kept_loaded call.promise.library a.kept } → Measures ready x y
     → TouchesNone (IsReady call.promise) ready b y z → TouchesByParts call a b x z
 called-touches call a ready b x y z loaded measured none =
@@ -59,12 +60,12 @@ pub string-touches : (steps : ℕ) (string : List ℕ) (a b : Holdings) (x y : T
 string-touches steps string a b x y s =
     (s.ran.touches.touched, by_taken s.ran.touches.touched a s.behind b x y s.taken s.ran.touches.notes)
 
-macro-touches : (call : Call) (a b : Holdings) (x y : Telling) → TouchesNone (IsReadyLoaded call) a b x y
+macro-touches : (call : PromisedCall) (a b : Holdings) (x y : Telling) → TouchesNone (IsReadyLoaded call) a b x y
     → (touched : List Event) × TouchesBetween touched a b x y
 macro-touches call a b x y (inl none) = ([], none.0)
 macro-touches call a b x y (inr was) = (was.touched, touches-on [] was.touched _ _ _ _ _ _ was.quiet was.others)
 
-pub parts-touch : (call : Call) (a b : Holdings) (x y : Telling) → TouchesByParts call a b x y
+pub parts-touch : (call : PromisedCall) (a b : Holdings) (x y : Telling) → TouchesByParts call a b x y
     → (touched : List Event) × TouchesBetween touched a b x y
 parts-touch call a b x y (by_none c d u v none) = ([], none)
 parts-touch call a b x y (by_measure desk u v most) = (noted_left most.0, most.1)
@@ -89,7 +90,7 @@ fit-measured fit output touched end end' (Notes a) (Notes b) t = record {
       anew.opened.own;
 }
 
-in-edit : NotesFit → (call : Call) (source target : List ℕ) (a b c : Holdings) (x y z : Telling)
+in-edit : NotesFit → (call : PromisedCall) (source target : List ℕ) (a b c : Holdings) (x y z : Telling)
     → TouchesOpening call (opening source target) a b x y → TouchesByParts call b c y z
     → TouchesInEdit call source target a c x z
 in-edit fit call source target a b c x y z opened drops =
@@ -110,7 +111,8 @@ in-edit fit call source target a b c x y z opened drops =
     }
 
 -- whatever it answers, if it is no want of memory, nor an argument that is not taken
-pub edit-touches : {X : Type 0} → NotesFit → (call : Call) (source target : List ℕ) (result : Result X SessionFault)
+pub edit-touches : {X : Type 0} → NotesFit
+    → (call : PromisedCall) (source target : List ℕ) (result : Result X SessionFault)
     (a b c : Holdings) (x y z : Telling) → (result ≡ Err fault.Memory → ⊥) → (result ≡ Err fault.Argument → ⊥)
     → (result ≡ Err fault.Read → ⊥)
     → TouchesOpening call (opening source target) a b x y → TouchesByParts call b c y z
@@ -126,7 +128,7 @@ edit-touches fit call source target (Err fault.Argument) a b c x y z memory argu
 edit-touches fit call source target (Err fault.Read) a b c x y z memory argument read opened drops = absurd (read refl)
 
 -- by what is said of it
-pub first-touches : (call : Call) (source target : List ℕ) (a b : Holdings) (x y : Telling)
+pub first-touches : (call : PromisedCall) (source target : List ℕ) (a b : Holdings) (x y : Telling)
     (edited : Result Edited SessionFault) (result : Result Done SessionFault) → Said (is_dropped edited) false result
     → EditTouches call source target edited a b x y → EditTouches call source target result a b x y
 first-touches call source target a b x y (Ok edited) result said t = rw said t

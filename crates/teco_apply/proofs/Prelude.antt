@@ -8,7 +8,8 @@ pub use Rattle.teco_apply.specs.ByPages.{AdmittedStops, Behind, BehindMacro, Beh
 pub use Rattle.teco_apply.specs.ByPages.{EndsInMacro, EndsWith, FileEdited, Gathers, Once, OpensBoth, Order, PagesCount}
 pub use Rattle.teco_apply.specs.ByPages.{PagesGathered, PagesTurned, RunsAdmitted, is_dropped, nothing_done, order_by}
 pub use Rattle.teco_apply.specs.ByPages.{to_start}
-pub use Rattle.teco_apply.specs.Sure.{Call, Calls, HasFiles, IsReady, MOST, TakesArgument, call_text, kept_loaded}
+pub use Rattle.teco_apply.specs.Sure.{Calls, HasFiles, IsReady, MOST, TakesArgument, call_text, kept_loaded}
+pub use Rattle.teco_apply.specs.Sure.{PromisedCall}
 pub use Rattle.teco_apply.specs.Touched.{EditTouches, IsReadyLoaded, TouchesByParts, TouchesNone, by_dropping, by_none}
 pub use Rattle.teco_apply.specs.Touched.{by_string, in_turn}
 pub use Rattle.teco_apply.specs.declared.by_pages.Edited.{Edited}

@@ -1,6 +1,7 @@
 -- A verified macro is sure to end.
 use Rattle.teco_apply.proofs.Prelude.{◌≡◌, ℕ, zero, suc, ◌<◌, ◌≤◌, List, [], ◌∷◌, length, Option, Some, None}
-use Rattle.teco_apply.proofs.Prelude.{option_map, IsSome, refl, subst, sym, arith, nat_tests, Call, Calls, HasFiles}
+use Rattle.teco_apply.proofs.Prelude.{option_map, IsSome, refl, subst, sym, arith, nat_tests, Calls, HasFiles}
+use Rattle.teco_apply.proofs.Prelude.{PromisedCall}
 use Rattle.teco_apply.proofs.Prelude.{IsReady, MOST, TakesArgument, call_text, kept_loaded, REGISTERS, IsLoaded, Stops}
 use Rattle.teco_apply.proofs.Prelude.{Kept, World, start, Stop, Input, Output, Held, IsSameOutput, unread_bytes}
 use Rattle.teco_apply.proofs.Prelude.{told-map, told-whole, HostFiles, AreOfBytes, Telling, world, Holdings, Joined}
@@ -70,7 +71,7 @@ pub record Laws : Type 0 where
   pub once : RunsEndOnce
 
 -- where a macro is called, of which this is promised
-pub record IsCalled (call : Call) (kept : Kept) (held : Held) : Type 0 where
+pub record IsCalled (call : PromisedCall) (kept : Kept) (held : Held) : Type 0 where
   pub sound : EachRunEnds call.promise
   pub loaded : IsLoaded call.promise.library kept
   pub whole : IsWhole kept
@@ -90,7 +91,8 @@ typed_at typed n end (stop.Ended m) new within comes =
     subst (λ (w : World). IsTypedWithin typed w.kept) (sym comes.1) within
 typed_at typed n end answer new within comes = tt
 
-module _ (laws : Laws) (call : Call) (kept : Kept) (held : Held) (is : IsCalled call kept held) (files : HostFiles)
+module _ (laws : Laws) (call : PromisedCall) (kept : Kept) (held : Held) (is : IsCalled call kept held)
+    (files : HostFiles)
     (bytes : AreOfBytes files) (same : IsSameOutput held files)
     (ready : IsReady call.promise (world kept held files)) where
   abbrev now : World
@@ -149,7 +151,7 @@ module _ (laws : Laws) (call : Call) (kept : Kept) (held : Held) (is : IsCalled 
       (laws.once (start (call_text call.promise.entry call.given) (world kept held files)) found.ends.steps MOST
       found.ends.new answer new found.ends.ends (omega (arith, found.ends.few, ready.counts)) stops)
 
-surely : Laws → (call : Call) (kept : Kept) (held : Held) → IsCalled call kept held → (files : HostFiles)
+surely : Laws → (call : PromisedCall) (kept : Kept) (held : Held) → IsCalled call kept held → (files : HostFiles)
     → AreOfBytes files → (answer : Stop) (new : World) → IsSameOutput held files
     → Stops (start (call_text call.promise.entry call.given) (world kept held files)) MOST answer new
     → Calls call answer (world kept held files) new
@@ -161,7 +163,7 @@ surely laws call kept held is files bytes answer new same stops = record {
   types = λ ready. is_typed laws call kept held is files bytes same ready answer new stops;
 }
 
-pub calls : Laws → (call : Call) (answer : Stop) (a b : Holdings) (f g : Telling) → IsCalled call a.kept a.held
+pub calls : Laws → (call : PromisedCall) (answer : Stop) (a b : Holdings) (f g : Telling) → IsCalled call a.kept a.held
     → Joined (λ old new. Stops (start (call_text call.promise.entry call.given) old) MOST answer new) a b f g
     → Joined (Calls call answer) a b f g
 calls laws call answer a b f g is = told-whole
@@ -176,7 +178,7 @@ calls laws call answer a b f g is = told-whole
     )) f g
 
 -- what is so of a call where the library is loaded is so of a run
-pub runs : (call : Call) (answer : Stop) (a loaded b : Holdings) (f g : Telling)
+pub runs : (call : PromisedCall) (answer : Stop) (a loaded b : Holdings) (f g : Telling)
     → loaded ≡ record a { kept = kept_loaded call.promise.library a.kept }
     → Joined (Calls call answer) loaded b f g → Joined (Runs call answer) a b f g
 runs call answer a loaded b f g e t =

@@ -1,7 +1,8 @@
 -- The run of a verified macro opens, names and drops no file, and some files fit what was noted of it.
 use Rattle.teco_apply.proofs.Prelude.{◌≡◌, ℕ, zero, suc, ◌+◌, ◌-◌, ◌<◌, ◌≤◌, List, [], ◌∷◌, Bool, true, false, Option}
 use Rattle.teco_apply.proofs.Prelude.{Some, None, Result, Ok, Err, inl, inr, refl, sym, ap, subst, ◌∙◌, arith, nat_le}
-use Rattle.teco_apply.proofs.Prelude.{nat_tests, Call, IsReady, call_text, kept_loaded, IsReadyLoaded, TouchesNone}
+use Rattle.teco_apply.proofs.Prelude.{nat_tests, IsReady, call_text, kept_loaded, IsReadyLoaded, TouchesNone}
+use Rattle.teco_apply.proofs.Prelude.{PromisedCall}
 use Rattle.teco_apply.proofs.Prelude.{world, Element, element_at, go_on, run, State, World, Next, End, start, step}
 use Rattle.teco_apply.proofs.Prelude.{Kind, told-whole, Event, IsSameOutput, AreOfBytes, HostFiles, Telling, Tells}
 use Rattle.teco_apply.proofs.Prelude.{Notes, Touches, NotesFit, Holdings, TouchesBySteps, touched_in_run}
@@ -123,7 +124,7 @@ some-fit fit output end end' (Notes a) (Notes b) t = record {
 }
 
 -- ---- the call of a verified macro
-module _ (fit : NotesFit) (laws : Laws) (call : Call) (a : Holdings) (is : IsCalled call a.kept a.held) where
+module _ (fit : NotesFit) (laws : Laws) (call : PromisedCall) (a : Holdings) (is : IsCalled call a.kept a.held) where
   abbrev from : World → State
   from old = start (call_text call.promise.entry call.given) old
 
@@ -171,7 +172,7 @@ module _ (fit : NotesFit) (laws : Laws) (call : Call) (a : Holdings) (is : IsCal
     by (event ∷ later) all = inr (was-not-ready event later b f g (t.due [] event later all))
 
 -- where its library is loaded first
-pub touches-none-loaded : (call : Call) (a loaded b : Holdings) (f g : Telling)
+pub touches-none-loaded : (call : PromisedCall) (a loaded b : Holdings) (f g : Telling)
     → loaded ≡ record a { kept = kept_loaded call.promise.library a.kept }
     → TouchesNone (IsReady call.promise) loaded b f g → TouchesNone (IsReadyLoaded call) a b f g
 touches-none-loaded call a loaded b f g e t =

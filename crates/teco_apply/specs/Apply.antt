@@ -17,7 +17,7 @@ use Rattle.teco_session.specs.Output.{Writes}
 use Rattle.teco_session.specs.declared.fault.SessionFault.{SessionFault}
 use Rattle.teco_session.specs.declared.fault.SessionFault.TheVariants as fault
 use Rattle.teco_session.specs.declared.sessions.Done.{Done}
-use Rattle.teco_apply.specs.Sure.{Call, MOST, Runs, IsMissing}
+use Rattle.teco_apply.specs.Sure.{PromisedCall, MOST, Runs, IsMissing}
 use Rattle.teco_apply.specs.declared.ready.NotReady.{NotReady}
 use Rattle.teco_apply.specs.declared.ready.NotReady.TheVariants.{NoInput, NoOutput, Argument, Memory}
 
@@ -77,7 +77,7 @@ abbrev pub TextStops : List ℕ → World → Stop → World → Type 0
 TextStops text old stop new = Stops (start text old) MOST stop new
 
 -- The macro is run, or it is not; where both files are known to be open, only want of memory keeps it from that.
-abbrev pub MacroStops : Bool → Call → World → Stop → World → Type 0
+abbrev pub MacroStops : Bool → PromisedCall → World → Stop → World → Type 0
 MacroStops true call old stop new = Runs call stop old new ⊎ WantsMemory old stop new
 MacroStops false call old stop new = Runs call stop old new ⊎ IsNotRun call.promise.needs old stop new
 
@@ -100,7 +100,7 @@ Course = World → World → ℕ → ℕ → Option (List ℕ) → Option (List 
 abbrev pub AnswersText : List ℕ → Course
 AnswersText text old new f g sink sunk result = RunWrites (TextStops text old) new f g sink sunk result
 
-abbrev pub AnswersMacro : Bool → Call → Course
+abbrev pub AnswersMacro : Bool → PromisedCall → Course
 AnswersMacro opened call old new f g sink sunk result =
     RunWrites (MacroStops opened call old) new f g sink sunk result
 
@@ -116,11 +116,11 @@ pub data Then (First Next : Course) (old new : World) (f g : ℕ) (sink sunk : O
       Then First Next old new f g sink sunk result
 
 -- the macro is run, and the output is closed
-abbrev pub Finishes : Bool → Call → Course
+abbrev pub Finishes : Bool → PromisedCall → Course
 Finishes opened call = Then (AnswersMacro opened call) (AnswersText closing)
 
 -- the files are opened before
-abbrev pub Edits : Bool → Call → List ℕ → Course
+abbrev pub Edits : Bool → PromisedCall → List ℕ → Course
 Edits opened call text = Then (AnswersText text) (Finishes opened call)
 
 -- behind a code the output is dropped, and what stops that is not told
@@ -135,7 +135,7 @@ DropsIfCoded (Ok false) old new f g = (new ≡ old) × (g ≡ f)
 DropsIfCoded (Err cannot) old new f g = (new ≡ old) × (g ≡ f)
 
 -- The edit of one file into another. Where no name has an ESC, both are open when the macro is to be run.
-pub record Applies (call : Call) (source target : List ℕ) (old new : World) (f g : ℕ)
+pub record Applies (call : PromisedCall) (source target : List ℕ) (old new : World) (f g : ℕ)
     (sink sunk : Option (List ℕ))
     (result : Result Done SessionFault) : Type 0 where
   pub edited : World
@@ -147,7 +147,7 @@ pub record Applies (call : Call) (source target : List ℕ) (old new : World) (f
 
 -- What comes of it. With an argument that the macro does not take, or without memory for the first command string,
 -- nothing is done.
-abbrev pub Applied : Call → List ℕ → List ℕ → World → World → ℕ → ℕ → Option (List ℕ)
+abbrev pub Applied : PromisedCall → List ℕ → List ℕ → World → World → ℕ → ℕ → Option (List ℕ)
     → Option (List ℕ) → Result Done SessionFault → Type 0
 Applied call source target old new f g sink sunk (Ok done) =
     Applies call source target old new f g sink sunk (Ok done)

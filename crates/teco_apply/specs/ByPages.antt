@@ -4,7 +4,7 @@ use Rattle.std.specs.Prelude.{Option, IfSome, Result, Ok, Err}
 use Rattle.std.specs.Io.KnownBytes.{Keeps}
 use Rattle.teco_apply.specs.Apply.{AnswersText, BothOpen, Course, DropsIfCoded, IsNotRun, LineCounts, RunWrites}
 use Rattle.teco_apply.specs.Apply.{are_plain, closing, opening}
-use Rattle.teco_apply.specs.Sure.{Call, MOST, Runs, loaded}
+use Rattle.teco_apply.specs.Sure.{PromisedCall, MOST, Runs, loaded}
 use Rattle.teco_apply.specs.declared.by_pages.Edited.{Edited}
 use Rattle.teco_apply.specs.declared.by_pages.PageChoice.{PageChoice}
 use Rattle.teco_apply.specs.declared.by_pages.PageChoice.TheVariants.{First, Each, Whole}
@@ -73,10 +73,10 @@ Answering = ℕ → Option ℕ → Bool → Type 0
 
 -- a macro that is to be run, and what a guard's answers say
 pub record Order : Type 1 where
-  pub call : Call
+  pub call : PromisedCall
   pub answers : Answering
 
-abbrev pub order_by : Answering → Call → Order
+abbrev pub order_by : Answering → PromisedCall → Order
 order_by answers call = record { call = call; answers = answers }
 
 -- it was asked with what is held, and at least what is unread, if that is told

@@ -29,7 +29,7 @@ abbrev pub loaded : Library → World → World
 loaded library world = record world { kept = kept_loaded library world.kept }
 
 -- what is promised of a macro, and the argument that it is given
-pub record Call : Type 0 where
+pub record PromisedCall : Type 0 where
   pub promise : Promise
   pub given : Option ℤ
 
@@ -39,7 +39,7 @@ IsTaken argument None = IsAsked argument None
 IsTaken argument (Some (pos n)) = IsAsked argument (Some n)
 IsTaken argument (Some (negsuc n)) = ⊥
 
-abbrev pub TakesArgument : Call → Type 0
+abbrev pub TakesArgument : PromisedCall → Type 0
 TakesArgument call = IsTaken call.promise.argument call.given
 
 -- the argument in decimal, and the call
@@ -60,7 +60,7 @@ TypesWithin typed answer new = ⊤
 -- The macro is called as the command machine does it, with an argument that it takes. Where it is ready, it is sure to
 -- end within the printed number of commands, and at its end the files are as open as they were, no more is unread, and
 -- no more bytes are typed than are told.
-pub record Calls (call : Call) (answer : Stop) (old new : World) : Type 0 where
+pub record Calls (call : PromisedCall) (answer : Stop) (old new : World) : Type 0 where
   pub taken : TakesArgument call
   pub stops : Stops (start (call_text call.promise.entry call.given) old) MOST answer new
   pub sure : IsReady call.promise old → IsSure (value call.promise.commands (n_of old)) answer
@@ -70,7 +70,7 @@ pub record Calls (call : Call) (answer : Stop) (old new : World) : Type 0 where
       → TypesWithin (most_typed call.promise.types (n_of old) (length old.kept.typed)) answer new
 
 -- the macro is called where the library is loaded first
-abbrev pub Runs : Call → Stop → World → World → Type 0
+abbrev pub Runs : PromisedCall → Stop → World → World → Type 0
 Runs call answer old new = Calls call answer (loaded call.promise.library old) new
 
 -- a file is needed and not open
@@ -87,7 +87,7 @@ pub record HasFiles (needs : Needs) (held : Held) : Type 0 where
 
 -- Whether the macro is run: not where a file is missing that it needs, the input first, nor with an argument that
 -- it does not take.
-abbrev pub Answers : {X : Type 0} → Call → Held → Result X NotReady → Type 0
+abbrev pub Answers : {X : Type 0} → PromisedCall → Held → Result X NotReady → Type 0
 Answers call held (Ok x) = HasFiles call.promise.needs held × TakesArgument call
 Answers call held (Err NoInput) = IsMissing call.promise.needs.input held.input
 Answers call held (Err NoOutput) =

@@ -2,7 +2,7 @@
 use Rattle.std.specs.Prelude.{ℕ, ◌≡◌, ◌⊎◌, List, [], Option, Result, Ok, Err}
 use Rattle.teco_apply.specs.Apply.{closing, dropping, opening}
 use Rattle.teco_apply.specs.ByPages.{gathering, to_start, turning}
-use Rattle.teco_apply.specs.Sure.{Call, IsReady, MOST, loaded}
+use Rattle.teco_apply.specs.Sure.{PromisedCall, IsReady, MOST, loaded}
 use Rattle.teco_model.specs.State.{World}
 use Rattle.teco_pages.specs.Events.{Event}
 use Rattle.teco_pages.specs.HostFiles.{Telling}
@@ -32,7 +32,7 @@ TouchesNone ready old new before after =
     ⊎ WasNotReady ready old new before after
 
 -- a macro is ready where its library is loaded first
-abbrev pub IsReadyLoaded : Call → World → Type 0
+abbrev pub IsReadyLoaded : PromisedCall → World → Type 0
 IsReadyLoaded call world = IsReady call.promise (loaded call.promise.library world)
 
 -- ---- edits
@@ -47,7 +47,7 @@ IsOfPages string = (string ≡ turning) ⊎ (string ≡ gathering) ⊎ (string �
 -- What is done behind it, in turn: calls that touch no file, or measure the input; these command strings and the one
 -- that drops the output, each of which touches just what its steps touch by the definition; runs of the macro, which
 -- touch none.
-pub data TouchesByParts (call : Call) : Holdings → Holdings → Telling → Telling → Type 0 where
+pub data TouchesByParts (call : PromisedCall) : Holdings → Holdings → Telling → Telling → Type 0 where
   by_none : (old new : Holdings) (before after : Telling) → TouchesBetween [] old new before after
       → TouchesByParts call old new before after
   by_measure : (desk : Holdings) (before after : Telling) → Measures desk before after
@@ -67,14 +67,15 @@ pub record AreMeasuredAnew (output : Option (List ℕ)) (events : List Event) : 
   pub gives : GivesMeasured events
 
 -- a command string that opens the files is run once, before all else
-pub record TouchesOpening (call : Call) (string : List ℕ) (old new : Holdings) (before after : Telling) : Type 0 where
+pub record TouchesOpening (call : PromisedCall) (string : List ℕ) (old new : Holdings) (before after : Telling) :
+    Type 0 where
   pub mid : Holdings
   pub until : Telling
   pub opened : TouchesByString MOST string old mid before until
   pub behind : TouchesByParts call mid new until after
 
 -- The edit of one file into another.
-pub record TouchesInEdit (call : Call) (source target : List ℕ) (old new : Holdings) (before after : Telling) :
+pub record TouchesInEdit (call : PromisedCall) (source target : List ℕ) (old new : Holdings) (before after : Telling) :
     Type 0 where
   pub opened : TouchesOpening call (opening source target) old new before after
   pub touched : List Event
@@ -82,7 +83,8 @@ pub record TouchesInEdit (call : Call) (source target : List ℕ) (old new : Hol
   pub possible : FitWhere (AreMeasuredAnew old.held.output) old.held.output before after
 
 -- With an argument that is not taken, or without memory for the first command string, no call is made.
-abbrev pub EditTouches : {X : Type 0} → Call → List ℕ → List ℕ → Result X SessionFault → Holdings → Holdings → Telling
+abbrev pub EditTouches : {X : Type 0} → PromisedCall → List ℕ → List ℕ → Result X SessionFault → Holdings → Holdings
+    → Telling
     → Telling
     → Type 0
 EditTouches call source target (Ok edited) old new before after = TouchesInEdit call source target old new before after

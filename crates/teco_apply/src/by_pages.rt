@@ -3,7 +3,7 @@ ghost use Rattle.std.specs.Prelude.{◌≡◌, ◌≤◌, ◌<◌, ◌↔◌, Er
 ghost use Rattle.teco_apply.specs.Apply.{LineCounts};
 ghost use Rattle.teco_apply.specs.ByPages.{AllPages, EachPage, EditsPages, EditsText, FileCounts, FileEdited};
 ghost use Rattle.teco_apply.specs.ByPages.{FromStart, Gathers, Once, PagesCount, is_dropped, order_by};
-ghost use Rattle.teco_apply.specs.Sure.{Call, IsTaken, TakesArgument};
+ghost use Rattle.teco_apply.specs.Sure.{PromisedCall, IsTaken, TakesArgument};
 ghost use Rattle.teco_apply.specs.Touched.{EditTouches, TouchesByParts, TouchesOpening};
 ghost use Rattle.teco_base.specs.declared.TheConstants.{LIMIT};
 ghost use Rattle.teco_run.specs.Holdings.{Joined};
@@ -11,7 +11,7 @@ ghost use Rattle.teco_session.specs.declared.fault.SessionFault.TheVariants as f
 
 use crate::editing::{Heard, NAME, answer_text, drop_if_coded, opening, tell};
 use crate::guard::{Guard, Observer, Order};
-use crate::run::{Call, takes};
+use crate::run::{PromisedCall, takes};
 use crate::stages::{Ran, Tally, Turned, close, not_begun, run_admitted, turn};
 use std::alloc::Global;
 use std::io::Write;
@@ -149,7 +149,7 @@ fn gather<T: TextStore, H: Host, W: Write, L: Listener<H>>(
         (H.failures host.old) (H.failures host.new)
         (W.contents writer.old) (W.contents writer.new) result)
         machine.old machine.new (H.files host.old) (H.files host.new) }
-    ensures touches { (call : Call) →
+    ensures touches { (call : PromisedCall) →
         TouchesByParts call machine.old machine.new (H.files host.old) (H.files host.new) }
     ensures counted { LineCounts result (H.failures host.old) (H.failures host.new) }
 {
@@ -346,7 +346,7 @@ pub fn edit_file<T: TextStore, H: Host, W: Write, G: Guard, O: Observer<H>>(
         return Err(SessionFault::Argument);
     }
     let opening = opening(edit.alloc, edit.source, edit.target)?;
-    let call = Call {
+    let call = PromisedCall {
         promise: edit.promise,
         given: edit.given,
     };

@@ -2,7 +2,7 @@
 ghost use Rattle.std.specs.Prelude.{◌≡◌, ◌≤◌, ◌++◌, [], IfOk, length};
 ghost use Rattle.teco_apply.specs.Apply as edit;
 ghost use Rattle.teco_apply.specs.Apply.{AnswersText, DropCounts, DropsIfCoded, LineCounts, opening};
-ghost use Rattle.teco_apply.specs.Sure.{Call, MOST};
+ghost use Rattle.teco_apply.specs.Sure.{PromisedCall, MOST};
 ghost use Rattle.teco_apply.specs.Touched.{TouchesByParts};
 ghost use Rattle.teco_base.specs.declared.TheConstants.{LIMIT};
 ghost use Rattle.teco_model.specs.Session.{code_of, code_line, is_code};
@@ -111,7 +111,7 @@ pub fn drop_if_coded<T: TextStore, H: Host>(
     ensures drops { Joined (λ old new. DropsIfCoded line old new
         (H.failures host.old) (H.failures host.new))
         machine.old machine.new (H.files host.old) (H.files host.new) }
-    ensures touches { (call : Call) →
+    ensures touches { (call : PromisedCall) →
         TouchesByParts call machine.old machine.new (H.files host.old) (H.files host.new) }
     ensures counted { DropCounts line (H.failures host.old) (H.failures host.new) }
 {

@@ -1,7 +1,7 @@
 //! What is asked before a verified macro is run.
 ghost use Rattle.std.specs.Prelude.{ℕ, ◌≡◌, Option, Bool, true};
 
-use crate::run::Call;
+use crate::run::PromisedCall;
 use teco_base::Code;
 use teco_pages::Host;
 use teco_run::{Machine, Stopped};
@@ -41,7 +41,7 @@ pub trait Observer<H: Host>: Listener<H> {
 #[derive(Drop)]
 pub struct Order<'a, G: Guard> {
     /// The macro, with its argument.
-    pub call: &'a Call<'a>,
+    pub call: &'a PromisedCall<'a>,
     /// What is asked before each run.
     pub guard: &'a G,
 }

@@ -16,5 +16,5 @@ pub use first_page::apply;
 pub use guard::{Asked, Guard, Observer, Willing};
 pub use in_place::{Rewrite, Rewritten, edit_in_place};
 pub use ready::NotReady;
-pub use run::{Call, run_promised, run_verified, run_verified_with};
+pub use run::{PromisedCall, run_promised, run_verified, run_verified_with};
 pub use teco_in_place::{Drops, Ending, Replaces};

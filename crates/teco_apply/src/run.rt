@@ -24,15 +24,15 @@ use teco_verify::Verified;
 
 /// What is promised of a macro, and the argument that it is given.
 #[derive(Drop)]
-pub struct Call<'a> {
+pub struct PromisedCall<'a> {
     pub promise: &'a Promise<'a>,
     pub given: Option<i32>,
 }
 
-impl<'a> Model for Call<'a> {
+impl<'a> Model for PromisedCall<'a> {
     ghost use Rattle.teco_apply.specs.Sure as model;
 
-    ghost Value = { model.Call };
+    ghost Value = { model.PromisedCall };
 
     ghost view = { λ c. record { promise = c.promise.now; given = c.given } };
 }
@@ -69,7 +69,7 @@ pub fn call_text(entry: Reg, given: Option<i32>) -> ArrayVec<u8, CALL>
 /// Calls a macro where its library is loaded, and the files that it needs are open.
 pub fn call_promised<T: TextStore, H: Host>(
     machine: &mut Machine<T>,
-    call: &Call<'_>,
+    call: &PromisedCall<'_>,
     host: &mut H,
 ) -> Stopped
     requires loaded { IsLoaded call.now.promise.library machine.old.kept }
@@ -95,7 +95,10 @@ pub fn call_promised<T: TextStore, H: Host>(
 
 /// Loads the library of a macro, if it may be run with an argument, or with none. A refusal leaves
 /// all as it is.
-pub fn make_ready<T: TextStore>(machine: &mut Machine<T>, call: &Call<'_>) -> Result<(), NotReady>
+pub fn make_ready<T: TextStore>(
+    machine: &mut Machine<T>,
+    call: &PromisedCall<'_>,
+) -> Result<(), NotReady>
     ensures answer { Answers call.now
         machine.old.held result }
     ensures loaded { OnOk result (machine.new ≡
@@ -127,7 +130,7 @@ pub fn make_ready<T: TextStore>(machine: &mut Machine<T>, call: &Call<'_>) -> Re
 /// input or the output that it needs is not open; memory for the library's texts is refused.
 pub fn run_promised<T: TextStore, H: Host>(
     machine: &mut Machine<T>,
-    call: &Call<'_>,
+    call: &PromisedCall<'_>,
     host: &mut H,
 ) -> Result<Stop, NotReady>
     ensures answer { Answers call.now
@@ -190,7 +193,7 @@ pub fn run_verified<T: TextStore, H: Host>(
         machine.old machine.new (H.files host.old) (H.files host.new)) }
 {
     let promise = verified.promise();
-    let call = Call {
+    let call = PromisedCall {
         promise: &promise,
         given: None,
     };
@@ -223,7 +226,7 @@ pub fn run_verified_with<T: TextStore, H: Host>(
         machine.old machine.new (H.files host.old) (H.files host.new)) }
 {
     let promise = verified.promise();
-    let call = Call {
+    let call = PromisedCall {
         promise: &promise,
         given: Some(n),
     };

@@ -6,7 +6,7 @@ ghost use Rattle.teco_apply.specs.ByPages as edit;
 ghost use Rattle.teco_apply.specs.ByPages.{AdmittedStops, Closing, EndsWith, IsAskedAt, IsRefused, PagesCount, RanBy};
 ghost use Rattle.teco_apply.specs.ByPages.{RanCounts, RunsAdmitted, TurnCounts, TurnedBy, Turns, edited_with};
 ghost use Rattle.teco_apply.specs.ByPages.{nothing_done, order_by, tally_after};
-ghost use Rattle.teco_apply.specs.Sure.{Call, TakesArgument};
+ghost use Rattle.teco_apply.specs.Sure.{PromisedCall, TakesArgument};
 ghost use Rattle.teco_apply.specs.Touched.{IsOfPages, Measures, TouchesByParts};
 ghost use Rattle.teco_base.specs.declared.TheConstants.{LIMIT};
 ghost use Rattle.teco_model.specs.Paging.{unread_of};
@@ -246,7 +246,7 @@ pub fn turn<T: TextStore, H: Host, W: Write, L: Listener<H>>(
         (H.failures host.old) (H.failures host.new)
         (W.contents writer.old) (W.contents writer.new) result)
         machine.old machine.new (H.files host.old) (H.files host.new) }
-    ensures touches { (call : Call) → IsOfPages text.now →
+    ensures touches { (call : PromisedCall) → IsOfPages text.now →
         TouchesByParts call machine.old machine.new (H.files host.old) (H.files host.new) }
     ensures counted { TurnCounts result (H.failures host.old) (H.failures host.new) }
 {
@@ -276,7 +276,7 @@ pub fn close<T: TextStore, H: Host, W: Write, L: Listener<H>>(
         (H.failures host.old) (H.failures host.new)
         (W.contents writer.old) (W.contents writer.new) result)
         machine.old machine.new (H.files host.old) (H.files host.new) }
-    ensures touches { (call : Call) →
+    ensures touches { (call : PromisedCall) →
         TouchesByParts call machine.old machine.new (H.files host.old) (H.files host.new) }
     ensures counted { PagesCount result (H.failures host.old) (H.failures host.new) }
 {

@@ -145,7 +145,7 @@ impl Bounds {
         }
     }
 
-    // The bounds of these symbols, in this order.
+    // The bounds of these symbols, in this order. There are none of a symbol that has no row.
     pub fn of_symbols(&self, symbols: &[u32], alloc: Global) -> Result<Bounds, AllocError> {
         let mut rows = Vec::new(alloc);
         rows.push(0usize).map_err(AllocError::from)?;
@@ -154,9 +154,13 @@ impl Bounds {
             rows.push(row).map_err(AllocError::from)?;
         }
         let mut table = Vec::with_capacity(alloc, rows.len().saturating_mul(rows.len()))?;
-        for row in 0..rows.len() {
-            for column in 0..rows.len() {
-                let most = self.between(&rows, row, column);
+        for (row, from) in rows.iter().enumerate() {
+            for (column, to) in rows.iter().enumerate() {
+                let most = if row == column {
+                    0
+                } else {
+                    self.at(*from, *to)
+                };
                 table.push(most).map_err(AllocError::from)?;
             }
         }
@@ -167,19 +171,6 @@ impl Bounds {
             is_rough: self.is_rough,
             is_exact: self.is_exact,
         })
-    }
-
-    // The bound between two of some rows, some of which there are not.
-    fn between(&self, rows: &[usize], row: usize, column: usize) -> i64 {
-        if row == column {
-            return 0;
-        }
-        match (rows.get(row), rows.get(column)) {
-            (Some(row), Some(column)) if *row < self.size() && *column < self.size() => {
-                self.at(*row, *column)
-            }
-            _ => NONE,
-        }
     }
 
     // Makes the row and the column of a symbol, where there are none.
@@ -405,6 +396,14 @@ impl Bounds {
         Ok(())
     }
 
+    // Takes it that forms are at least 0.
+    pub fn add_all(&mut self, forms: &[Form], alloc: Global) -> Result<(), AllocError> {
+        for form in forms {
+            self.add(form, alloc)?;
+        }
+        Ok(())
+    }
+
     // Takes it of a form that is no difference, if it says something.
     fn add_other(&mut self, form: &Form) {
         if self.shows(form) {
@@ -418,13 +417,11 @@ impl Bounds {
     }
 
     fn add_difference(&mut self, difference: &Difference) {
-        let (Some(left), Some(right), Ok(most)) = (
-            self.place(difference.left),
-            self.place(difference.right),
-            i64::try_from(difference.most),
-        ) else {
+        let (Some(left), Some(right)) = (self.place(difference.left), self.place(difference.right))
+        else {
             return;
         };
+        let most = i64::try_from(difference.most).unwrap_or(NONE);
         if self.at(left, right) <= most {
             return;
         }

@@ -2,7 +2,7 @@
 use crate::bounds::{Bounds, NONE};
 use crate::fault::SearchStop;
 use crate::measures::{LENGTH, NUMBER, PUSHED_LENGTH, PUSHED_NUMBER, TURNS, family_of};
-use crate::trail::Trail;
+use crate::trail::{Trail, form_in};
 use std::alloc::Global;
 use teco_base::LIMIT;
 use teco_linear::{Form, Term};
@@ -81,8 +81,8 @@ impl Key {
 // Which measures of a case bounds are kept of.
 fn told_of(present: &[bool], spoken: &[bool], alloc: Global) -> Result<Vec<u32>, SearchStop> {
     let mut told = Vec::new(alloc);
-    for place in 0..present.len() {
-        if present.get(place) == Some(&true) && spoken.get(place) != Some(&false) {
+    for (place, is_present) in present.iter().enumerate() {
+        if *is_present && spoken.get(place) != Some(&false) {
             told.push(u32::try_from(place).unwrap_or(0))?;
         }
     }
@@ -92,12 +92,12 @@ fn told_of(present: &[bool], spoken: &[bool], alloc: Global) -> Result<Vec<u32>,
 // Whether the pointer is at the buffer's end.
 fn at_end(trail: &Trail, alloc: Global) -> Result<Option<bool>, SearchStop> {
     let (Some(pointer), Some(size)) = (
-        form_at(&trail.case.forms, POINTER as usize, alloc)?,
-        form_at(&trail.case.forms, SIZE as usize, alloc)?,
+        form_in(&trail.case.forms, POINTER),
+        form_in(&trail.case.forms, SIZE),
     ) else {
         return Ok(None);
     };
-    let ahead = size.sub(&pointer, alloc)?;
+    let ahead = size.sub(pointer, alloc)?;
     Ok(if trail.bounds.most(&ahead).is_some_and(|most| most <= 0) {
         Some(true)
     } else if trail.bounds.least(&ahead).is_some_and(|least| least >= 1) {
@@ -125,27 +125,46 @@ fn top_of(most: i64) -> Option<i64> {
 // Raises what is known of quotients to what their key tells, so that it stays.
 pub fn raise_quotients(facts: &mut Bounds, key: &Key, flags: &[Flag]) {
     for (flag, number) in flags.iter().zip(key.flags.iter()) {
-        let row = facts.place(Some(flag.place));
-        if let (true, Some(top), Some(row)) = (flag.numbers.is_empty(), number, row) {
-            facts.set(row, 0, *top);
+        if let (Some(top), Some(row)) = (number, facts.place(Some(flag.place))) {
+            if flag.numbers.is_empty() {
+                facts.set(row, 0, *top);
+            }
         }
     }
 }
 
 // The number of a flag, if it is one of its numbers.
-fn flag_at(trail: &Trail, flag: &Flag, alloc: Global) -> Result<Option<i64>, SearchStop> {
-    let Some(number) = form_at(&trail.case.forms, flag.place as usize, alloc)? else {
-        return Ok(None);
-    };
+fn flag_at(trail: &Trail, flag: &Flag) -> Option<i64> {
+    let number = form_in(&trail.case.forms, flag.place)?;
+    let most = trail.bounds.most(number)?;
     if flag.numbers.is_empty() {
-        return Ok(trail.bounds.most(&number).and_then(top_of));
+        return top_of(most);
     }
-    let least = trail.bounds.least(&number);
-    Ok(match least {
-        Some(least) if trail.bounds.most(&number) == Some(least) && flag.numbers.contains(&least) =>
-            { Some(least) }
-        _ => None,
-    })
+    let is_known = trail.bounds.least(number) == Some(most) && flag.numbers.contains(&most);
+    if is_known { Some(most) } else { None }
+}
+
+// The numbers of flags.
+fn flags_at(trail: &Trail, flags: &[Flag], alloc: Global) -> Result<Vec<Option<i64>>, SearchStop> {
+    let mut numbers = Vec::new(alloc);
+    for flag in flags {
+        numbers.push(flag_at(trail, flag))?;
+    }
+    Ok(numbers)
+}
+
+// Which measures a case has, up to the last one.
+fn present_in(case: &Case, alloc: Global) -> Result<Vec<bool>, SearchStop> {
+    let mut present = Vec::new(alloc);
+    let mut count = 0usize;
+    for form in &case.forms {
+        present.push(form.is_some())?;
+        if form.is_some() {
+            count = present.len();
+        }
+    }
+    present.truncate(count);
+    Ok(present)
 }
 
 // The key of a trail.
@@ -155,25 +174,13 @@ pub fn key_of(
     spoken: &[bool],
     alloc: Global,
 ) -> Result<Key, SearchStop> {
-    let mut present = Vec::new(alloc);
-    for form in &trail.case.forms {
-        present.push(form.is_some())?;
-    }
-    for _ in 0..present.len() {
-        if present.last() != Some(&false) {
-            break;
-        }
-        let _absent = present.pop();
-    }
-    let mut numbers = Vec::new(alloc);
-    for flag in flags {
-        numbers.push(flag_at(trail, flag, alloc)?)?;
-    }
+    let at_end = at_end(trail, alloc)?;
+    let present = present_in(&trail.case, alloc)?;
     let told = told_of(&present, spoken, alloc)?;
     Ok(Key {
         number: trail.number,
-        at_end: at_end(trail, alloc)?,
-        flags: numbers,
+        at_end,
+        flags: flags_at(trail, flags, alloc)?,
         shape: copied_shape(&trail.case.shape, alloc)?,
         present,
         told,
@@ -223,25 +230,40 @@ fn near(most: i64, is_alone: bool) -> i64 {
     }
 }
 
-// What a trail says of the differences of the measures of a key.
-pub fn projected(trail: &Trail, told: &[u32], alloc: Global) -> Result<Bounds, SearchStop> {
+// The forms of these measures behind that of 0.
+fn told_forms(trail: &Trail, told: &[u32], alloc: Global) -> Result<Vec<Form>, SearchStop> {
     let mut forms = Vec::new(alloc);
     forms.push(Form::zero(alloc))?;
     for place in told {
         let form = form_at(&trail.case.forms, *place as usize, alloc)?;
         forms.push(form.unwrap_or(Form::zero(alloc)))?;
     }
-    let mut facts = Bounds::none(alloc)?.of_symbols(told, alloc)?;
-    for row in 0..forms.len() {
-        for column in 0..forms.len() {
-            if let (Some(one), Some(other)) = (forms.get(row), forms.get(column)) {
-                if row != column {
-                    let most = between(trail, one, other, alloc)?;
-                    facts.set(row, column, near(most, row == 0 || column == 0));
-                }
+    Ok(forms)
+}
+
+// Sets facts to what a trail says of the differences of forms.
+fn set_between(
+    facts: &mut Bounds,
+    trail: &Trail,
+    forms: &[Form],
+    alloc: Global,
+) -> Result<(), SearchStop> {
+    for (row, one) in forms.iter().enumerate() {
+        for (column, other) in forms.iter().enumerate() {
+            if row != column {
+                let most = between(trail, one, other, alloc)?;
+                facts.set(row, column, near(most, row == 0 || column == 0));
             }
         }
     }
+    Ok(())
+}
+
+// What a trail says of the differences of the measures of a key.
+pub fn projected(trail: &Trail, told: &[u32], alloc: Global) -> Result<Bounds, SearchStop> {
+    let forms = told_forms(trail, told, alloc)?;
+    let mut facts = Bounds::none(alloc)?.of_symbols(told, alloc)?;
+    set_between(&mut facts, trail, &forms, alloc)?;
     Ok(facts)
 }
 
@@ -288,18 +310,6 @@ fn add_tame(bounds: &mut Bounds, tame: &[u32]) {
         lower(bounds, None, Some(*place), LIMIT as i64);
         lower(bounds, Some(*place), None, LIMIT as i64);
     }
-}
-
-// Of which symbol a place is so much more, where that is known: of one of those before it, or of 0.
-pub fn stands_for(bounds: &Bounds, row: usize, is_own: &[bool]) -> Option<(usize, i64)> {
-    for other in 0..row {
-        let (most, back) = (bounds.at(row, other), bounds.at(other, row));
-        let is_equal = most != NONE && back != NONE && most.saturating_add(back) == 0;
-        if is_equal && is_own.get(other) == Some(&true) {
-            return Some((other, most));
-        }
-    }
-    None
 }
 
 // A symbol, or none, and a number.
@@ -356,100 +366,149 @@ pub fn least_forms(bounds: &Bounds, alloc: Global) -> Result<Vec<Form>, SearchSt
     Ok(forms)
 }
 
-// All bounds as constraints: the equations, and the least of the others.
-pub fn all_forms(bounds: &Bounds, alloc: Global) -> Result<Vec<Form>, SearchStop> {
-    let mut is_own = Vec::from_elem(alloc, true, bounds.size())?;
-    let mut own = Vec::new(alloc);
-    let mut equations = Vec::new(alloc);
-    for row in 1..bounds.size() {
-        let Some(symbol) = symbol_of(bounds, row) else {
-            continue;
-        };
-        match stands_for(bounds, row, &is_own) {
-            Some((other, _more)) => {
-                if let Some(mark) = is_own.get_mut(row) {
-                    *mark = false;
-                }
-                equations.push(bound_form(bounds, row, other, alloc)?)?;
-                equations.push(bound_form(bounds, other, row, alloc)?)?;
-            }
-            None => own.push(symbol)?,
+// That a row is another one, which is before it, and so much more; and the symbol of the row.
+#[derive(Clone, Copy)]
+pub struct EqualRow {
+    pub row: usize,
+    pub symbol: u32,
+    pub other: usize,
+    pub more: i64,
+}
+
+// The rows of bounds that are equal to others but for a number, and the symbols of the others.
+#[derive(Drop)]
+pub struct EqualRows {
+    pub equal: Vec<EqualRow>,
+    pub own: Vec<u32>,
+}
+
+// Which row a row is equal to but for a number, where that is known: one of those before it, or that of 0.
+fn equal_row(bounds: &Bounds, row: usize, is_own: &[bool]) -> Option<EqualRow> {
+    let symbol = symbol_of(bounds, row)?;
+    for other in 0..row {
+        let (more, back) = (bounds.at(row, other), bounds.at(other, row));
+        let is_equal = more != NONE && back != NONE && more.saturating_add(back) == 0;
+        if is_equal && is_own.get(other) == Some(&true) {
+            return Some(EqualRow {
+                row,
+                symbol,
+                other,
+                more,
+            });
         }
     }
-    let mut forms = least_forms(&bounds.of_symbols(&own, alloc)?, alloc)?;
-    forms.append(&mut equations)?;
+    None
+}
+
+// Which rows are equal to others.
+pub fn equal_rows(bounds: &Bounds, alloc: Global) -> Result<EqualRows, SearchStop> {
+    let mut is_own = Vec::new(alloc);
+    is_own.push(true)?;
+    let mut rows = EqualRows {
+        equal: Vec::new(alloc),
+        own: Vec::new(alloc),
+    };
+    for symbol in bounds.symbols() {
+        let found = equal_row(bounds, is_own.len(), &is_own);
+        is_own.push(found.is_none())?;
+        match found {
+            Some(equal) => rows.equal.push(equal)?,
+            None => rows.own.push(*symbol)?,
+        }
+    }
+    Ok(rows)
+}
+
+// Adds that rows are equal as constraints.
+fn add_equations(
+    forms: &mut Vec<Form>,
+    bounds: &Bounds,
+    equal: &[EqualRow],
+    alloc: Global,
+) -> Result<(), SearchStop> {
+    for each in equal {
+        forms.push(bound_form(bounds, each.row, each.other, alloc)?)?;
+        forms.push(bound_form(bounds, each.other, each.row, alloc)?)?;
+    }
+    Ok(())
+}
+
+// All bounds as constraints: the least of those that are no equations, and the equations.
+pub fn all_forms(bounds: &Bounds, alloc: Global) -> Result<Vec<Form>, SearchStop> {
+    let rows = equal_rows(bounds, alloc)?;
+    let mut forms = least_forms(&bounds.of_symbols(&rows.own, alloc)?, alloc)?;
+    add_equations(&mut forms, bounds, &rows.equal, alloc)?;
     Ok(forms)
 }
 
-// The forms of measures by bounds, and the symbols that are left.
-#[derive(Drop)]
-struct KeyForms {
-    forms: Vec<Option<Form>>,
-    own: Vec<u32>,
-}
-
-// The form of each measure: its own symbol, or another one's and a number.
-fn give_forms(key: &Key, bounds: &Bounds, alloc: Global) -> Result<KeyForms, SearchStop> {
+// The form of each measure of a key: its own symbol, or none of what is counted.
+fn own_forms(key: &Key, alloc: Global) -> Result<Vec<Option<Form>>, SearchStop> {
     let mut forms: Vec<Option<Form>> = Vec::new(alloc);
-    for place in 0..key.present.len() {
+    for (place, is_present) in key.present.iter().enumerate() {
         let symbol = u32::try_from(place).unwrap_or(0);
-        forms.push(match key.present.get(place) {
-            Some(true) if is_count(symbol) => Some(Form::zero(alloc)),
-            Some(true) => Some(Form::symbol(symbol, alloc)?),
-            _ => None,
+        forms.push(if !*is_present {
+            None
+        } else if is_count(symbol) {
+            Some(Form::zero(alloc))
+        } else {
+            Some(Form::symbol(symbol, alloc)?)
         })?;
     }
-    let mut is_own = Vec::from_elem(alloc, true, bounds.size())?;
-    let mut own = Vec::new(alloc);
-    for row in 1..bounds.size() {
-        let Some(place) = symbol_of(bounds, row) else {
-            continue;
-        };
-        match stands_for(bounds, row, &is_own) {
-            Some((other, more)) => {
-                if let Some(mark) = is_own.get_mut(row) {
-                    *mark = false;
-                }
-                if let Some(slot) = forms.get_mut(place as usize) {
-                    *slot = Some(shifted(symbol_of(bounds, other), more, alloc)?);
-                }
-            }
-            None => own.push(place)?,
-        }
-    }
-    Ok(KeyForms { forms, own })
+    Ok(forms)
 }
 
-// Where paths begin at a key by facts, and the measures that have their own symbols, where
-// some numbers are taken to be tame.
-pub fn begun(
+// The form of each measure: its own symbol, or that of an equal row and a number.
+fn give_forms(
+    key: &Key,
+    bounds: &Bounds,
+    equal: &[EqualRow],
+    alloc: Global,
+) -> Result<Vec<Option<Form>>, SearchStop> {
+    let mut forms = own_forms(key, alloc)?;
+    for each in equal {
+        let form = shifted(symbol_of(bounds, each.other), each.more, alloc)?;
+        if let Some(slot) = forms.get_mut(each.symbol as usize) {
+            *slot = Some(form);
+        }
+    }
+    Ok(forms)
+}
+
+// What is known where paths begin at a key by facts, where some numbers are taken to be tame.
+fn begun_bounds(
     key: &Key,
     facts: &Bounds,
     tame: &[u32],
     alloc: Global,
-) -> Result<(Trail, Vec<u32>), SearchStop> {
+) -> Result<Bounds, SearchStop> {
     let mut all = facts.copied(alloc)?;
     all.close();
     add_always(&mut all, &key.told);
     add_tame(&mut all, tame);
-    let KeyForms { forms, own } = give_forms(key, &all, alloc)?;
-    let bounds = all.of_symbols(&own, alloc)?;
-    let constraints = least_forms(&bounds, alloc)?;
-    let symbols = u32::try_from(key.present.len()).unwrap_or(0);
-    let trail = Trail {
+    Ok(all)
+}
+
+// Where paths begin at a key by facts, where some numbers are taken to be tame. All symbols that are bounded
+// are measures' own.
+pub fn begun(key: &Key, facts: &Bounds, tame: &[u32], alloc: Global) -> Result<Trail, SearchStop> {
+    let all = begun_bounds(key, facts, tame, alloc)?;
+    let rows = equal_rows(&all, alloc)?;
+    let forms = give_forms(key, &all, &rows.equal, alloc)?;
+    let bounds = all.of_symbols(&rows.own, alloc)?;
+    let case = Case {
+        symbols: u32::try_from(key.present.len()).unwrap_or(0),
+        forms,
+        constraints: least_forms(&bounds, alloc)?,
+        shape: copied_shape(&key.shape, alloc)?,
+    };
+    Ok(Trail {
         number: key.number,
-        case: Case {
-            symbols,
-            forms,
-            constraints,
-            shape: copied_shape(&key.shape, alloc)?,
-        },
+        case,
         bounds,
         peak: None,
         passed: None,
         is_lean: false,
-    };
-    Ok((trail, own))
+    })
 }
 
 // N times a number, to a power.

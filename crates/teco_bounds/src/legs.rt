@@ -2,10 +2,10 @@
 use crate::bounds::Bounds;
 use crate::cuts::around;
 use crate::fault::SearchStop;
-use crate::keys::{bound_form, key_of, projected};
+use crate::keys::projected;
 use crate::record::Record;
 use crate::reduced::{Bounded, UsedLimits};
-use crate::rounds::at_trail;
+use crate::rounds::shows_between;
 use crate::search::{Keys, PathSearch};
 use crate::trail::Trail;
 use teco_linear::Form;
@@ -85,11 +85,8 @@ impl PathSearch<'_> {
         let new = projected(trail, &key.told, self.alloc)?;
         for row in 0..facts.size() {
             for column in 0..facts.size() {
-                if row == column || new.at(row, column) <= facts.at(row, column) {
-                    continue;
-                }
-                let form = bound_form(facts, row, column, self.alloc)?;
-                if !trail.shows(&at_trail(&form, trail, self.alloc)?, self.alloc)? {
+                let is_more = row != column && new.at(row, column) > facts.at(row, column);
+                if is_more && !shows_between(trail, facts, row, column, self.alloc)? {
                     return Ok(false);
                 }
             }
@@ -97,23 +94,30 @@ impl PathSearch<'_> {
         Ok(true)
     }
 
+    // The key that a trail ends at, if it is not the end.
+    fn target(&self, keys: &Keys, trail: &Trail) -> Result<Option<usize>, SearchStop> {
+        if trail.number > self.course.nodes.len() {
+            return Ok(None);
+        }
+        let Some(target) = keys.place(&self.key(trail)?) else {
+            return Err(SearchStop::Unstable);
+        };
+        if !self.is_covered(keys, target, trail)? {
+            return Err(SearchStop::Unstable);
+        }
+        Ok(Some(target))
+    }
+
     // The path that a trail is the end of.
     fn leg(&self, keys: &Keys, source: usize, trail: Trail) -> Result<Leg, SearchStop> {
-        let target = if trail.number > self.course.nodes.len() {
-            None
-        } else {
-            let key = key_of(&trail, &self.flags, &self.spoken, self.alloc)?;
-            let Some(target) = keys.place(&key) else {
-                return Err(SearchStop::Unstable);
-            };
-            if !self.is_covered(keys, target, &trail)? {
-                return Err(SearchStop::Unstable);
-            }
-            Some(target)
-        };
-        let (peak, passed) = (trail.peak, trail.passed);
-        let Trail { case, .. } = trail;
-        let bounded = Bounded::of(&case.constraints, UsedLimits::None, self.alloc)?;
+        let target = self.target(keys, &trail)?;
+        let bounded = Bounded::of(&trail.case.constraints, UsedLimits::None, self.alloc)?;
+        let Trail {
+            case,
+            peak,
+            passed,
+            ..
+        } = trail;
         Ok(Leg {
             source,
             target,
@@ -126,8 +130,12 @@ impl PathSearch<'_> {
     }
 
     // A key, as a trail that begins there tells it.
-    fn start_of(&self, first: Trail, own: Vec<u32>) -> Result<LegStart, SearchStop> {
+    fn leg_start(&self, first: Trail, place: usize) -> Result<LegStart, SearchStop> {
         let around = around(self.course.nodes, first.number, self.alloc)?;
+        let mut own = Vec::new(self.alloc);
+        if place != 0 {
+            own.extend_from_slice(first.bounds.symbols())?;
+        }
         let Trail {
             number,
             case,
@@ -144,6 +152,16 @@ impl PathSearch<'_> {
         })
     }
 
+    // Adds a key and the paths from it.
+    fn add_legs(&mut self, web: &mut Web, keys: &Keys, place: usize) -> Result<(), SearchStop> {
+        let start = self.leg_start(self.start(keys, place)?, place)?;
+        web.starts.push(start)?;
+        for trail in self.explore(keys, place, &mut web.record)? {
+            web.legs.push(self.leg(keys, place, trail)?)?;
+        }
+        Ok(())
+    }
+
     // All paths between keys.
     pub fn web(&mut self, keys: &Keys) -> Result<Web, SearchStop> {
         let alloc = self.alloc;
@@ -153,13 +171,7 @@ impl PathSearch<'_> {
             record: Record::new(true, alloc),
         };
         for place in 0..keys.keys.len() {
-            let (first, own) = self.start(keys, place)?;
-            let start = self.start_of(first, own)?;
-            web.starts.push(start)?;
-            for trail in self.explore(keys, place, &mut web.record)? {
-                let leg = self.leg(keys, place, trail)?;
-                web.legs.push(leg)?;
-            }
+            self.add_legs(&mut web, keys, place)?;
         }
         Ok(web)
     }

@@ -4,7 +4,7 @@ use crate::keys::LAST_LENGTH;
 use std::alloc::Global;
 use teco_base::{REGISTERS, Reg};
 use teco_expansion::Nodes;
-use teco_model::kind::{Command, Query, Search, Stack, Storage, Value};
+use teco_model::kind::{Command, MachineValue, Query, Search, Stack, Storage};
 use teco_model::{Element, Kind};
 
 // How many measures a state has once, and how many families of others there are.
@@ -111,7 +111,7 @@ fn mark_element(spoken: &mut [bool], element: &Element<'_>) {
         ) => {
             mark_pattern(spoken, element.text);
         }
-        Kind::Value(Value::LastLength | Value::LastText) => mark(spoken, LAST_LENGTH),
+        Kind::Value(MachineValue::LastLength | MachineValue::LastText) => mark(spoken, LAST_LENGTH),
         _ => {}
     }
 }

@@ -110,6 +110,22 @@ impl DraftProgram {
         Ok(())
     }
 
+    // Adds the demand of each group of entries, which are sorted.
+    fn add_groups(&mut self, entries: &[Coefficient]) -> Result<(), SearchStop> {
+        let mut first = 0usize;
+        for (at, entry) in entries.iter().enumerate() {
+            let next = at.saturating_add(1);
+            let is_last = entries
+                .get(next)
+                .is_none_or(|other| other.place() != entry.place());
+            if is_last {
+                self.add_group(entries.get(first..next).unwrap_or(&[]))?;
+                first = next;
+            }
+        }
+        Ok(())
+    }
+
     // That what the entries add up to is implied by constraints, each also times powers of N below a
     // degree.
     pub fn imply(
@@ -126,19 +142,7 @@ impl DraftProgram {
             }
         }
         all.sort_by_key(|entry| entry.place())?;
-        let mut first = 0usize;
-        for at in 0..all.len() {
-            let next = at.saturating_add(1);
-            let is_last = match (all.get(at), all.get(next)) {
-                (Some(one), Some(other)) => one.place() != other.place(),
-                _ => true,
-            };
-            if is_last {
-                self.add_group(all.get(first..next).unwrap_or(&[]))?;
-                first = next;
-            }
-        }
-        Ok(())
+        self.add_groups(&all)
     }
 
     // Adds that the sum of variables is to be least, behind what was added before.

@@ -92,7 +92,6 @@ impl Record {
         place: u32,
         form: &Form,
         constraints: &[Form],
-        alloc: Global,
     ) -> Result<Option<usize>, SearchStop> {
         if !self.is_kept {
             return Ok(before);
@@ -102,8 +101,8 @@ impl Record {
         self.peaks.push(Peak {
             before,
             place,
-            form: copied(form, alloc)?,
-            constraints: copied_constraints(constraints, alloc)?,
+            form: copied(form, self.alloc)?,
+            constraints: copied_constraints(constraints, self.alloc)?,
         })?;
         Ok(Some(at))
     }
@@ -142,7 +141,6 @@ impl Record {
         trail: &Trail,
         wanted: &Form,
         constraints: &[Form],
-        alloc: Global,
     ) -> Result<(), SearchStop> {
         if !self.is_kept {
             return Ok(());
@@ -151,9 +149,9 @@ impl Record {
         self.opens.push(OpenCondition {
             number: trail.number,
             source: self.source,
-            wanted: copied(wanted, alloc)?,
-            constraints: copied_constraints(constraints, alloc)?,
-            forms: copied_forms(&trail.case.forms, alloc)?,
+            wanted: copied(wanted, self.alloc)?,
+            constraints: copied_constraints(constraints, self.alloc)?,
+            forms: copied_forms(&trail.case.forms, self.alloc)?,
         })?;
         Ok(())
     }

@@ -1,7 +1,7 @@
 //! Fewer constraints that say the same of the symbols that matter.
 use crate::bounds::Bounds;
 use crate::fault::SearchStop;
-use crate::keys::{least_forms, shifted, stands_for, symbol_of};
+use crate::keys::{equal_rows, least_forms, shifted, symbol_of};
 use crate::numbers::common;
 use crate::programs::{Coefficient, add_form};
 use std::alloc::Global;
@@ -118,27 +118,34 @@ fn counts(forms: &[Form], symbol: u32) -> (usize, usize) {
     (above, below)
 }
 
-// The constraints without a symbol.
-fn taken_out(forms: Vec<Form>, symbol: u32, alloc: Global) -> Result<Vec<Form>, SearchStop> {
-    let mut above = Vec::new(alloc);
-    let mut below = Vec::new(alloc);
-    let mut left = Vec::new(alloc);
-    for form in forms {
-        let coefficient = coefficient(&form, symbol);
-        if coefficient > 0 {
-            above.push(form)?;
-        } else if coefficient < 0 {
-            below.push(form)?;
+// Takes from constraints those that have a symbol with a sign.
+fn taken(
+    forms: &mut Vec<Form>,
+    symbol: u32,
+    sign: i128,
+    alloc: Global,
+) -> Result<Vec<Form>, SearchStop> {
+    let mut taken = Vec::new(alloc);
+    for form in std::mem::replace(forms, Vec::new(alloc)) {
+        if coefficient(&form, symbol).signum() == sign {
+            taken.push(form)?;
         } else {
-            left.push(form)?;
+            forms.push(form)?;
         }
     }
+    Ok(taken)
+}
+
+// Makes constraints be without a symbol.
+fn take_out(forms: &mut Vec<Form>, symbol: u32, alloc: Global) -> Result<(), SearchStop> {
+    let above = taken(forms, symbol, 1, alloc)?;
+    let below = taken(forms, symbol, -1, alloc)?;
     for one in &above {
         for other in &below {
-            add(&mut left, without(one, other, symbol, alloc)?, alloc)?;
+            add(forms, without(one, other, symbol, alloc)?, alloc)?;
         }
     }
-    Ok(left)
+    Ok(())
 }
 
 // The symbols of constraints that are not to be kept.
@@ -156,19 +163,14 @@ fn others(forms: &[Form], kept: &[u32], alloc: Global) -> Result<Vec<u32>, Searc
     Ok(symbols)
 }
 
-// Constraints without symbols that are not kept, where that makes them no more.
-fn eliminated(
-    constraints: Vec<Form>,
-    kept: &[u32],
-    alloc: Global,
-) -> Result<Vec<Form>, SearchStop> {
-    let mut forms = constraints;
+// Makes constraints be without symbols that are not kept, where that makes them no more.
+fn eliminate(forms: &mut Vec<Form>, kept: &[u32], alloc: Global) -> Result<(), SearchStop> {
     for _ in 0..ROUNDS {
         let mut is_less = false;
-        for symbol in others(&forms, kept, alloc)? {
-            let (above, below) = counts(&forms, symbol);
+        for symbol in others(forms, kept, alloc)? {
+            let (above, below) = counts(forms, symbol);
             if above.saturating_mul(below) <= above.saturating_add(below) {
-                forms = taken_out(forms, symbol, alloc)?;
+                take_out(forms, symbol, alloc)?;
                 is_less = true;
             }
         }
@@ -176,7 +178,7 @@ fn eliminated(
             break;
         }
     }
-    Ok(forms)
+    Ok(())
 }
 
 // Adds the symbols of a form to others.
@@ -248,26 +250,29 @@ impl Equals {
         }
         Ok(all)
     }
+
+    // What constraints say with them in place of symbols.
+    fn put_forms(&self, constraints: &[Form], alloc: Global) -> Result<Vec<Form>, SearchStop> {
+        let mut forms: Vec<Form> = Vec::new(alloc);
+        for form in constraints {
+            add(&mut forms, self.put(form, alloc)?, alloc)?;
+        }
+        Ok(forms)
+    }
 }
 
 // The equal symbols by bounds.
 fn equal_symbols(bounds: &Bounds, alloc: Global) -> Result<Equals, SearchStop> {
-    let mut is_own = Vec::from_elem(alloc, true, bounds.size())?;
-    let mut symbols = Vec::new(alloc);
-    let mut forms = Vec::new(alloc);
-    for row in 1..bounds.size() {
-        let Some(symbol) = symbol_of(bounds, row) else {
-            continue;
-        };
-        if let Some((other, more)) = stands_for(bounds, row, &is_own) {
-            if let Some(mark) = is_own.get_mut(row) {
-                *mark = false;
-            }
-            symbols.push(symbol)?;
-            forms.push(shifted(symbol_of(bounds, other), more, alloc)?)?;
-        }
+    let mut equals = Equals {
+        symbols: Vec::new(alloc),
+        forms: Vec::new(alloc),
+    };
+    for each in &equal_rows(bounds, alloc)?.equal {
+        let form = shifted(symbol_of(bounds, each.other), each.more, alloc)?;
+        equals.symbols.push(each.symbol)?;
+        equals.forms.push(form)?;
     }
-    Ok(Equals { symbols, forms })
+    Ok(equals)
 }
 
 // What bounds of differences say of these symbols, at the least.
@@ -337,6 +342,51 @@ impl Bounded {
     }
 }
 
+// A demand by what bounds no difference, where one symbol stands for those that are equal.
+fn rough_demand(
+    entries: &[Coefficient],
+    constraints: &Bounded,
+    alloc: Global,
+) -> Result<Demand, SearchStop> {
+    let equals = equal_symbols(&constraints.bounds, alloc)?;
+    let forms = equals.put_forms(&constraints.rough, alloc)?;
+    Ok(Demand {
+        entries: equals.put_entries(entries, alloc)?,
+        constraints: forms,
+    })
+}
+
+// The symbols of entries.
+fn symbols_of(entries: &[Coefficient], alloc: Global) -> Result<Vec<u32>, SearchStop> {
+    let mut symbols: Vec<u32> = Vec::new(alloc);
+    for symbol in entries.iter().filter_map(|entry| entry.symbol) {
+        if !symbols.contains(&symbol) {
+            symbols.push(symbol)?;
+        }
+    }
+    Ok(symbols)
+}
+
+// Adds to constraints what bounds say of their symbols and of those that are kept. Limits may be left out.
+fn add_differences(
+    forms: &mut Vec<Form>,
+    bounds: &Bounds,
+    kept: &[u32],
+    limits: UsedLimits,
+    alloc: Global,
+) -> Result<(), SearchStop> {
+    let mut symbols = Vec::from_slice(alloc, kept)?;
+    for form in forms.iter() {
+        add_symbols(&mut symbols, form)?;
+    }
+    for form in differences(bounds, &symbols, alloc)? {
+        if limits.take(&form) {
+            add(forms, form, alloc)?;
+        }
+    }
+    Ok(())
+}
+
 // A demand that says as much by fewer constraints and symbols; none where the constraints can't all hold. Limits
 // may be left out.
 pub fn reduced(
@@ -345,37 +395,15 @@ pub fn reduced(
     limits: UsedLimits,
     alloc: Global,
 ) -> Result<Option<Demand>, SearchStop> {
-    let Bounded { bounds, rough } = constraints;
+    let bounds = &constraints.bounds;
     if bounds.is_void() {
         return Ok(None);
     }
-    let equals = equal_symbols(bounds, alloc)?;
-    let entries = equals.put_entries(entries, alloc)?;
-    let mut kept: Vec<u32> = Vec::new(alloc);
-    for entry in &entries {
-        if let Some(symbol) = entry.symbol {
-            if !kept.contains(&symbol) {
-                kept.push(symbol)?;
-            }
-        }
-    }
-    let mut symbols = Vec::from_slice(alloc, &kept)?;
-    let mut forms: Vec<Form> = Vec::new(alloc);
-    for form in rough {
-        let form = equals.put(form, alloc)?;
-        add_symbols(&mut symbols, &form)?;
-        add(&mut forms, form, alloc)?;
-    }
-    for form in differences(bounds, &symbols, alloc)? {
-        if limits.take(&form) {
-            add(&mut forms, form, alloc)?;
-        }
-    }
-    let constraints = eliminated(forms, &kept, alloc)?;
-    Ok(Some(Demand {
-        entries,
-        constraints,
-    }))
+    let mut demand = rough_demand(entries, constraints, alloc)?;
+    let kept = symbols_of(&demand.entries, alloc)?;
+    add_differences(&mut demand.constraints, bounds, &kept, limits, alloc)?;
+    eliminate(&mut demand.constraints, &kept, alloc)?;
+    Ok(Some(demand))
 }
 
 // Whether two entries are the same.

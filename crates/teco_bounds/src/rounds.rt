@@ -1,15 +1,14 @@
 //! Facts of keys, round by round, until they stay.
 use crate::bounds::{Bounds, NONE};
 use crate::fault::{SearchRefusal, SearchStop};
-use crate::keys::{bound_form, key_of, projected, raise_quotients};
+use crate::keys::{Key, bound_form, key_of, projected, raise_quotients};
 use crate::measures::{NUMBER, family_of};
 use crate::record::Record;
 use crate::search::{Keys, PathSearch};
-use crate::trail::Trail;
+use crate::trail::{Trail, form_in};
 use std::alloc::Global;
 use teco_base::LIMIT;
 use teco_linear::Form;
-use teco_rows::applied::form_at;
 
 // The most rounds.
 const MOST_ROUNDS: usize = 400;
@@ -26,27 +25,49 @@ const LETS_GO: usize = 6;
 
 const LARGE: i64 = 1 << 24;
 
-// How often each key was raised, and which are to be gone through.
+// The keys, how often each was raised, and which are to be gone through.
 #[derive(Drop)]
 struct RoundWork {
+    keys: Keys,
     raised: Vec<usize>,
     is_due: Vec<bool>,
     // Whether bounds may have been widened.
     is_widened: bool,
 }
 
+impl RoundWork {
+    // Adds a key with its facts.
+    fn add(&mut self, key: Key, facts: Bounds) -> Result<(), SearchStop> {
+        if self.keys.keys.len() >= MOST_KEYS || key.told.len() > MOST_TOLD {
+            return Err(SearchStop::Refused(SearchRefusal::TooMuch));
+        }
+        self.keys.add(key, facts)?;
+        self.raised.push(0)?;
+        self.is_due.push(true)?;
+        Ok(())
+    }
+
+    // Notes that a key was raised in a round.
+    fn note_raised(&mut self, place: usize, round: usize) {
+        self.is_widened = self.is_widened || round >= WIDENS;
+        if let Some(count) = self.raised.get_mut(place) {
+            *count = count.saturating_add(1);
+        }
+        if let Some(due) = self.is_due.get_mut(place) {
+            *due = true;
+        }
+    }
+}
+
 // The key of the least node that is due.
-fn next_due(keys: &Keys, work: &RoundWork) -> Option<usize> {
+fn next_due(work: &RoundWork) -> Option<usize> {
     let mut found = None;
     let mut least = usize::MAX;
-    for place in 0..keys.keys.len() {
-        if work.is_due.get(place) == Some(&true) {
-            if let Some(key) = keys.keys.get(place) {
-                if found.is_none() || key.number < least {
-                    least = key.number;
-                    found = Some(place);
-                }
-            }
+    for (place, key) in work.keys.keys.iter().enumerate() {
+        let is_due = work.is_due.get(place) == Some(&true);
+        if is_due && (found.is_none() || key.number < least) {
+            least = key.number;
+            found = Some(place);
         }
     }
     found
@@ -92,6 +113,18 @@ impl PathSearch<'_> {
         wide
     }
 
+    // The key of a trail.
+    pub fn key(&self, trail: &Trail) -> Result<Key, SearchStop> {
+        key_of(trail, &self.flags, &self.spoken, self.alloc)
+    }
+
+    // What a trail says of the measures of its key.
+    fn facts_of(&self, trail: &Trail, key: &Key) -> Result<Bounds, SearchStop> {
+        let mut facts = projected(trail, &key.told, self.alloc)?;
+        raise_quotients(&mut facts, key, &self.flags);
+        Ok(facts)
+    }
+
     // Whether a trail shows a bound by programs, where bounds do not tell all.
     fn shows_bound(
         &self,
@@ -103,8 +136,7 @@ impl PathSearch<'_> {
         if !trail.bounds.is_rough() {
             return Ok(false);
         }
-        let form = bound_form(facts, row, column, self.alloc)?;
-        trail.shows(&at_trail(&form, trail, self.alloc)?, self.alloc)
+        shows_between(trail, facts, row, column, self.alloc)
     }
 
     // Raises facts to those of a trail; says whether some were raised.
@@ -130,94 +162,82 @@ impl PathSearch<'_> {
         Ok(is_raised)
     }
 
-    // Takes a trail to its key.
-    fn arrive(
+    // Raises the facts of a key that is known to those of a trail.
+    fn raise_key(
         &self,
-        keys: &mut Keys,
         work: &mut RoundWork,
+        place: usize,
         trail: &Trail,
+        new: &Bounds,
     ) -> Result<(), SearchStop> {
-        if trail.number > self.course.nodes.len() {
-            return Ok(());
-        }
-        let key = key_of(trail, &self.flags, &self.spoken, self.alloc)?;
-        let mut new = projected(trail, &key.told, self.alloc)?;
-        raise_quotients(&mut new, &key, &self.flags);
-        let Some(place) = keys.place(&key) else {
-            if keys.keys.len() >= MOST_KEYS || key.told.len() > MOST_TOLD {
-                return Err(SearchStop::Refused(SearchRefusal::TooMuch));
-            }
-            keys.keys.push(key)?;
-            keys.facts.push(new)?;
-            work.raised.push(0)?;
-            work.is_due.push(true)?;
-            return Ok(());
-        };
         let round = work.raised.get(place).copied().unwrap_or(0);
-        let Some(facts) = keys.facts.get_mut(place) else {
+        let Some(facts) = work.keys.facts.get_mut(place) else {
             return Ok(());
         };
-        if self.raise(facts, trail, &new, round)? {
-            work.is_widened = work.is_widened || round >= WIDENS;
-            if let (Some(count), Some(due)) = (
-                work.raised.get_mut(place),
-                work.is_due.get_mut(place),
-            ) {
-                *count = count.saturating_add(1);
-                *due = true;
-            }
+        if self.raise(facts, trail, new, round)? {
+            work.note_raised(place, round);
         }
         Ok(())
     }
 
+    // Takes a trail to its key.
+    fn arrive(&self, work: &mut RoundWork, trail: &Trail) -> Result<(), SearchStop> {
+        if trail.number > self.course.nodes.len() {
+            return Ok(());
+        }
+        let key = self.key(trail)?;
+        let new = self.facts_of(trail, &key)?;
+        match work.keys.place(&key) {
+            Some(place) => self.raise_key(work, place, trail, &new),
+            None => work.add(key, new),
+        }
+    }
+
     // The key of the entry alone.
-    fn first_key(&self) -> Result<Keys, SearchStop> {
-        let (trail, _own) = self.start(
-            &Keys {
-                keys: Vec::new(self.alloc),
-                facts: Vec::new(self.alloc),
-            },
-            0,
-        )?;
-        let mut keys = Vec::new(self.alloc);
-        keys.push(key_of(&trail, &self.flags, &self.spoken, self.alloc)?)?;
-        let mut facts = Vec::new(self.alloc);
-        facts.push(Bounds::none(self.alloc)?)?;
-        Ok(Keys { keys, facts })
+    fn first_keys(&self) -> Result<Keys, SearchStop> {
+        let mut keys = Keys::none(self.alloc);
+        let facts = Bounds::none(self.alloc)?;
+        keys.add(self.key(&self.entry()?)?, facts)?;
+        Ok(keys)
+    }
+
+    // Goes through a key: takes the trails that paths from it end with to their keys.
+    fn go_through(&mut self, work: &mut RoundWork, place: usize) -> Result<(), SearchStop> {
+        if let Some(due) = work.is_due.get_mut(place) {
+            *due = false;
+        }
+        let mut record = Record::new(false, self.alloc);
+        let trails = self.explore(&work.keys, place, &mut record)?;
+        for trail in &trails {
+            self.arrive(work, trail)?;
+        }
+        Ok(())
     }
 
     // The facts that stay; says whether they may be narrowed.
     pub fn settled(&mut self) -> Result<(Keys, bool), SearchStop> {
-        let mut keys = self.first_key()?;
         let mut work = RoundWork {
             raised: Vec::from_elem(self.alloc, 0usize, 1)?,
             is_due: Vec::from_elem(self.alloc, true, 1)?,
+            keys: self.first_keys()?,
             is_widened: false,
         };
-        let mut record = Record::new(false, self.alloc);
         for _ in 0..MOST_ROUNDS {
-            let Some(place) = next_due(&keys, &work) else {
-                return Ok((keys, work.is_widened));
+            let Some(place) = next_due(&work) else {
+                return Ok((work.keys, work.is_widened));
             };
-            if let Some(due) = work.is_due.get_mut(place) {
-                *due = false;
-            }
-            for trail in self.explore(&keys, place, &mut record)? {
-                self.arrive(&mut keys, &mut work, &trail)?;
-            }
+            self.go_through(&mut work, place)?;
         }
         Err(SearchStop::Refused(SearchRefusal::TooMuch))
     }
 
-    // Of a key's facts, one by one, what a trail says, joined with what was found before.
-    fn join(
+    // Keeps of what a trail says of a key's measures no more than the key's facts, where it shows these.
+    fn keep_shown(
         &self,
-        old: Option<Bounds>,
         trail: &Trail,
         facts: &Bounds,
-        new: Bounds,
-    ) -> Result<Bounds, SearchStop> {
-        let mut new = new;
+        new: &mut Bounds,
+    ) -> Result<(), SearchStop> {
         for row in 0..new.size() {
             for column in 0..new.size() {
                 let (was, is) = (facts.at(row, column), new.at(row, column));
@@ -226,16 +246,7 @@ impl PathSearch<'_> {
                 }
             }
         }
-        let Some(mut old) = old else {
-            return Ok(new);
-        };
-        for row in 0..new.size() {
-            for column in 0..new.size() {
-                let most = old.at(row, column).max(new.at(row, column));
-                old.set(row, column, most);
-            }
-        }
-        Ok(old)
+        Ok(())
     }
 
     // Joins what a trail leads to into new facts; says whether its key is known.
@@ -245,19 +256,19 @@ impl PathSearch<'_> {
         trail: &Trail,
         new: &mut Vec<Option<Bounds>>,
     ) -> Result<bool, SearchStop> {
-        let alloc = self.alloc;
-        let key = key_of(trail, &self.flags, &self.spoken, alloc)?;
+        let key = self.key(trail)?;
         let Some(target) = keys.place(&key) else {
             return Ok(false);
         };
-        let mut projected = projected(trail, &key.told, alloc)?;
-        raise_quotients(&mut projected, &key, &self.flags);
+        let mut found = self.facts_of(trail, &key)?;
         let (Some(facts), Some(slot)) = (keys.facts.get(target), new.get_mut(target)) else {
             return Ok(false);
         };
-        let old = std::mem::replace(slot, None);
-        let joined = self.join(old, trail, facts, projected)?;
-        *slot = Some(joined);
+        self.keep_shown(trail, facts, &mut found)?;
+        match slot {
+            Some(old) => join(old, &found),
+            None => *slot = Some(found),
+        }
         Ok(true)
     }
 
@@ -265,12 +276,35 @@ impl PathSearch<'_> {
     fn join_all(
         &self,
         keys: &Keys,
-        trails: Vec<Trail>,
+        trails: &[Trail],
         new: &mut Vec<Option<Bounds>>,
     ) -> Result<bool, SearchStop> {
         for trail in trails {
             let is_over = trail.number > self.course.nodes.len();
-            if !is_over && !self.join_trail(keys, &trail, new)? {
+            if !is_over && !self.join_trail(keys, trail, new)? {
+                return Ok(false);
+            }
+        }
+        Ok(true)
+    }
+
+    // Joins what paths by facts lead to into new facts; says whether all their keys are known.
+    fn join_paths(
+        &mut self,
+        keys: &Keys,
+        new: &mut Vec<Option<Bounds>>,
+    ) -> Result<bool, SearchStop> {
+        let mut is_done = Vec::from_elem(self.alloc, false, keys.keys.len())?;
+        for _ in 0..keys.keys.len() {
+            let Some(place) = next_open(&is_done, new) else {
+                break;
+            };
+            if let Some(mark) = is_done.get_mut(place) {
+                *mark = true;
+            }
+            let mut record = Record::new(false, self.alloc);
+            let trails = self.explore(keys, place, &mut record)?;
+            if !self.join_all(keys, &trails, new)? {
                 return Ok(false);
             }
         }
@@ -280,55 +314,67 @@ impl PathSearch<'_> {
     // The facts that paths by these facts lead to, of the keys that are come to. Where they lead to a
     // key that has none, they stay.
     pub fn narrowed(&mut self, keys: Keys) -> Result<Keys, SearchStop> {
-        let alloc = self.alloc;
-        let mut new: Vec<Option<Bounds>> = Vec::new(alloc);
-        for place in 0..keys.keys.len() {
-            new.push(if place == 0 {
-                Some(Bounds::none(alloc)?)
-            } else {
-                None
-            })?;
+        let mut new = entry_facts(keys.keys.len(), self.alloc)?;
+        if self.join_paths(&keys, &mut new)? {
+            kept(keys, new, self.alloc)
+        } else {
+            Ok(keys)
         }
-        let mut record = Record::new(false, alloc);
-        let mut is_done = Vec::from_elem(alloc, false, keys.keys.len())?;
-        for _ in 0..keys.keys.len() {
-            let due = (0..new.len()).find(|place| {
-                is_done.get(*place) == Some(&false)
-                    && new.get(*place).is_some_and(|slot| slot.is_some())
-            });
-            let Some(place) = due else {
-                break;
-            };
-            if let Some(mark) = is_done.get_mut(place) {
-                *mark = true;
-            }
-            let trails = self.explore(&keys, place, &mut record)?;
-            if !self.join_all(&keys, trails, &mut new)? {
-                return Ok(keys);
-            }
-        }
-        kept(keys, new, alloc)
     }
+}
+
+// Raises facts to others.
+fn join(facts: &mut Bounds, others: &Bounds) {
+    for row in 0..facts.size() {
+        for column in 0..facts.size() {
+            let most = facts.at(row, column).max(others.at(row, column));
+            facts.set(row, column, most);
+        }
+    }
+}
+
+// The first key that has new facts and is not done.
+fn next_open(is_done: &[bool], new: &[Option<Bounds>]) -> Option<usize> {
+    is_done
+        .iter()
+        .zip(new.iter())
+        .position(|(is_done, facts)| !*is_done && facts.is_some())
+}
+
+// The facts of so many keys, of which only the first has any, that of the entry.
+fn entry_facts(count: usize, alloc: Global) -> Result<Vec<Option<Bounds>>, SearchStop> {
+    let mut new: Vec<Option<Bounds>> = Vec::new(alloc);
+    if count > 0 {
+        new.push(Some(Bounds::none(alloc)?))?;
+    }
+    for _ in 1..count {
+        new.push(None)?;
+    }
+    Ok(new)
 }
 
 // The keys that have new facts.
 fn kept(keys: Keys, new: Vec<Option<Bounds>>, alloc: Global) -> Result<Keys, SearchStop> {
-    let mut left = Keys {
-        keys: Vec::new(alloc),
-        facts: Vec::new(alloc),
-    };
+    let mut left = Keys::none(alloc);
     for (key, facts) in keys.keys.into_iter().zip(new.into_iter()) {
         if let Some(facts) = facts {
-            left.keys.push(key)?;
-            left.facts.push(facts)?;
+            left.add(key, facts)?;
         }
     }
     Ok(left)
 }
 
-// A form over the places of measures, at a trail.
-pub fn at_trail(form: &Form, trail: &Trail, alloc: Global) -> Result<Form, SearchStop> {
-    at_forms(form, &trail.case.forms, alloc)
+// Whether a trail shows the bound between two rows of facts.
+pub fn shows_between(
+    trail: &Trail,
+    facts: &Bounds,
+    row: usize,
+    column: usize,
+    alloc: Global,
+) -> Result<bool, SearchStop> {
+    let form = bound_form(facts, row, column, alloc)?;
+    let here = at_forms(&form, &trail.case.forms, alloc)?;
+    trail.shows(&here, alloc)
 }
 
 // A form over the places of measures, where they are given by forms.
@@ -340,7 +386,7 @@ pub fn at_forms(form: &Form, forms: &[Option<Form>], alloc: Global) -> Result<Fo
             power: term.power,
         };
         let part = match term.symbol {
-            Some(place) => match form_at(forms, place as usize, alloc)? {
+            Some(place) => match form_in(forms, place) {
                 Some(form) => form.scaled(&scale, alloc)?,
                 None => return Err(SearchStop::Refused(SearchRefusal::TooMuch)),
             },

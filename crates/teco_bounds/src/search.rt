@@ -1,12 +1,13 @@
 //! The paths from a key to the next ones.
 use crate::bounds::Bounds;
 use crate::fault::{SearchRefusal, SearchStop};
-use crate::keys::{Flag, Key, TYPED, begun};
+use crate::keys::{Flag, Key, STEPS, TYPED, begun};
 use crate::measures::{FIRST_VALUE, LAST_VALUE};
 use crate::record::Record;
 use crate::steps::onward;
 use crate::trail::Trail;
 use std::alloc::Global;
+use teco_linear::Form;
 use teco_model::ArgumentRange;
 use teco_paths::course::MacroGraph;
 use teco_paths::cut::case_of;
@@ -19,7 +20,7 @@ const MOST_PENDING: usize = 64;
 // The most terms of what a measure is: with more a path takes too long.
 const MOST_TERMS: usize = 24;
 
-// So many constraints, and so many bounds, count as a step more.
+// How many constraints, and how many bounds, count as one step.
 const CONSTRAINTS_A_STEP: usize = 16;
 
 const BOUNDS_A_STEP: usize = 256;
@@ -57,6 +58,20 @@ pub struct Keys {
 }
 
 impl Keys {
+    pub fn none(alloc: Global) -> Keys {
+        Keys {
+            keys: Vec::new(alloc),
+            facts: Vec::new(alloc),
+        }
+    }
+
+    // Adds a key with its facts.
+    pub fn add(&mut self, key: Key, facts: Bounds) -> Result<(), SearchStop> {
+        self.keys.push(key)?;
+        self.facts.push(facts)?;
+        Ok(())
+    }
+
     // The place of a key.
     pub fn place(&self, key: &Key) -> Option<usize> {
         for at in 0..self.keys.len() {
@@ -68,22 +83,35 @@ impl Keys {
     }
 }
 
-// The trails of the least node among some, and the others.
-fn of_least(trails: Vec<Trail>, alloc: Global) -> Result<(Vec<Trail>, Vec<Trail>), SearchStop> {
+// Takes the trails of the least node from some.
+fn take_least(trails: &mut Vec<Trail>, alloc: Global) -> Result<Vec<Trail>, SearchStop> {
     let mut least = usize::MAX;
-    for trail in &trails {
+    for trail in trails.iter() {
         least = least.min(trail.number);
     }
     let mut here = Vec::new(alloc);
-    let mut rest = Vec::new(alloc);
-    for trail in trails {
+    for trail in std::mem::replace(trails, Vec::new(alloc)) {
         if trail.number == least {
             here.push(trail)?;
         } else {
-            rest.push(trail)?;
+            trails.push(trail)?;
         }
     }
-    Ok((here, rest))
+    Ok(here)
+}
+
+// Keeps of marks of places those of places that are used.
+fn keep_used(marks: &mut [bool], used: &[bool]) {
+    for (place, mark) in marks.iter_mut().enumerate() {
+        *mark = *mark && used.get(place) == Some(&true);
+    }
+}
+
+// Sets the form in a place of a case.
+fn set_form(case: &mut Case, place: u32, form: Form) {
+    if let Some(slot) = case.forms.get_mut(place as usize) {
+        *slot = Some(form);
+    }
 }
 
 // Whether no value waits in a case.
@@ -113,29 +141,30 @@ fn work_of(trail: &Trail) -> usize {
 }
 
 impl PathSearch<'_> {
-    // Where paths begin at the entry.
-    fn entry(&self) -> Result<Trail, SearchStop> {
-        let alloc = self.alloc;
-        let mut cut = entry_cut(self.course.lengths, self.argument, self.course.used, alloc)?;
-        for place in 0..cut.present.len() {
-            if self.course.used.get(place) != Some(&true) {
-                if let Some(mark) = cut.present.get_mut(place) {
-                    *mark = false;
-                }
-            }
-        }
-        let mut case = case_of(&[], &cut, alloc)?;
+    // The case at the entry, with the measures that are used.
+    fn used_entry(&self) -> Result<Case, SearchStop> {
+        let used = self.course.used;
+        let mut cut = entry_cut(self.course.lengths, self.argument, used, self.alloc)?;
+        keep_used(&mut cut.present, used);
+        Ok(case_of(&[], &cut, self.alloc)?)
+    }
+
+    // What is known at the entry, where nothing is typed, and only an argument was a step.
+    fn entry_case(&self) -> Result<Case, SearchStop> {
         let done = if self.argument.is_some() { 1 } else { 0 };
-        if let Some(steps) = case.forms.get_mut(0) {
-            *steps = Some(teco_linear::Form::constant(done, alloc)?);
-        }
-        if let Some(typed) = case.forms.get_mut(TYPED as usize) {
-            *typed = Some(teco_linear::Form::zero(alloc));
-        }
+        let done = Form::constant(done, self.alloc)?;
+        let mut case = self.used_entry()?;
+        set_form(&mut case, STEPS, done);
+        set_form(&mut case, TYPED, Form::zero(self.alloc));
+        Ok(case)
+    }
+
+    // Where paths begin at the entry.
+    pub fn entry(&self) -> Result<Trail, SearchStop> {
+        let alloc = self.alloc;
         let mut bounds = Bounds::none(alloc)?;
-        for form in &case.constraints {
-            bounds.add(form, alloc)?;
-        }
+        let case = self.entry_case()?;
+        bounds.add_all(&case.constraints, alloc)?;
         let mut trail = Trail {
             number: 1,
             case,
@@ -148,20 +177,24 @@ impl PathSearch<'_> {
         Ok(trail)
     }
 
+    // Where paths begin at a key.
+    fn begin(&self, keys: &Keys, place: usize) -> Result<Trail, SearchStop> {
+        if place == 0 {
+            return self.entry();
+        }
+        match (keys.keys.get(place), keys.facts.get(place)) {
+            (Some(key), Some(facts)) => begun(key, facts, &self.tame, self.alloc),
+            _ => Err(SearchStop::Unstable),
+        }
+    }
+
     // Where paths begin at a key, as exact as the search is.
-    pub fn start(&self, keys: &Keys, place: usize) -> Result<(Trail, Vec<u32>), SearchStop> {
-        let (mut first, own) = if place == 0 {
-            (self.entry()?, Vec::new(self.alloc))
-        } else {
-            match (keys.keys.get(place), keys.facts.get(place)) {
-                (Some(key), Some(facts)) => begun(key, facts, &self.tame, self.alloc)?,
-                _ => return Err(SearchStop::Unstable),
-            }
-        };
+    pub fn start(&self, keys: &Keys, place: usize) -> Result<Trail, SearchStop> {
+        let mut first = self.begin(keys, place)?;
         if self.is_exact {
             first.bounds.make_exact();
         }
-        Ok((first, own))
+        Ok(first)
     }
 
     // The number behind that of the last node.
@@ -219,7 +252,7 @@ impl PathSearch<'_> {
 
     // Where paths from a key begin, as a record wants it.
     fn first(&self, keys: &Keys, place: usize, record: &mut Record) -> Result<Trail, SearchStop> {
-        let (mut first, _own) = self.start(keys, place)?;
+        let mut first = self.start(keys, place)?;
         if !record.is_kept {
             first.make_lean();
         }
@@ -228,18 +261,17 @@ impl PathSearch<'_> {
         Ok(first)
     }
 
-    // Takes the trails of the least node a step further; answers those that are ahead then.
+    // Takes the trails of the least node among those that are ahead a step further.
     fn turn(
         &mut self,
-        ahead: Vec<Trail>,
+        ahead: &mut Vec<Trail>,
         arrived: &mut Vec<Trail>,
         record: &mut Record,
         is_first: bool,
-    ) -> Result<Vec<Trail>, SearchStop> {
-        let (here, mut rest) = of_least(ahead, self.alloc)?;
+    ) -> Result<(), SearchStop> {
+        let here = take_least(ahead, self.alloc)?;
         self.check_count(&here, is_first)?;
-        self.advance(&here, &mut rest, arrived, record)?;
-        Ok(rest)
+        self.advance(&here, ahead, arrived, record)
     }
 
     // All trails that paths from a key end with.
@@ -256,7 +288,7 @@ impl PathSearch<'_> {
             if ahead.is_empty() {
                 return Ok(arrived);
             }
-            ahead = self.turn(ahead, &mut arrived, record, step == 0)?;
+            self.turn(&mut ahead, &mut arrived, record, step == 0)?;
         }
         Err(SearchStop::Refused(SearchRefusal::TooMuch))
     }

@@ -7,7 +7,7 @@ use crate::fault::{SearchRefusal, SearchStop};
 use crate::keys::HELD;
 use crate::measures::{LENGTH, place_of};
 use crate::record::Record;
-use crate::trail::Trail;
+use crate::trail::{Trail, form_in};
 use std::alloc::Global;
 use teco_linear::Form;
 use teco_model::Kind;
@@ -17,7 +17,7 @@ use teco_paths::fault::PathFault;
 use teco_paths::outcomes::{outcomes_at, passing, wrapped_at};
 use teco_paths::steps::is_plain;
 use teco_paths::targets::target;
-use teco_rows::applied::{copied, form_at};
+use teco_rows::applied::copied;
 use teco_rows::case::Case;
 use teco_rows::outcomes::{Guarded, Outcomes};
 
@@ -26,14 +26,6 @@ pub const LARGE: i128 = 1 << 24;
 
 // The greatest length.
 const LONGEST: i128 = 1 << 28;
-
-// What comes of an element, and those of its conditions that bounds do not show.
-#[derive(Drop)]
-struct AskedConditions {
-    outcomes: Outcomes,
-    open: Vec<Form>,
-    guarded: Vec<Guarded>,
-}
 
 // The number of a form that stands alone.
 pub fn constant(form: &Form) -> i128 {
@@ -56,48 +48,44 @@ fn is_kept(trail: &Trail, guarded: &Guarded, alloc: Global) -> Result<bool, Sear
     if is_room(&guarded.wanted) {
         return Ok(true);
     }
-    let mut bounds = trail.bounds.copied(alloc)?;
     let known = trail.case.constraints.len();
-    for form in guarded.constraints.get(known..).unwrap_or(&[]) {
-        bounds.add(form, alloc)?;
-    }
+    let mut bounds = trail.bounds.copied(alloc)?;
+    bounds.add_all(guarded.constraints.get(known..).unwrap_or(&[]), alloc)?;
     Ok(bounds.is_void() || bounds.shows(&guarded.wanted))
 }
 
-// What is not shown of outcomes.
-fn asked_of(
-    trail: &Trail,
-    outcomes: Outcomes,
-    alloc: Global,
-) -> Result<AskedConditions, SearchStop> {
-    let Outcomes {
-        conditions,
-        guarded,
-        cases,
-        away,
-    } = outcomes;
+// The conditions that are not shown.
+fn not_shown(trail: &Trail, conditions: &[Form], alloc: Global) -> Result<Vec<Form>, SearchStop> {
     let mut open = Vec::new(alloc);
-    for condition in &conditions {
+    for condition in conditions {
         if !trail.shows(condition, alloc)? {
             open.push(copied(condition, alloc)?)?;
         }
     }
-    let mut unguarded = Vec::new(alloc);
-    for each in guarded {
-        if !is_kept(trail, &each, alloc)? {
-            unguarded.push(each)?;
+    Ok(open)
+}
+
+// The guarded conditions that are not shown.
+fn not_kept(
+    trail: &Trail,
+    conditions: Vec<Guarded>,
+    alloc: Global,
+) -> Result<Vec<Guarded>, SearchStop> {
+    let mut open = Vec::new(alloc);
+    for guarded in conditions {
+        if !is_kept(trail, &guarded, alloc)? {
+            open.push(guarded)?;
         }
     }
-    Ok(AskedConditions {
-        outcomes: Outcomes {
-            conditions,
-            guarded: Vec::new(alloc),
-            cases,
-            away,
-        },
-        open,
-        guarded: unguarded,
-    })
+    Ok(open)
+}
+
+// Leaves of the conditions of outcomes those that are not shown.
+fn leave_open(trail: &Trail, outcomes: &mut Outcomes, alloc: Global) -> Result<(), SearchStop> {
+    outcomes.conditions = not_shown(trail, &outcomes.conditions, alloc)?;
+    let guarded = std::mem::replace(&mut outcomes.guarded, Vec::new(alloc));
+    outcomes.guarded = not_kept(trail, guarded, alloc)?;
+    Ok(())
 }
 
 // What comes of the element of a node, where a sum may pass 32 bits.
@@ -141,26 +129,36 @@ fn fitting(course: &MacroGraph<'_>, trail: &Trail, alloc: Global) -> Result<Outc
     }
 }
 
-// What comes of it, as is asked of it.
-fn ask(course: &MacroGraph<'_>, trail: &Trail, alloc: Global) -> Result<AskedConditions, SearchStop>
+// Takes what comes of it where a sum may pass 32 bits in place of outcomes of which more is open.
+fn take_wrapped(
+    course: &MacroGraph<'_>,
+    trail: &Trail,
+    outcomes: &mut Outcomes,
+    alloc: Global,
+) -> Result<(), SearchStop>
     requires one { 0 < trail.now.number }
     requires last { trail.now.number ≤ length course.now.nodes }
 {
-    let first = asked_of(trail, fitting(course, trail, alloc)?, alloc)?;
-    if first.open.is_empty() && first.guarded.is_empty() {
-        return Ok(first);
-    }
-    match wrapped(course, trail, alloc)? {
-        Some(outcomes) => {
-            let second = asked_of(trail, outcomes, alloc)?;
-            if second.open.len() < first.open.len() {
-                Ok(second)
-            } else {
-                Ok(first)
-            }
+    if let Some(mut second) = wrapped(course, trail, alloc)? {
+        leave_open(trail, &mut second, alloc)?;
+        if second.conditions.len() < outcomes.conditions.len() {
+            *outcomes = second;
         }
-        None => Ok(first),
     }
+    Ok(())
+}
+
+// What comes of it, with those of its conditions that bounds do not show.
+fn ask(course: &MacroGraph<'_>, trail: &Trail, alloc: Global) -> Result<Outcomes, SearchStop>
+    requires one { 0 < trail.now.number }
+    requires last { trail.now.number ≤ length course.now.nodes }
+{
+    let mut outcomes = fitting(course, trail, alloc)?;
+    leave_open(trail, &mut outcomes, alloc)?;
+    if !outcomes.conditions.is_empty() || !outcomes.guarded.is_empty() {
+        take_wrapped(course, trail, &mut outcomes, alloc)?;
+    }
+    Ok(outcomes)
 }
 
 // The place of the measure that a command on registers may raise to a limit.
@@ -186,56 +184,56 @@ fn limited(course: &MacroGraph<'_>, number: usize) -> u32
     }
 }
 
+// Notes a condition that is not shown, and tells the last peak then.
+fn note(
+    course: &MacroGraph<'_>,
+    trail: &Trail,
+    form: &Form,
+    peak: Option<usize>,
+    record: &mut Record,
+) -> Result<Option<usize>, SearchStop>
+    requires one { 0 < trail.now.number }
+    requires last { trail.now.number ≤ length course.now.nodes }
+{
+    let constraints = &trail.case.constraints;
+    if !is_room(form) {
+        record.open(trail, form, constraints)?;
+        return Ok(peak);
+    }
+    let place = limited(course, trail.number);
+    let most = Form::constant(LONGEST, record.alloc)?.sub(form, record.alloc)?;
+    record.peak(peak, place, &most, constraints)
+}
+
 // Notes the conditions that are not shown, and tells the last peak.
 fn noted(
     course: &MacroGraph<'_>,
     trail: &Trail,
-    asked: &AskedConditions,
+    open: &Outcomes,
     record: &mut Record,
-    alloc: Global,
 ) -> Result<Option<usize>, SearchStop>
     requires one { 0 < trail.now.number }
     requires last { trail.now.number ≤ length course.now.nodes }
 {
     let mut peak = trail.peak;
-    for form in &asked.open {
-        if is_room(form) {
-            let place = limited(course, trail.number);
-            let most = Form::constant(LONGEST, alloc)?.sub(form, alloc)?;
-            peak = record.peak(peak, place, &most, &trail.case.constraints, alloc)?;
-        } else {
-            record.open(trail, form, &trail.case.constraints, alloc)?;
-        }
+    for form in &open.conditions {
+        peak = note(course, trail, form, peak, record)?;
     }
-    for guarded in &asked.guarded {
-        record.open(trail, &guarded.wanted, &guarded.constraints, alloc)?;
+    for guarded in &open.guarded {
+        record.open(trail, &guarded.wanted, &guarded.constraints)?;
     }
     Ok(peak)
 }
 
 // Whether what is held was raised.
-fn is_raised(
-    trail: &Trail,
-    case: &Case,
-    bounds: &Bounds,
-    alloc: Global,
-) -> Result<bool, SearchStop> {
+fn is_raised(trail: &Trail, next: &Trail, alloc: Global) -> Result<bool, SearchStop> {
     let (Some(was), Some(is)) = (
-        form_at(&trail.case.forms, HELD as usize, alloc)?,
-        form_at(&case.forms, HELD as usize, alloc)?,
+        form_in(&trail.case.forms, HELD),
+        form_in(&next.case.forms, HELD),
     ) else {
         return Ok(false);
     };
-    Ok(!bounds.shows(&was.sub(&is, alloc)?))
-}
-
-// A way behind an element: whether it leads elsewhere than behind the element, the case there, and the
-// last peak before it.
-#[derive(Drop)]
-struct WayBehind {
-    is_away: bool,
-    case: Case,
-    peak: Option<usize>,
+    Ok(!next.bounds.shows(&was.sub(is, alloc)?))
 }
 
 // What a case behind a trail says of differences.
@@ -243,116 +241,108 @@ fn bounds_behind(trail: &Trail, case: &Case, alloc: Global) -> Result<Bounds, Se
     let known = trail.case.constraints.len();
     let new = case.constraints.get(known..).unwrap_or(&[]);
     let mut bounds = trail.bounds.copied(alloc)?;
-    for form in new {
-        bounds.add(form, alloc)?;
-    }
+    bounds.add_all(new, alloc)?;
     if bounds.is_rough() {
-        for form in new {
-            bounds.add(form, alloc)?;
-        }
+        bounds.add_all(new, alloc)?;
     }
     Ok(bounds)
 }
 
-// The trail with what is known and asked besides, if it may be.
-fn completed(
-    trail: Trail,
+// Notes how much is held at a trail.
+fn note_held(trail: &mut Trail, record: &mut Record) -> Result<(), SearchStop> {
+    if let Some(held) = form_in(&trail.case.forms, HELD) {
+        let peak = record.peak(trail.peak, HELD, held, &trail.case.constraints)?;
+        trail.peak = peak;
+    }
+    Ok(())
+}
+
+// Takes to the trail behind another what is known and asked besides; says whether it may be taken.
+fn complete(
+    trail: &Trail,
+    next: &mut Trail,
     open: &[Form],
-    is_raised: bool,
     record: &mut Record,
-    alloc: Global,
-) -> Result<Option<Trail>, SearchStop> {
-    let mut next = trail;
+) -> Result<bool, SearchStop> {
+    let alloc = record.alloc;
+    let is_raised = record.is_kept && is_raised(trail, next, alloc)?;
+    next.passed = record.pass(trail)?;
+    if trail.is_lean {
+        next.make_lean();
+    }
     for form in open {
         next.assume(form, alloc)?;
     }
     if next.bounds.is_void() {
-        return Ok(None);
+        return Ok(false);
     }
     next.sharpen(alloc)?;
     if is_raised {
-        if let Some(held) = form_at(&next.case.forms, HELD as usize, alloc)? {
-            next.peak = record.peak(next.peak, HELD, &held, &next.case.constraints, alloc)?;
-        }
+        note_held(next, record)?;
     }
     next.compact(record.first, alloc)?;
     next.forget(alloc)?;
-    Ok(Some(next))
+    Ok(true)
 }
 
-// The trail behind a way, if it may be taken.
+// Ways behind an element: whether they lead elsewhere than behind the element, the last peak before
+// them, and what is asked besides.
+#[derive(Clone, Copy)]
+struct WaysBehind<'a> {
+    is_away: bool,
+    peak: Option<usize>,
+    open: &'a [Form],
+}
+
+// The trail behind a way that is a case, if it may be taken.
 fn along(
     course: &MacroGraph<'_>,
     trail: &Trail,
-    open: &[Form],
-    way: WayBehind,
+    case: Case,
+    ways: &WaysBehind<'_>,
     record: &mut Record,
 ) -> Result<Option<Trail>, SearchStop>
     requires one { 0 < trail.now.number }
     requires last { trail.now.number ≤ length course.now.nodes }
 {
-    let alloc = record.alloc;
-    let WayBehind {
-        is_away,
-        case,
-        peak,
-    } = way;
-    let bounds = bounds_behind(trail, &case, alloc)?;
+    let bounds = bounds_behind(trail, &case, record.alloc)?;
     if bounds.is_void() {
         return Ok(None);
     }
-    let number = target(course.nodes, trail.number, is_away, &case)?;
-    let is_raised = record.is_kept && is_raised(trail, &case, &bounds, alloc)?;
-    let passed = record.pass(trail)?;
+    let number = target(course.nodes, trail.number, ways.is_away, &case)?;
     let mut next = Trail {
         number,
         case,
         bounds,
-        peak,
-        passed,
+        peak: ways.peak,
+        passed: None,
         is_lean: false,
     };
-    if trail.is_lean {
-        next.make_lean();
-    }
-    completed(next, open, is_raised, record, alloc)
+    Ok(if complete(trail, &mut next, ways.open, record)? {
+        Some(next)
+    } else {
+        None
+    })
 }
 
-// Adds the trails behind ways.
-fn add_ways(
-    trails: &mut Vec<Trail>,
+// The trails behind ways that are cases.
+fn all_along(
     course: &MacroGraph<'_>,
     trail: &Trail,
-    ways: (&[Form], Vec<WayBehind>),
+    cases: Vec<Case>,
+    ways: &WaysBehind<'_>,
     record: &mut Record,
-) -> Result<(), SearchStop>
+) -> Result<Vec<Trail>, SearchStop>
     requires one { 0 < trail.now.number }
     requires last { trail.now.number ≤ length course.now.nodes }
 {
-    let (open, all) = ways;
-    for way in all {
-        if let Some(next) = along(course, trail, open, way, record)? {
+    let mut trails = Vec::new(record.alloc);
+    for case in cases {
+        if let Some(next) = along(course, trail, case, ways, record)? {
             trails.push(next)?;
         }
     }
-    Ok(())
-}
-
-// Adds the ways that cases are.
-fn add_cases(
-    ways: &mut Vec<WayBehind>,
-    cases: Vec<Case>,
-    is_away: bool,
-    peak: Option<usize>,
-) -> Result<(), SearchStop> {
-    for case in cases {
-        ways.push(WayBehind {
-            is_away,
-            case,
-            peak,
-        })?;
-    }
-    Ok(())
+    Ok(trails)
 }
 
 // Whether an element pops.
@@ -377,22 +367,20 @@ pub fn onward(
         return Err(SearchStop::Refused(SearchRefusal::Condition(trail.number)));
     }
     let asked = ask(course, trail, alloc)?;
-    let peak = noted(course, trail, &asked, record, alloc)?;
-    let AskedConditions {
-        outcomes,
-        open,
-        guarded: _guarded,
-    } = asked;
+    let peak = noted(course, trail, &asked, record)?;
     let Outcomes {
-        conditions: _conditions,
-        guarded: _kept,
+        conditions,
+        guarded: _guarded,
         cases,
         away,
-    } = outcomes;
-    let mut ways = Vec::new(alloc);
-    add_cases(&mut ways, cases, false, peak)?;
-    add_cases(&mut ways, away, true, peak)?;
-    let mut trails = Vec::new(alloc);
-    add_ways(&mut trails, course, trail, (&open, ways), record)?;
+    } = asked;
+    let mut ways = WaysBehind {
+        is_away: false,
+        peak,
+        open: &conditions,
+    };
+    let mut trails = all_along(course, trail, cases, &ways, record)?;
+    ways.is_away = true;
+    trails.append(&mut all_along(course, trail, away, &ways, record)?)?;
     Ok(trails)
 }

@@ -15,12 +15,20 @@ use teco_rows::measure::Single;
 // With more constraints than this they are made fewer.
 const MOST_CONSTRAINTS: usize = 150;
 
-// The symbol that the form in a place of a case is, if it is one.
-fn symbol_in(case: &Case, place: u32) -> Option<u32> {
-    match case.forms.get(place as usize) {
-        Some(Some(form)) => form.terms().iter().find_map(|term| term.symbol),
+// The form in a place, if there is one.
+pub fn form_in(forms: &[Option<Form>], place: u32) -> Option<&Form> {
+    match forms.get(place as usize) {
+        Some(Some(form)) => Some(form),
         _ => None,
     }
+}
+
+// The symbol that the form in a place is, if it is one.
+fn symbol_in(forms: &[Option<Form>], place: u32) -> Option<u32> {
+    form_in(forms, place)?
+        .terms()
+        .iter()
+        .find_map(|term| term.symbol)
 }
 
 // Whether a form speaks of a symbol.
@@ -57,15 +65,19 @@ impl Trail {
         Ok(is_so_nearby(&self.whole(alloc)?, form, alloc)?)
     }
 
+    // The constraints that bound differences, and those of the case.
+    fn all_constraints(&self, alloc: Global) -> Result<Vec<Form>, SearchStop> {
+        let mut all = all_forms(&self.bounds, alloc)?;
+        all.append(&mut copied_constraints(&self.case.constraints, alloc)?)?;
+        Ok(all)
+    }
+
     // The case with the constraints that bound differences, and no forms.
     fn whole(&self, alloc: Global) -> Result<Case, SearchStop> {
-        let mut constraints = all_forms(&self.bounds, alloc)?;
-        let mut rough = copied_constraints(&self.case.constraints, alloc)?;
-        constraints.append(&mut rough)?;
         Ok(Case {
             symbols: self.case.symbols,
             forms: Vec::new(alloc),
-            constraints,
+            constraints: self.all_constraints(alloc)?,
             shape: copied_shape(&self.case.shape, alloc)?,
         })
     }
@@ -73,8 +85,8 @@ impl Trail {
     // The symbols of the characters at the pointer and before it, where they are symbols.
     fn code_symbols(&self) -> (Option<u32>, Option<u32>) {
         (
-            symbol_in(&self.case, CODE_HERE),
-            symbol_in(&self.case, CODE_BEFORE),
+            symbol_in(&self.case.forms, CODE_HERE),
+            symbol_in(&self.case.forms, CODE_BEFORE),
         )
     }
 
@@ -95,20 +107,45 @@ impl Trail {
         Ok(())
     }
 
+    // That a measure is above the pointer.
+    fn above_pointer(&self, measure: Single, alloc: Global) -> Result<Form, SearchStop> {
+        let pointer = single(&self.case, Single::Pointer, alloc)?;
+        let behind = pointer.add(&Form::constant(1, alloc)?, alloc)?;
+        Ok(single(&self.case, measure, alloc)?.sub(&behind, alloc)?)
+    }
+
     // In front of the buffer's end the line's end is behind the pointer.
     pub fn sharpen(&mut self, alloc: Global) -> Result<(), SearchStop> {
-        let behind = single(&self.case, Single::Pointer, alloc)?.add(
-            &Form::constant(1, alloc)?,
-            alloc,
-        )?;
-        let ahead = single(&self.case, Single::Size, alloc)?.sub(&behind, alloc)?;
-        if self.bounds.shows(&ahead) {
-            let more = single(&self.case, Single::LineEnd, alloc)?.sub(&behind, alloc)?;
-            if !self.bounds.shows(&more) {
-                self.assume(&more, alloc)?;
-            }
+        let ahead = self.above_pointer(Single::Size, alloc)?;
+        if !self.bounds.shows(&ahead) {
+            return Ok(());
+        }
+        let more = self.above_pointer(Single::LineEnd, alloc)?;
+        if !self.bounds.shows(&more) {
+            self.assume(&more, alloc)?;
         }
         Ok(())
+    }
+
+    // Of the symbols that others bound, those of the path's start and those that a measure is given by, or
+    // what bounds no difference.
+    fn kept_symbols(
+        &self,
+        others: &Bounded,
+        first: u32,
+        alloc: Global,
+    ) -> Result<Vec<u32>, SearchStop> {
+        let mut live: Vec<u32> = Vec::new(alloc);
+        for form in self.case.forms.iter().flatten().chain(others.rough.iter()) {
+            add_symbols(&mut live, form)?;
+        }
+        let mut kept: Vec<u32> = Vec::new(alloc);
+        for symbol in others.bounds.symbols() {
+            if *symbol < first || live.contains(symbol) {
+                kept.push(*symbol)?;
+            }
+        }
+        Ok(kept)
     }
 
     // Makes the constraints fewer where there are many: symbols that neither a measure nor the path's
@@ -117,27 +154,10 @@ impl Trail {
         if self.is_lean || self.case.constraints.len() <= MOST_CONSTRAINTS {
             return Ok(());
         }
-        let Bounded { bounds, mut rough } = Bounded::of(
-            &self.case.constraints,
-            UsedLimits::All,
-            alloc,
-        )?;
-        let mut live: Vec<u32> = Vec::new(alloc);
-        for form in self.case.forms.iter().flatten() {
-            add_symbols(&mut live, form)?;
-        }
-        for form in &rough {
-            add_symbols(&mut live, form)?;
-        }
-        let mut known: Vec<u32> = Vec::new(alloc);
-        for symbol in bounds.symbols() {
-            if *symbol < first || live.contains(symbol) {
-                known.push(*symbol)?;
-            }
-        }
-        let mut constraints = all_forms(&bounds.of_symbols(&known, alloc)?, alloc)?;
-        constraints.append(&mut rough)?;
-        self.case.constraints = constraints;
+        let mut all = Bounded::of(&self.case.constraints, UsedLimits::All, alloc)?;
+        let kept = self.kept_symbols(&all, first, alloc)?;
+        self.case.constraints = all_forms(&all.bounds.of_symbols(&kept, alloc)?, alloc)?;
+        self.case.constraints.append(&mut all.rough)?;
         Ok(())
     }
 
@@ -156,10 +176,8 @@ impl Trail {
     // Keeps of the bounds those of symbols that measures are given by.
     pub fn forget(&mut self, alloc: Global) -> Result<(), SearchStop> {
         let mut live: Vec<u32> = Vec::new(alloc);
-        for form in &self.case.forms {
-            if let Some(form) = form {
-                self.add_live(&mut live, form)?;
-            }
+        for form in self.case.forms.iter().flatten() {
+            self.add_live(&mut live, form)?;
         }
         if self.is_lean {
             for form in &self.case.constraints {

@@ -149,6 +149,24 @@ impl<'a> Trial<'a> {
         status_of(edit_file(machine, &edit, host, typed, &mut Willing))
     }
 
+    // Edits the file on a machine.
+    fn run_on<T: TextStore, H: Host>(
+        &self,
+        machine: &mut Machine<T>,
+        host: &mut H,
+    ) -> Result<CaseRun, CaseFault> {
+        let mut typed = Vec::new(self.alloc);
+        let (status, steps) = self.edited(machine, host, &mut typed)?;
+        let buffer = buffer_of(self.alloc, machine)?;
+        Ok(CaseRun {
+            typed,
+            status,
+            steps,
+            buffer,
+            pointer: machine.dot(),
+        })
+    }
+
     // Compares the steps of the run.
     fn compare_steps(&self, findings: &mut Findings, steps: u64) -> Result<(), AllocError> {
         if let Some(wanted) = self.wanted.steps {
@@ -183,15 +201,7 @@ impl CaseRunner for Trial<'_> {
         host: &mut H,
     ) -> Result<CaseRun, CaseFault> {
         let mut machine = Machine::new(self.alloc, text);
-        let mut typed = Vec::new(self.alloc);
-        let (status, steps) = self.edited(&mut machine, host, &mut typed)?;
-        Ok(CaseRun {
-            typed,
-            status,
-            steps,
-            buffer: buffer_of(self.alloc, &machine)?,
-            pointer: machine.dot(),
-        })
+        self.run_on(&mut machine, host)
     }
 
     fn compare(

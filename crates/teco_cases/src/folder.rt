@@ -33,33 +33,33 @@ pub struct Contents {
     pub names: Vec<String>,
 }
 
+impl Contents {
+    // Adds a file of the folder and its name.
+    fn add(&mut self, rt: &HostRuntime, entry: &DirEntry) -> Result<(), CaseFault> {
+        let text = fs::read(rt, entry.path())?;
+        self.files.put(entry.file_name().as_bytes(), &text)?;
+        self.names
+            .push(String::from_str(rt.alloc(), entry.file_name())?)?;
+        Ok(())
+    }
+
+    // Goes back, takes what the folder has, and removes it.
+    fn take(&mut self, rt: &HostRuntime) -> Result<(), CaseFault> {
+        env::set_current_dir(rt, "..")?;
+        for entry in fs::read_dir(rt, FOLDER)? {
+            self.add(rt, &entry?)?;
+        }
+        fs::remove_dir_all(rt, FOLDER)?;
+        Ok(())
+    }
+}
+
 /// Goes back, and removes the folder; tells what it had.
 pub fn leave(rt: &HostRuntime) -> Result<Contents, CaseFault> {
-    env::set_current_dir(rt, "..")?;
-    let contents = read_folder(rt)?;
-    fs::remove_dir_all(rt, FOLDER)?;
+    let mut contents = Contents {
+        files: MemHost::new(rt.alloc()),
+        names: Vec::new(rt.alloc()),
+    };
+    contents.take(rt)?;
     Ok(contents)
-}
-
-// Adds a file of the folder and its name.
-fn add_file(
-    rt: &HostRuntime,
-    files: &mut MemHost,
-    names: &mut Vec<String>,
-    entry: &DirEntry,
-) -> Result<(), CaseFault> {
-    let text = fs::read(rt, entry.path())?;
-    files.put(entry.file_name().as_bytes(), &text)?;
-    names.push(String::from_str(rt.alloc(), entry.file_name())?)?;
-    Ok(())
-}
-
-// What the folder has.
-fn read_folder(rt: &HostRuntime) -> Result<Contents, CaseFault> {
-    let mut files = MemHost::new(rt.alloc());
-    let mut names = Vec::new(rt.alloc());
-    for entry in fs::read_dir(rt, FOLDER)? {
-        add_file(rt, &mut files, &mut names, &entry?)?;
-    }
-    Ok(Contents { files, names })
 }

@@ -169,6 +169,16 @@ fn first_of(all: Outcomes) -> Result<case::Case, RowFault> {
     }
 }
 
+// The first case of what may come of an element.
+fn case_behind(
+    case: &case::Case,
+    element: &Element<'_>,
+    behind: &Option<Element<'_>>,
+    alloc: Global,
+) -> Result<case::Case, RowFault> {
+    first_of(of_element(case, element, behind, alloc)?)
+}
+
 // What may come of the last element, behind the first case of each before it.
 fn performed(commands: &[u8], alloc: Global) -> Result<Outcomes, RowFault> {
     let mut readings = Readings::from(commands, 0);
@@ -179,11 +189,10 @@ fn performed(commands: &[u8], alloc: Global) -> Result<Outcomes, RowFault> {
             return Err(RowFault::NotTold);
         };
         behind = next_of(&mut readings);
-        let all = of_element(&case, &element, &behind, alloc)?;
         if behind.is_none() {
-            return Ok(all);
+            return of_element(&case, &element, &behind, alloc);
         }
-        case = first_of(all)?;
+        case = case_behind(&case, &element, &behind, alloc)?;
     }
     Err(RowFault::NotTold)
 }

@@ -81,17 +81,20 @@ fn sign_of(letter: u8) -> Sign {
     }
 }
 
-// The program of a case.
-fn program_of(alloc: Global, case: &NamedCase<'_>) -> Result<LinearProgram, CaseFault> {
-    let mut program = LinearProgram::new(alloc);
+// Takes the program of a case.
+fn read_program(
+    alloc: Global,
+    case: &NamedCase<'_>,
+    program: &mut LinearProgram,
+) -> Result<(), CaseFault> {
     for letter in case.text("variables")? {
         let _place = program.add_variable(sign_of(*letter))?;
     }
     let text = case.phrase("program")?;
     for line in text.words.lines() {
-        add_line(alloc, &mut program, text.part(line))?;
+        add_line(alloc, program, text.part(line))?;
     }
-    Ok(program)
+    Ok(())
 }
 
 // The greatest number that divides both.
@@ -189,20 +192,24 @@ fn satisfied(program: &LinearProgram, values: &Assignment) -> &'static str {
 }
 
 // What is said of the program of a case.
-fn said_of(alloc: Global, case: &NamedCase<'_>) -> Result<String, CaseFault> {
-    let program = program_of(alloc, case)?;
+fn said_of(
+    alloc: Global,
+    case: &NamedCase<'_>,
+    program: &mut LinearProgram,
+) -> Result<String, CaseFault> {
+    read_program(alloc, case, program)?;
     if let Some(text) = case.phrase_if_any("denominator")? {
         let values = values_of(alloc, case, text.number()?)?;
-        return Ok(String::from_str(alloc, satisfied(&program, &values))?);
+        return Ok(String::from_str(alloc, satisfied(program, &values))?);
     }
     let pivots = case.number_if_any("pivots")?.unwrap_or(PIVOTS);
     let answer = program.solve(alloc, pivots as usize);
-    answer_of(alloc, &program, answer)
+    answer_of(alloc, program, answer)
 }
 
 /// Solves the program of a case, or sees whether values satisfy it.
 pub fn run_program(alloc: Global, case: &NamedCase<'_>) -> Result<Findings, CaseFault> {
     case.check(CaseKeys::of_texts(KEYS))?;
-    let said = said_of(alloc, case)?;
+    let said = said_of(alloc, case, &mut LinearProgram::new(alloc))?;
     Findings::of_text(alloc, "answer", case.text("answer")?, said.as_bytes())
 }

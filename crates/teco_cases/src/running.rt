@@ -90,6 +90,16 @@ fn host_of<J: CaseRunner>(alloc: Global, job: &J) -> Result<MemHost, AllocError>
     Ok(host)
 }
 
+// Compares what came of a run with what the case says.
+fn compare_ran<J: CaseRunner>(
+    job: &J,
+    findings: &mut Findings,
+    ran: Result<CaseRun, CaseFault>,
+    left: FilesLeft<'_>,
+) -> Result<(), CaseFault> {
+    Ok(job.compare(findings, &ran?, left)?)
+}
+
 // Runs a job over files in memory.
 fn run_in_memory<J: CaseRunner>(
     alloc: Global,
@@ -98,13 +108,12 @@ fn run_in_memory<J: CaseRunner>(
     findings: &mut Findings,
 ) -> Result<(), CaseFault> {
     let mut host = host_of(alloc, job)?;
-    let ran = run_on(alloc, job, store, usize::MAX, &mut host)?;
+    let ran = run_on(alloc, job, store, usize::MAX, &mut host);
     let left = FilesLeft {
         files: &host,
         names: &[],
     };
-    job.compare(findings, &ran, left)?;
-    Ok(())
+    compare_ran(job, findings, ran, left)
 }
 
 // Runs a job over files in memory, so many bytes at a time.
@@ -116,13 +125,12 @@ fn run_by_pieces<J: CaseRunner>(
     findings: &mut Findings,
 ) -> Result<(), CaseFault> {
     let mut host = by_pieces(host_of(alloc, job)?, piece);
-    let ran = run_on(alloc, job, store, piece, &mut host)?;
+    let ran = run_on(alloc, job, store, piece, &mut host);
     let left = FilesLeft {
         files: host.mem(),
         names: &[],
     };
-    job.compare(findings, &ran, left)?;
-    Ok(())
+    compare_ran(job, findings, ran, left)
 }
 
 // Runs a job over the files of the folder that it is run in.
@@ -146,8 +154,7 @@ fn run_in_folder<J: CaseRunner>(
         files: &contents.files,
         names: &contents.names,
     };
-    job.compare(findings, &ran?, left)?;
-    Ok(())
+    compare_ran(job, findings, ran, left)
 }
 
 // Runs a job over a setting.

@@ -125,6 +125,25 @@ impl<'a> Session<'a> {
         Ok(done.coded)
     }
 
+    // Has a machine read the input, and takes what it has typed.
+    fn run_on<T: TextStore, H: Host>(
+        &self,
+        machine: &mut Machine<T>,
+        piece: usize,
+        host: &mut H,
+    ) -> Result<CaseRun, CaseFault> {
+        let mut typed = Vec::new(self.alloc);
+        let coded = self.coded(machine, piece, host, &mut typed)?;
+        let buffer = buffer_of(self.alloc, machine)?;
+        Ok(CaseRun {
+            typed,
+            status: u64::from(coded || machine.has_output()),
+            steps: 0,
+            buffer,
+            pointer: machine.dot(),
+        })
+    }
+
     // Compares the buffer and the pointer, where these are told.
     fn compare_buffer(&self, findings: &mut Findings, ran: &CaseRun) -> Result<(), AllocError> {
         if let Some(buffer) = self.buffer {
@@ -168,15 +187,7 @@ impl CaseRunner for Session<'_> {
         host: &mut H,
     ) -> Result<CaseRun, CaseFault> {
         let mut machine = Machine::new(self.alloc, text);
-        let mut typed = Vec::new(self.alloc);
-        let coded = self.coded(&mut machine, piece, host, &mut typed)?;
-        Ok(CaseRun {
-            typed,
-            status: u64::from(coded || machine.has_output()),
-            steps: 0,
-            buffer: buffer_of(self.alloc, &machine)?,
-            pointer: machine.dot(),
-        })
+        self.run_on(&mut machine, piece, host)
     }
 
     fn compare(

@@ -2,7 +2,8 @@
 use Rattle.teco_check.proofs.Prelude.{◌≡◌, subst, refl, sym, ◌∙◌, ap, ℕ, zero, suc, ◌+◌, ◌-◌, ◌<◌, ◌≤◌, ◌==◌, Bool}
 use Rattle.teco_check.proofs.Prelude.{true, false, List, [], ◌∷◌, ◌++◌, append_assoc, length, set, get_or, take, drop}
 use Rattle.teco_check.proofs.Prelude.{replicate, Option, Some, None, Result, Ok, Err, if◌then◌else◌, slice_get, add-one}
-use Rattle.teco_check.proofs.Prelude.{arith, drop_all, nat_tests, Node, Refusal, ◌>>=◌, ArgumentRange, facts_given}
+use Rattle.teco_check.proofs.Prelude.{arith, drop_all, nat_tests, Node, RefusalReason, ◌>>=◌, ArgumentRange}
+use Rattle.teco_check.proofs.Prelude.{facts_given}
 use Rattle.teco_check.proofs.Prelude.{Facts, Chosen, Arrival, met, met_with, derived_at, Row, Table, facts_at}
 use Rattle.teco_check.proofs.Prelude.{NotDerived, AreLarge, Slots, arrived_at, arrived_all, arrivals_of, node_at}
 use Rattle.std.proofs.Common.{◌⊎◌, inl, inr}
@@ -20,12 +21,12 @@ use Rattle.teco_check.specs.Here.{IsNumberOf}
 use Rattle.teco_check.proofs.Further.{nodes_from}
 
 -- steps one after another
-ok_of : {A B : Type 0} (r : Result A Refusal) (f : A → Result B Refusal) (b : B) → (r >>= f) ≡ Ok b
+ok_of : {A B : Type 0} (r : Result A RefusalReason) (f : A → Result B RefusalReason) (b : B) → (r >>= f) ≡ Ok b
     → (a : A) × (r ≡ Ok a) × (f a ≡ Ok b)
 ok_of (Ok a) f b h = (a, refl, h)
 ok_of (Err why) f b h = absurd (cc)
 
-done : {A : Type 0} (r : Result A Refusal) → (r >>= (λ x. Ok x)) ≡ r
+done : {A : Type 0} (r : Result A RefusalReason) → (r >>= (λ x. Ok x)) ≡ r
 done (Ok a) = refl
 done (Err why) = refl
 
@@ -37,15 +38,16 @@ last_met true known facts = done (met_with known facts)
 last_met false known facts = refl
 
 -- where an edge arrives at this node before, by what is known then
-after_met : (r : Result (Option Facts) Refusal) (all before : Option Facts → Result (Option Facts) Refusal) (c : Bool)
+after_met : (r : Result (Option Facts) RefusalReason) (all before : Option Facts → Result (Option Facts) RefusalReason)
+    (c : Bool)
     (facts : Facts) → ((more : Option Facts) → all more ≡ (if c then met_more (before more) facts else before more))
     → (r >>= all) ≡ (if c then met_more (r >>= before) facts else (r >>= before))
 after_met (Err why) all before true facts h = refl
 after_met (Err why) all before false facts h = refl
 after_met (Ok more) all before c facts h = h more
 
-by_first : (b : Bool) (r : Result (Option Facts) Refusal) (known : Option Facts) (all before : Option Facts
-    → Result (Option Facts) Refusal) (c : Bool) (facts : Facts)
+by_first : (b : Bool) (r : Result (Option Facts) RefusalReason) (known : Option Facts) (all before : Option Facts
+    → Result (Option Facts) RefusalReason) (c : Bool) (facts : Facts)
     → ((more : Option Facts) → all more ≡ (if c then met_more (before more) facts else before more))
     → (if b then (r >>= all) else all known) ≡
     (if c then met_more (if b then (r >>= before) else before known) facts else
@@ -78,7 +80,7 @@ put_outside [] k x h = refl
 put_outside (z ∷ xs) zero x h = absurd (omega arith)
 put_outside (z ∷ xs) (suc k) x h = ap (λ zs. z ∷ zs) (put_outside xs k x (omega arith))
 
-pub arrived_inside : (slots : Slots) (target : ℕ) (facts : Facts) (x slot new : Result (Option Facts) Refusal)
+pub arrived_inside : (slots : Slots) (target : ℕ) (facts : Facts) (x slot new : Result (Option Facts) RefusalReason)
     → 0 < target → target ≤ length slots → slot ≡ get_or slots (target - 1) slot → new ≡ met_more slot facts
     → set (set slots (target - 1) x) (target - 1) new ≡ arrived_at target facts slots
 arrived_inside slots zero facts x slot new h l d e = absurd (omega arith)
@@ -98,13 +100,13 @@ pub record AreMet (slots : Slots) (arrivals : List Arrival) (first count : ℕ) 
   pub long : length slots ≡ count
   pub each : (k : ℕ) → first ≤ k → k < count → get_or slots k (Ok None) ≡ met (suc k) arrivals None
 
-get_at : (slots : Slots) (k : ℕ) (x : Result (Option Facts) Refusal) → k < length slots
+get_at : (slots : Slots) (k : ℕ) (x : Result (Option Facts) RefusalReason) → k < length slots
     → get_or (set slots k x) k (Ok None) ≡ x
 get_at [] k x h = absurd (omega arith)
 get_at (s ∷ slots) zero x h = refl
 get_at (s ∷ slots) (suc k) x h = get_at slots k x (omega arith)
 
-get_beside : (slots : Slots) (i k : ℕ) (x : Result (Option Facts) Refusal) → ¬ (i ≡ k)
+get_beside : (slots : Slots) (i k : ℕ) (x : Result (Option Facts) RefusalReason) → ¬ (i ≡ k)
     → get_or (set slots i x) k (Ok None) ≡ get_or slots k (Ok None)
 get_beside [] i k x h = refl
 get_beside (s ∷ slots) zero zero x h = absurd (h refl)
@@ -159,7 +161,7 @@ met_behind slots arrivals k count m = record {
   each = λ n h l. get_beside slots k n _ (λ e. absurd (omega arith)) ∙ m.each n (omega arith) l;
 }
 
-abbrev nothing : Result (Option Facts) Refusal
+abbrev nothing : Result (Option Facts) RefusalReason
 nothing = Ok None
 
 nothing_at : (count k : ℕ) → k < count → get_or (replicate count nothing) k (Ok None) ≡ Ok None
@@ -224,7 +226,7 @@ derived_is argument nodes chosen k slots h m =
     rw (same, add-one) (ap (λ r. r >>= derived_at nodes chosen (suc k) (node_at nodes (suc k)))
     (m.each k (omega arith) h))
 
-rows_more : (rows : Result Table Refusal) (row : Row) (table : Table)
+rows_more : (rows : Result Table RefusalReason) (row : Row) (table : Table)
     → ((rows >>= (λ rest. Ok (row ∷ rest))) >>= (λ rest. Ok (table ++ rest))) ≡
     (rows >>= (λ rest. Ok ((table ++ row ∷ []) ++ rest)))
 rows_more (Err why) row table = refl
@@ -239,12 +241,12 @@ from_node nodes rest chosen k before row arrivals e =
     let known = ok_of (met (suc k) before None) _ _ e in
     rw (known.1, known.2) refl
 
-refused_node : (nodes rest : List Node) (chosen : List Chosen) (k : ℕ) (before : List Arrival) (why : Refusal)
+refused_node : (nodes rest : List Node) (chosen : List Chosen) (k : ℕ) (before : List Arrival) (why : RefusalReason)
     → (met (suc k) before None >>= derived_at nodes chosen (suc k) (node_at nodes (suc k))) ≡ Err why
     → derive_from nodes chosen (suc k) (node_at nodes (suc k) ∷ rest) before ≡ Err why
 refused_node nodes rest chosen k before why e = by_met (met (suc k) before None) e
   where
-    by_met : (r : Result (Option Facts) Refusal)
+    by_met : (r : Result (Option Facts) RefusalReason)
         → (r >>= derived_at nodes chosen (suc k) (node_at nodes (suc k))) ≡ Err why
         → (r >>= (λ known. derived_at nodes chosen (suc k) (node_at nodes (suc k)) known
         >>= (λ here. derive_from nodes chosen (suc (suc k)) rest (before ++ here.arrivals)
@@ -275,7 +277,7 @@ row_more argument nodes chosen k slots new table row h a d =
 
 -- a row that is refused
 module _ (argument : Option ArgumentRange) (nodes : List Node) (chosen : List Chosen) (k : ℕ) (slots : Slots)
-    (table : Table) (why : Refusal) (h : k < length nodes) (a : AreDerived argument nodes chosen k slots table)
+    (table : Table) (why : RefusalReason) (h : k < length nodes) (a : AreDerived argument nodes chosen k slots table)
     (e : derived_from nodes chosen (k + 1) slots ≡ Err why) where
   refused_with : (rest : List Node)
       → (derive_from nodes chosen (suc k) (node_at nodes (suc k) ∷ rest) (arrivals_before argument nodes chosen k)
@@ -319,7 +321,7 @@ row_there [] (suc k) row rest h = absurd (omega (arith, h))
 row_there (first ∷ table) zero row rest h = absurd (omega (arith, h))
 row_there (first ∷ table) (suc k) row rest h = row_there table k row rest (omega (arith, h))
 
-table_of : Result Table Refusal → Table
+table_of : Result Table RefusalReason → Table
 table_of (Ok table) = table
 table_of (Err why) = []
 

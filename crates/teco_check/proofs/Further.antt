@@ -2,7 +2,7 @@
 use Rattle.teco_check.proofs.Prelude.{◌≡◌, refl, sym, ◌∙◌, ap, ℕ, zero, suc, ◌+◌, ◌-◌, ◌<◌, ◌≤◌, Bool, true, false}
 use Rattle.teco_check.proofs.Prelude.{◌||◌, List, [], ◌∷◌, length, drop, slice_get, Option, Some, None, unwrap_or, Ok}
 use Rattle.teco_check.proofs.Prelude.{Err, add-one, arith, if◌then◌else◌, option_map_or, drop_all, Element, first_end}
-use Rattle.teco_check.proofs.Prelude.{Node, Polynomial, Refusal, ArgumentRange, Facts, Edges, along, begins_turn}
+use Rattle.teco_check.proofs.Prelude.{Node, Polynomial, RefusalReason, ArgumentRange, Facts, Edges, along, begins_turn}
 use Rattle.teco_check.proofs.Prelude.{arrive, check, check_from, count_from, size_from, turns_round, needs_from, Table}
 use Rattle.teco_check.proofs.Prelude.{facts_at, Choice, Changes, arriving, arrivals_behind, Slots, arrived_at}
 use Rattle.teco_check.proofs.Prelude.{arrived_all, no_node, node_at}
@@ -99,7 +99,7 @@ module _ (nodes : List Node) (table : Table) (k : ℕ) (total : Polynomial) wher
   count_more more h e = let here : counted_with table (suc k) (node_at nodes (suc k)) total ≡ Ok more =
       rw add-one at e in rw (nodes_from nodes k h, here, add-one) refl
 
-  pub count_fails : (why : Refusal) → k < length nodes
+  pub count_fails : (why : RefusalReason) → k < length nodes
       → counted_with table (k + 1) (node_at nodes (k + 1)) total ≡ Err why
       → count_from table (suc k) (drop k nodes) total ≡ Err (k + 1)
   count_fails why h e = let here : counted_with table (suc k) (node_at nodes (suc k)) total ≡ Err why =
@@ -109,7 +109,7 @@ module _ (nodes : List Node) (table : Table) (k : ℕ) (total : Polynomial) wher
       → size_from table (suc k) (drop k nodes) total ≡ size_from table (suc (k + 1)) (drop (k + 1) nodes) more
   size_more more h e = rw (nodes_from nodes k h, e, add-one) refl
 
-  pub size_fails : (why : Refusal) → k < length nodes → sized_with (facts_at table (suc k)) total ≡ Err why
+  pub size_fails : (why : RefusalReason) → k < length nodes → sized_with (facts_at table (suc k)) total ≡ Err why
       → size_from table (suc k) (drop k nodes) total ≡ Err (k + 1)
   size_fails why h e = rw (nodes_from nodes k h, e, add-one) refl
 
@@ -125,16 +125,17 @@ module _ (table : Table) (iterations : List ℕ) (k begin : ℕ) (is : slice_get
       → turns_round table (drop (k - 1) iterations) ≡ Ok next
   round_more rounds most next d e f = rw (from_here, d, e, f) refl
 
-  pub round_refused : (rounds : Polynomial) (why : Refusal) → turns_round table (drop k iterations) ≡ Ok rounds
+  pub round_refused : (rounds : Polynomial) (why : RefusalReason) → turns_round table (drop k iterations) ≡ Ok rounds
       → turns_at table begin ≡ Err why → turns_round table (drop (k - 1) iterations) ≡ Err why
   round_refused rounds why d e = rw (from_here, d, e) refl
 
-  pub round_overflows : (rounds most : Polynomial) (why : Refusal) → turns_round table (drop k iterations) ≡ Ok rounds
+  pub round_overflows : (rounds most : Polynomial) (why : RefusalReason)
+      → turns_round table (drop k iterations) ≡ Ok rounds
       → turns_at table begin ≡ Ok most → product_of most rounds ≡ Err why
       → turns_round table (drop (k - 1) iterations) ≡ Err why
   round_overflows rounds most why d e f = rw (from_here, d, e, f) refl
 
-pub refused_inside : (table : Table) (iterations : List ℕ) (k : ℕ) (why : Refusal)
+pub refused_inside : (table : Table) (iterations : List ℕ) (k : ℕ) (why : RefusalReason)
     → turns_round table (drop k iterations) ≡ Err why → turns_round table iterations ≡ Err why
 refused_inside table [] zero why e = e
 refused_inside table [] (suc k) why e = e

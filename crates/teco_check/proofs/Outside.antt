@@ -2,7 +2,8 @@
 use Rattle.teco_check.proofs.Prelude.{◌≡◌, refl, sym, ap, ◌∙◌, subst, ℕ, zero, suc, ◌+◌, ◌-◌, ◌<◌, true, false, Bool}
 use Rattle.teco_check.proofs.Prelude.{List, [], ◌∷◌, ◌++◌, length, drop, Option, Some, None, option_map, Result, Ok}
 use Rattle.teco_check.proofs.Prelude.{Err, slice_get, unwrap_or, if◌then◌else◌, ◌==◌, ◌||◌, arith, list_any, Flow, Kind}
-use Rattle.teco_check.proofs.Prelude.{Counted, Element, Node, Polynomial, Refusal, Value, ArgumentRange, facts_given}
+use Rattle.teco_check.proofs.Prelude.{Counted, Element, Node, Polynomial, RefusalReason, Value, ArgumentRange}
+use Rattle.teco_check.proofs.Prelude.{facts_given}
 use Rattle.teco_check.proofs.Prelude.{changes_in, ◌>>=◌, Choice, Changes, deletion_of, Facts, Edges, Shift, Foreseen}
 use Rattle.teco_check.proofs.Prelude.{silent_behind, ending, along, begins_turn, begins_iteration, begins_by_kind}
 use Rattle.teco_check.proofs.Prelude.{Chosen, Arrival, met, met_with, arriving, arrivals_behind, derived_at, chosen_for}
@@ -35,7 +36,7 @@ use Rattle.teco_model.specs.declared.kind.Unit.TheVariants as counted
 use Rattle.teco_facts.specs.Numbers.{AreSmall, IsSmallFall}
 use Rattle.teco_facts.specs.declared.few.TheConstants.{DEPTH}
 use Rattle.teco_poly.specs.Polynomial.{number}
-use Rattle.teco_verifier.specs.declared.refusal.Refusal.TheVariants as refusal
+use Rattle.teco_verifier.specs.declared.refusal.RefusalReason.TheVariants as refusal
 use Rattle.teco_verifier.specs.declared.values.Distances.{Distances}
 use Rattle.teco_verifier.specs.declared.values.Interval.{Interval}
 use Rattle.teco_verifier.specs.facts.Arguments.{KnownArguments, KnownTaken, needed_value, with_level, level_with}
@@ -80,17 +81,19 @@ use Rattle.teco_check.proofs.Arriving.{AreDerived, arrivals_before}
 use Rattle.teco_check.proofs.Ways.{along_is, arriving_is}
 
 -- what a result is, if it is not refused
-binds : {X Y : Type 0} (P : Y → Type 0) (r : Result X Refusal) (f : X → Result Y Refusal) → ((x : X) → IfOk (f x) P)
+binds : {X Y : Type 0} (P : Y → Type 0) (r : Result X RefusalReason) (f : X → Result Y RefusalReason)
+    → ((x : X) → IfOk (f x) P)
     → IfOk (r >>= f) P
 binds P (Ok x) f h = h x
 binds P (Err why) f h = tt
 
-binds_with : {X Y : Type 0} (Q : X → Type 0) (P : Y → Type 0) (r : Result X Refusal) (f : X → Result Y Refusal)
+binds_with : {X Y : Type 0} (Q : X → Type 0) (P : Y → Type 0) (r : Result X RefusalReason) (f : X
+    → Result Y RefusalReason)
     → IfOk r Q → ((x : X) → Q x → IfOk (f x) P) → IfOk (r >>= f) P
 binds_with Q P (Ok x) f q h = h x q
 binds_with Q P (Err why) f q h = tt
 
-if_allowed : {X : Type 0} (P : X → Type 0) (b : Bool) (x : X) (why : Refusal) → P x
+if_allowed : {X : Type 0} (P : X → Type 0) (b : Bool) (x : X) (why : RefusalReason) → P x
     → IfOk (if b then Ok x else Err why) P
 if_allowed P true x why p = p
 if_allowed P false x why p = tt
@@ -317,7 +320,7 @@ module _ (facts : Facts) (o : IsOutside facts) where
       (λ least. shifted_out (shift_found s least (length e.second) facts.position.distances))
 
 -- what takes its arguments first
-taking_out : (act : KnownTaken → Facts → Result Foreseen Refusal) (facts : Facts) → IsOutside facts
+taking_out : (act : KnownTaken → Facts → Result Foreseen RefusalReason) (facts : Facts) → IsOutside facts
     → ((taken : KnownTaken) (known : Facts) → IsOutside known → IfOk (act taken known) IsForeseen)
     → IfOk (after_taking act facts) IsOutside
 taking_out act facts o h =
@@ -364,7 +367,7 @@ joined_out facts others o =
     (λ texts. record { position = q; iterations = o.iterations; answer = tt }))))))
 
 -- edges
-on_out : (r : Result Facts Refusal) → IfOk r IsOutside → IfOk (on r) AreOut
+on_out : (r : Result Facts RefusalReason) → IfOk r IsOutside → IfOk (on r) AreOut
 on_out r h = binds_with IsOutside AreOut r _ h (λ facts o. record { on = o; away = tt })
 
 outcomes_out : (colon : Bool) (found failed : Facts) → IsOutside found → IsOutside failed
@@ -549,7 +552,7 @@ met_with_out None facts o p = p
 met_with_out (Some others) facts o p = binds_with IsOutside OutOr (joined others facts) _ (joined_out others facts o)
     (λ join q. q)
 
-if_met : (b : Bool) (one other : Result (Option Facts) Refusal) → IfOk one OutOr → IfOk other OutOr
+if_met : (b : Bool) (one other : Result (Option Facts) RefusalReason) → IfOk one OutOr → IfOk other OutOr
     → IfOk (if b then one else other) OutOr
 if_met true one other o p = o
 if_met false one other o p = p
@@ -576,7 +579,7 @@ none_begins (node ∷ nodes) (suc k) h = none_begins nodes k (rest_of_any (begin
     rest_of_any true b e = absurd (cc)
     rest_of_any false b e = e
 
-arrivals_of_out : (r : Result Derived Refusal) → IfOk r HasArrivalsOut → AllOut (arrivals_of r)
+arrivals_of_out : (r : Result Derived RefusalReason) → IfOk r HasArrivalsOut → AllOut (arrivals_of r)
 arrivals_of_out (Ok derived) o = o
 arrivals_of_out (Err why) o = tt
 
@@ -606,7 +609,7 @@ kept facts o = record {
   };
 }
 
-not_large : (known : Result (Option Facts) Refusal) → IfOk known OutOr → AreLarge (known_of known) → ⊥
+not_large : (known : Result (Option Facts) RefusalReason) → IfOk known OutOr → AreLarge (known_of known) → ⊥
 not_large (Err why) o l = l
 not_large (Ok None) o l = l
 not_large (Ok (Some facts)) o l = l (kept facts o)

@@ -20,7 +20,7 @@ pub use Rattle.teco_model.specs.declared.kind.Flow.{Flow}
 pub use Rattle.teco_model.specs.declared.kind.Kind.{Kind}
 pub use Rattle.teco_model.specs.declared.kind.Unit.{Unit as Counted}
 pub use Rattle.teco_poly.specs.Polynomial.{Polynomial}
-pub use Rattle.teco_verifier.specs.declared.refusal.Refusal.{Refusal}
+pub use Rattle.teco_verifier.specs.declared.refusal.RefusalReason.{RefusalReason}
 pub use Rattle.teco_verifier.specs.declared.values.Value.{Value}
 pub use Rattle.teco_verifier.specs.expansion.Ends.{first_end}
 pub use Rattle.teco_verifier.specs.expansion.Node.{Node}

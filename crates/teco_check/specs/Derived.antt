@@ -2,7 +2,7 @@
 use Rattle.std.specs.Prelude.{◌≡◌, ℕ, zero, suc, ◌-◌, List, [], ◌∷◌, take, slice_set, slice_index_or, Option, Some}
 use Rattle.std.specs.Prelude.{None, Result, Ok, Err, IsOk}
 use Rattle.teco_model.specs.Macros.{ArgumentRange}
-use Rattle.teco_verifier.specs.declared.refusal.Refusal.{Refusal}
+use Rattle.teco_verifier.specs.declared.refusal.RefusalReason.{RefusalReason}
 use Rattle.teco_verifier.specs.facts.Argument.{facts_given}
 use Rattle.teco_verifier.specs.facts.Attempt.{◌>>=◌}
 use Rattle.teco_verifier.specs.facts.Facts.{Facts}
@@ -17,10 +17,10 @@ use Rattle.teco_check.specs.declared.derivation.NotDerived.TheVariants as fault
 
 -- for each node what arrived there
 abbrev pub Slots : Type 0
-Slots = List (Result (Option Facts) Refusal)
+Slots = List (Result (Option Facts) RefusalReason)
 
 -- one more edge
-abbrev pub met_more : Result (Option Facts) Refusal → Facts → Result (Option Facts) Refusal
+abbrev pub met_more : Result (Option Facts) RefusalReason → Facts → Result (Option Facts) RefusalReason
 met_more slot facts = slot >>= (λ known. met_with known facts)
 
 -- at the node of a number, if there is one
@@ -33,12 +33,12 @@ arrived_all [] slots = slots
 arrived_all (arrival ∷ arrivals) slots = arrived_all arrivals (arrived_at arrival.target arrival.facts slots)
 
 -- the edges behind a node that is derived
-abbrev pub arrivals_of : Result Derived Refusal → List Arrival
+abbrev pub arrivals_of : Result Derived RefusalReason → List Arrival
 arrivals_of (Ok derived) = derived.arrivals
 arrivals_of (Err why) = []
 
 -- a node's row is derived, and the edges behind it arrived
-pub record DerivesTo (defined : Result Derived Refusal) (old new : Slots) (row : Row) : Type 0 where
+pub record DerivesTo (defined : Result Derived RefusalReason) (old new : Slots) (row : Row) : Type 0 where
   pub derived : defined ≡ Ok (record { row = row; arrivals = arrivals_of defined })
   pub arrived : new ≡ arrived_all (arrivals_of defined) old
 
@@ -48,16 +48,16 @@ AreLarge None = ⊥
 AreLarge (Some facts) = ¬ AreKept facts
 
 -- a node's row is refused
-pub record IsRefusedHere (defined : Result Derived Refusal) (why : Refusal) (number node : ℕ) : Type 0 where
+pub record IsRefusedHere (defined : Result Derived RefusalReason) (why : RefusalReason) (number node : ℕ) : Type 0 where
   pub here : node ≡ number
   pub refused : defined ≡ Err why
 
 -- the row of this node, if there is one, has facts that no table may have
-pub record HasLarge (defined : Result Derived Refusal) (number node : ℕ) : Type 0 where
+pub record HasLarge (defined : Result Derived RefusalReason) (number node : ℕ) : Type 0 where
   pub here : node ≡ number
   pub large : (derived : Derived) → defined ≡ Ok derived → AreLarge derived.row.facts
 
-abbrev pub DerivesRow : ℕ → Result Derived Refusal → Slots → Slots → Result Row NotDerived → Type 0
+abbrev pub DerivesRow : ℕ → Result Derived RefusalReason → Slots → Slots → Result Row NotDerived → Type 0
 DerivesRow number defined old new (Ok row) = DerivesTo defined old new row
 DerivesRow number defined old new (Err (fault.Refused why node)) = IsRefusedHere defined why number node
 DerivesRow number defined old new (Err (fault.Large node)) = HasLarge defined number node
@@ -71,12 +71,12 @@ IsLargeBy known (Err fault.Memory) = Unit {0}
 IsLargeBy known (Ok row) = Unit {0}
 
 -- what is known where edges arrived, if that is not refused
-abbrev pub known_of : Result (Option Facts) Refusal → Option Facts
+abbrev pub known_of : Result (Option Facts) RefusalReason → Option Facts
 known_of (Ok known) = known
 known_of (Err why) = None
 
 -- what is derived at the node of a number, from what arrived there
-abbrev pub derived_from : List Node → List Chosen → ℕ → Slots → Result Derived Refusal
+abbrev pub derived_from : List Node → List Chosen → ℕ → Slots → Result Derived RefusalReason
 derived_from nodes chosen number slots =
     slice_index_or slots (number - 1) (Ok None) >>= derived_at nodes chosen number (node_at nodes number)
 
@@ -86,7 +86,7 @@ DerivesFrom nodes chosen number old new result =
 
 -- the answer is the definition's table, or its refusal; or the definition's table, if there is one, has facts at a
 -- node that no table may have; where memory was refused nothing is said
-abbrev pub Derives : Result Table Refusal → Result Table NotDerived → Type 0
+abbrev pub Derives : Result Table RefusalReason → Result Table NotDerived → Type 0
 Derives defined (Ok table) = defined ≡ Ok table
 Derives defined (Err (fault.Refused why node)) = defined ≡ Err why
 Derives defined (Err (fault.Large node)) = (table : Table) → defined ≡ Ok table
@@ -94,13 +94,13 @@ Derives defined (Err (fault.Large node)) = (table : Table) → defined ≡ Ok ta
 Derives defined (Err fault.Memory) = Unit {0}
 
 -- the table of so many nodes from the first on
-abbrev pub table_up_to : Option ArgumentRange → List Node → List Chosen → ℕ → Result Table Refusal
+abbrev pub table_up_to : Option ArgumentRange → List Node → List Chosen → ℕ → Result Table RefusalReason
 table_up_to argument nodes chosen count =
     derive_from nodes chosen 1 (take count nodes) (record { target = 1; facts = facts_given argument } ∷ [])
 
 -- The rules refuse at the node of this number: those before it have a table, and with it they have none.
 pub record IsRefusedAt (argument : Option ArgumentRange) (nodes : List Node) (chosen : List Chosen) (number : ℕ)
-    (why : Refusal) : Type 0 where
+    (why : RefusalReason) : Type 0 where
   pub there : IsNumberOf nodes number
   pub before : IsOk (table_up_to argument nodes chosen (number - 1))
   pub refused : table_up_to argument nodes chosen number ≡ Err why

@@ -2,7 +2,7 @@
 use Rattle.std.specs.Prelude.{ℕ, ◌<◌, ◌≤◌, List, [], length, false, Option, None, Some, Result, Ok, option_map}
 use Rattle.std.specs.Prelude.{unwrap_or}
 use Rattle.teco_model.specs.Element.{Element}
-use Rattle.teco_verifier.specs.declared.refusal.Refusal.{Refusal}
+use Rattle.teco_verifier.specs.declared.refusal.RefusalReason.{RefusalReason}
 use Rattle.teco_verifier.specs.expansion.Node.{Node, numbered}
 use Rattle.teco_verifier.specs.facts.Facts.{Facts}
 use Rattle.teco_verifier.specs.facts.Flows.{Edges}
@@ -39,6 +39,6 @@ abbrev pub element_of : Option Placed → Option Element
 element_of here = option_map (λ (p : Placed). p.element) here
 
 -- what is known behind an element where it stands
-abbrev pub edges_placed : Option Placed → Facts → Result Edges Refusal
+abbrev pub edges_placed : Option Placed → Facts → Result Edges RefusalReason
 edges_placed None facts = Ok (transfer_return facts)
 edges_placed (Some element) facts = transfer element facts

@@ -7,13 +7,13 @@ use std::alloc::{AllocError, Global};
 use std::marker::Model;
 use std::mem;
 use teco_facts::{FactFault, Facts};
-use teco_verifier::Refusal;
+use teco_verifier::RefusalReason;
 
 /// For each node in the order of their numbers, what is known of all edges that arrived there, or
 /// why it is refused.
 #[derive(Drop)]
 pub struct Arrived {
-    slots: Vec<Result<Option<Facts>, Refusal>>,
+    slots: Vec<Result<Option<Facts>, RefusalReason>>,
 }
 
 impl Model for Arrived {
@@ -26,9 +26,9 @@ impl Model for Arrived {
 
 // One more edge arrives, if there is memory.
 fn met_more(
-    slot: Result<Option<Facts>, Refusal>,
+    slot: Result<Option<Facts>, RefusalReason>,
     facts: Facts,
-) -> Result<Result<Option<Facts>, Refusal>, AllocError>
+) -> Result<Result<Option<Facts>, RefusalReason>, AllocError>
     ensures { IfOk result (λ met. met ≡ derived.met_more slot facts) }
 {
     let others = match slot {
@@ -68,7 +68,7 @@ impl Arrived {
 
     /// Takes out what arrived at the node of a number.
     #[tactic(auto, using(crate::proofs::Arriving::got_there))]
-    pub fn take(&mut self, number: usize) -> Result<Option<Facts>, Refusal>
+    pub fn take(&mut self, number: usize) -> Result<Option<Facts>, RefusalReason>
         requires one { 0 < number }
         requires last { number ≤ length self.old }
         ensures value { result ≡ slice_index_or self.old (number - 1) (Ok None) }

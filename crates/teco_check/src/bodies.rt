@@ -13,7 +13,7 @@ use teco_facts::{Changes, Choice, Facts, body_start};
 use teco_model::Element;
 use teco_model::kind::{Flow, Kind};
 use teco_poly::Poly;
-use teco_verifier::Refusal;
+use teco_verifier::RefusalReason;
 
 /// Whether an element is a <.
 pub fn begins_iteration(read: &Option<Element<'_>>) -> bool
@@ -56,7 +56,7 @@ fn body_stands(
     entering: Facts,
     start: Option<&Facts>,
     choice: &Option<Choice>,
-    most: &Result<Poly, Refusal>,
+    most: &Result<Poly, RefusalReason>,
 ) -> Result<bool, AllocError>
     ensures { IfOk result (λ yes. yes ≡ rules.body_stands body.now.changes.now
         (option_copied body.now.end) entering (option_copied start.entry) choice.now most.now) }

@@ -25,13 +25,13 @@ use std::alloc::{AllocError, Global};
 use teco_expansion::Nodes;
 use teco_facts::{Choice, FactFault, Facts, body_start};
 use teco_model::{ArgumentRange, Element};
-use teco_verifier::{LoopLine, Refusal};
+use teco_verifier::{LoopLine, RefusalReason};
 
 /// Why no table is derived.
 #[derive(Clone, Copy)]
 pub enum NotDerived {
     /// The rules refuse what is known at the node of this number, or behind it.
-    Refused { why: Refusal, node: usize },
+    Refused { why: RefusalReason, node: usize },
     /// At the node of this number a fall is larger, or more iterations are open, than a table may
     /// have.
     Large { node: usize },

@@ -18,7 +18,7 @@ use teco_expansion::Nodes;
 use teco_facts::{Facts, sum_of};
 use teco_model::{ArgumentRange, Element, Needs};
 use teco_poly::Poly;
-use teco_verifier::Refusal;
+use teco_verifier::RefusalReason;
 
 /// A printed number overflows at the node of this number.
 #[derive(Clone, Copy, Debug, PartialEq, Eq)]
@@ -28,7 +28,7 @@ pub struct Overflow {
 
 // The turns of an iteration, from what is known at its < and at the start of its body; one that is
 // not reached counts once.
-fn turns_where(facts: Option<&Facts>, start: Option<&Facts>) -> Result<Poly, Refusal>
+fn turns_where(facts: Option<&Facts>, start: Option<&Facts>) -> Result<Poly, RefusalReason>
     ensures { result ≡ rules.turns_where (option_copied facts.entry) (option_copied start.entry) }
 {
     if start.is_none() {
@@ -41,21 +41,21 @@ fn turns_where(facts: Option<&Facts>, start: Option<&Facts>) -> Result<Poly, Ref
 }
 
 // The turns of the iteration that begins at a number.
-fn turns_at(table: &Table, begin: usize) -> Result<Poly, Refusal>
+fn turns_at(table: &Table, begin: usize) -> Result<Poly, RefusalReason>
     ensures { result ≡ rules.turns_at table.now begin }
 {
     turns_where(table.facts(begin), table.facts_behind(begin))
 }
 
 // The product, where it does not overflow.
-fn product_of(one: &Poly, two: &Poly) -> Result<Poly, Refusal>
+fn product_of(one: &Poly, two: &Poly) -> Result<Poly, RefusalReason>
     ensures { result ≡ rules.product_of one.now two.now }
 {
-    one.mul(two).ok_or(Refusal::Overflow)
+    one.mul(two).ok_or(RefusalReason::Overflow)
 }
 
 // The product of the turns of the iterations that are open at a node.
-fn turns_round(nodes: &Nodes<'_>, table: &Table, number: usize) -> Result<Poly, Refusal>
+fn turns_round(nodes: &Nodes<'_>, table: &Table, number: usize) -> Result<Poly, RefusalReason>
     requires one { 0 < number }
     requires last { number ≤ length nodes.now }
     ensures { result ≡ rules.turns_round table.now (node_at nodes.now number).stand.iterations }
@@ -105,7 +105,7 @@ fn have_same_iterations(nodes: &Nodes<'_>, one: usize, other: usize) -> bool
 #[derive(Clone, Copy)]
 struct Rounds {
     number: usize,
-    product: Result<Poly, Refusal>,
+    product: Result<Poly, RefusalReason>,
 }
 
 impl Rounds {
@@ -140,7 +140,7 @@ impl Rounds {
 }
 
 // The most steps of an element; a return takes one.
-fn steps_of(read: &Option<Element<'_>>, facts: &Facts) -> Result<Poly, Refusal>
+fn steps_of(read: &Option<Element<'_>>, facts: &Facts) -> Result<Poly, RefusalReason>
     ensures { result ≡ rules.steps_of (option_map elements.seen read.now) facts.now }
 {
     match read {
@@ -154,8 +154,8 @@ fn weight(
     nodes: &Nodes<'_>,
     table: &Table,
     number: usize,
-    rounds: &Result<Poly, Refusal>,
-) -> Result<Poly, Refusal>
+    rounds: &Result<Poly, RefusalReason>,
+) -> Result<Poly, RefusalReason>
     requires one { 0 < number }
     requires last { number ≤ length nodes.now }
     requires rounds { rounds.now ≡ rules.turns_round table.now (node_at nodes.now
@@ -178,9 +178,9 @@ fn counted_with(
     nodes: &Nodes<'_>,
     table: &Table,
     number: usize,
-    rounds: &Result<Poly, Refusal>,
+    rounds: &Result<Poly, RefusalReason>,
     total: &Poly,
-) -> Result<Poly, Refusal>
+) -> Result<Poly, RefusalReason>
     requires one { 0 < number }
     requires last { number ≤ length nodes.now }
     requires rounds { rounds.now ≡ rules.turns_round table.now (node_at nodes.now
@@ -225,24 +225,24 @@ pub fn commands(
 }
 
 // The join with the length of each text.
-fn joined_with(texts: &[Poly], most: Poly) -> Result<Poly, Refusal>
+fn joined_with(texts: &[Poly], most: Poly) -> Result<Poly, RefusalReason>
     ensures { result ≡ rules.joined_with texts.now most }
 {
     let mut joined = most;
     for text in texts {
-        joined = joined.join(text).ok_or(Refusal::Overflow)?;
+        joined = joined.join(text).ok_or(RefusalReason::Overflow)?;
     }
     Ok(joined)
 }
 
 // The join with what is held, and with each text.
-fn sized_with(facts: Option<&Facts>, most: &Poly) -> Result<Poly, Refusal>
+fn sized_with(facts: Option<&Facts>, most: &Poly) -> Result<Poly, RefusalReason>
     ensures { result ≡ rules.sized_with (option_copied facts.entry) most.now }
 {
     match facts {
         None => Ok(*most),
         Some(facts) => {
-            let joined = most.join(&facts.held()).ok_or(Refusal::Overflow)?;
+            let joined = most.join(&facts.held()).ok_or(RefusalReason::Overflow)?;
             joined_with(&facts.texts(), joined)
         }
     }

@@ -1,9 +1,9 @@
 -- The numbers that reasons of refusals are printed as, behind an X.
 use Rattle.std.specs.Prelude.{ℕ}
-use Rattle.teco_verifier.specs.declared.refusal.Refusal.{Refusal}
-use Rattle.teco_verifier.specs.declared.refusal.Refusal.TheVariants as why
+use Rattle.teco_verifier.specs.declared.refusal.RefusalReason.{RefusalReason}
+use Rattle.teco_verifier.specs.declared.refusal.RefusalReason.TheVariants as why
 
-abbrev pub number_of : Refusal → ℕ
+abbrev pub number_of : RefusalReason → ℕ
 number_of why.Library = 1
 number_of why.Fault = 2
 number_of why.Partner = 3

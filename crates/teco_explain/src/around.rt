@@ -3,7 +3,9 @@
 use arrayvec::ArrayVec;
 use teco_lex::element;
 use teco_model::Element;
-use teco_model::kind::{Argument, Command, Flow, Kind, Motion, Page, Query, Storage, Unit, Value};
+use teco_model::kind::{
+    Argument, Command, Flow, Kind, MachineValue, Motion, Page, Query, Storage, Unit,
+};
 
 /// How many iterations in one another are followed.
 const DEPTH: usize = 8;
@@ -117,8 +119,8 @@ fn role_of_number(kind: &Kind, text: &[u8]) -> Role {
         Kind::Argument(Argument::DropAll) => Role::Other,
         Kind::Argument(Argument::Comma) => Role::Comma,
         Kind::Argument(Argument::Digits) if text == b"0".as_slice() => Role::Zero,
-        Kind::Value(Value::LastLength) => Role::LastLength,
-        Kind::Value(Value::Whole | Value::LastText) => Role::Range,
+        Kind::Value(MachineValue::LastLength) => Role::LastLength,
+        Kind::Value(MachineValue::Whole | MachineValue::LastText) => Role::Range,
         Kind::Query(Query::Number(_)) => Role::Saved,
         Kind::Argument(_) | Kind::Value(_) => Role::Number,
         _ => Role::Other,

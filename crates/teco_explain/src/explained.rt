@@ -7,14 +7,14 @@ use crate::refusals::{note_of_refusal, number_of};
 use std::{fmt, str};
 use teco_base::{Code, Reg};
 use teco_source::{Shown, Source};
-use teco_verifier::Refusal;
+use teco_verifier::RefusalReason;
 
 /// Why a library, or a macro of it, is refused, where in its source, and what usually mends it.
 #[derive(Clone, Copy)]
 pub struct Explained<'a> {
     /// The library file.
     pub source: &'a Source,
-    pub why: Refusal,
+    pub why: RefusalReason,
     /// The register in whose text the place is; none where it is one of the file's.
     pub register: Option<Reg>,
     pub place: usize,
@@ -58,10 +58,10 @@ impl Explained<'_> {
     // What is wrong beside the reason, where that can be told.
     fn detail<W: fmt::Write>(&self, f: &mut fmt::Formatter<W>) -> fmt::Result {
         match self.why {
-            Refusal::Library => {
+            RefusalReason::Library => {
                 writeln!(f, "  {}", flaw_of_library(self.source.text(), self.place))
             }
-            Refusal::Fault => match code_at(self.text(), self.place) {
+            RefusalReason::Fault => match code_at(self.text(), self.place) {
                 None => Ok(()),
                 Some(code) => writeln!(f, "  ?{}: {}", letters(code), note_of_code(code).summary),
             },

@@ -1,18 +1,18 @@
 //! Hints for macros that are refused in the form that comes to mind first.
 use crate::around::{Around, IterationBody, Role, SeenElement};
-use teco_verifier::Refusal;
+use teco_verifier::RefusalReason;
 
 /// What usually mends a refusal of this kind at a place of a text by a table of what is known before each
 /// element, where the text has one of the common forms.
-pub fn hint(why: Refusal, text: &[u8], place: usize) -> Option<&'static str> {
+pub fn hint(why: RefusalReason, text: &[u8], place: usize) -> Option<&'static str> {
     let around = Around::of(text, place);
     match why {
-        Refusal::Fall => around.body.and_then(of_fall),
-        Refusal::Bound => around.body.and_then(of_bound),
-        Refusal::Place => of_place(&around),
-        Refusal::Deletion => of_deletion(&around),
-        Refusal::Pending | Refusal::Argument => of_argument(&around),
-        Refusal::Unverified => of_unverified(&around),
+        RefusalReason::Fall => around.body.and_then(of_fall),
+        RefusalReason::Bound => around.body.and_then(of_bound),
+        RefusalReason::Place => of_place(&around),
+        RefusalReason::Deletion => of_deletion(&around),
+        RefusalReason::Pending | RefusalReason::Argument => of_argument(&around),
+        RefusalReason::Unverified => of_unverified(&around),
         _ => None,
     }
 }

@@ -3,58 +3,58 @@ ghost use Rattle.std.specs.Prelude.{◌≡◌};
 ghost use Rattle.teco_explain.specs.Numbers as numbers;
 
 use crate::note::Explanation;
-use teco_verifier::Refusal;
+use teco_verifier::RefusalReason;
 
 /// All reasons, in the order of their numbers.
-pub const REFUSALS: [Refusal; 18] = [
-    Refusal::Library,
-    Refusal::Fault,
-    Refusal::Partner,
-    Refusal::Argument,
-    Refusal::Pending,
-    Refusal::Place,
-    Refusal::Deletion,
-    Refusal::Divisor,
-    Refusal::Fall,
-    Refusal::Bound,
-    Refusal::Missing,
-    Refusal::Recursion,
-    Refusal::Written,
-    Refusal::Pop,
-    Refusal::Unverified,
-    Refusal::Size,
-    Refusal::Overflow,
-    Refusal::Certificate,
+pub const REFUSALS: [RefusalReason; 18] = [
+    RefusalReason::Library,
+    RefusalReason::Fault,
+    RefusalReason::Partner,
+    RefusalReason::Argument,
+    RefusalReason::Pending,
+    RefusalReason::Place,
+    RefusalReason::Deletion,
+    RefusalReason::Divisor,
+    RefusalReason::Fall,
+    RefusalReason::Bound,
+    RefusalReason::Missing,
+    RefusalReason::Recursion,
+    RefusalReason::Written,
+    RefusalReason::Pop,
+    RefusalReason::Unverified,
+    RefusalReason::Size,
+    RefusalReason::Overflow,
+    RefusalReason::Certificate,
 ];
 
 /// The number of a reason, from 1 to 18, as it is printed behind an X.
-pub fn number_of(refusal: Refusal) -> u8
+pub fn number_of(refusal: RefusalReason) -> u8
     ensures { result ≡ numbers.number_of refusal }
 {
     match refusal {
-        Refusal::Library => 1,
-        Refusal::Fault => 2,
-        Refusal::Partner => 3,
-        Refusal::Argument => 4,
-        Refusal::Pending => 5,
-        Refusal::Place => 6,
-        Refusal::Deletion => 7,
-        Refusal::Divisor => 8,
-        Refusal::Fall => 9,
-        Refusal::Bound => 10,
-        Refusal::Missing => 11,
-        Refusal::Recursion => 12,
-        Refusal::Written => 13,
-        Refusal::Pop => 14,
-        Refusal::Unverified => 15,
-        Refusal::Size => 16,
-        Refusal::Overflow => 17,
-        Refusal::Certificate => 18,
+        RefusalReason::Library => 1,
+        RefusalReason::Fault => 2,
+        RefusalReason::Partner => 3,
+        RefusalReason::Argument => 4,
+        RefusalReason::Pending => 5,
+        RefusalReason::Place => 6,
+        RefusalReason::Deletion => 7,
+        RefusalReason::Divisor => 8,
+        RefusalReason::Fall => 9,
+        RefusalReason::Bound => 10,
+        RefusalReason::Missing => 11,
+        RefusalReason::Recursion => 12,
+        RefusalReason::Written => 13,
+        RefusalReason::Pop => 14,
+        RefusalReason::Unverified => 15,
+        RefusalReason::Size => 16,
+        RefusalReason::Overflow => 17,
+        RefusalReason::Certificate => 18,
     }
 }
 
 /// The reason of a name: X or x, and its number.
-pub fn refusal_numbered(name: &str) -> Option<Refusal> {
+pub fn refusal_numbered(name: &str) -> Option<RefusalReason> {
     let digits = match name.as_bytes() {
         [b'X' | b'x', ..] => name.get(1..)?,
         _ => return None,
@@ -64,26 +64,26 @@ pub fn refusal_numbered(name: &str) -> Option<Refusal> {
 }
 
 /// What a reason means.
-pub fn note_of_refusal(refusal: Refusal) -> Explanation {
+pub fn note_of_refusal(refusal: RefusalReason) -> Explanation {
     match refusal {
-        Refusal::Library => LIBRARY,
-        Refusal::Fault => FAULT,
-        Refusal::Partner => PARTNER,
-        Refusal::Argument => ARGUMENT,
-        Refusal::Pending => PENDING,
-        Refusal::Place => PLACE,
-        Refusal::Deletion => DELETION,
-        Refusal::Divisor => DIVISOR,
-        Refusal::Fall => FALL,
-        Refusal::Bound => BOUND,
-        Refusal::Missing => MISSING,
-        Refusal::Recursion => RECURSION,
-        Refusal::Written => WRITTEN,
-        Refusal::Pop => POP,
-        Refusal::Unverified => UNVERIFIED,
-        Refusal::Size => SIZE,
-        Refusal::Overflow => OVERFLOW,
-        Refusal::Certificate => CERTIFICATE,
+        RefusalReason::Library => LIBRARY,
+        RefusalReason::Fault => FAULT,
+        RefusalReason::Partner => PARTNER,
+        RefusalReason::Argument => ARGUMENT,
+        RefusalReason::Pending => PENDING,
+        RefusalReason::Place => PLACE,
+        RefusalReason::Deletion => DELETION,
+        RefusalReason::Divisor => DIVISOR,
+        RefusalReason::Fall => FALL,
+        RefusalReason::Bound => BOUND,
+        RefusalReason::Missing => MISSING,
+        RefusalReason::Recursion => RECURSION,
+        RefusalReason::Written => WRITTEN,
+        RefusalReason::Pop => POP,
+        RefusalReason::Unverified => UNVERIFIED,
+        RefusalReason::Size => SIZE,
+        RefusalReason::Overflow => OVERFLOW,
+        RefusalReason::Certificate => CERTIFICATE,
     }
 }
 

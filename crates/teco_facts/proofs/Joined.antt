@@ -1,5 +1,5 @@
 -- Ways that meet: what is known of the registers comes last.
-use Rattle.teco_facts.proofs.Prelude.{◌≡◌, refl, ap, ◌∙◌, List, Result, Ok, Err, Refusal, ◌>>=◌, Facts, Position}
+use Rattle.teco_facts.proofs.Prelude.{◌≡◌, refl, ap, ◌∙◌, List, Result, Ok, Err, RefusalReason, ◌>>=◌, Facts, Position}
 use Rattle.teco_facts.proofs.Prelude.{Pushed, join_of, hulls, joined_lengths, joined_pushes}
 use Rattle.teco_poly.specs.Polynomial.{Polynomial}
 use Rattle.teco_verifier.specs.facts.Facts.{without_arguments}
@@ -30,12 +30,13 @@ then_registers facts others j e =
     let held = ok_of (join_of facts.held others.held) _ _ position.2 in
     whole facts others j _ _ _ _ _ one.1 two.1 pushes.1 position.1 held.1 (cc)
 
-fails_on : {A B C : Type 0} (r : Result A Refusal) (f : A → Result B Refusal) (g : A → Result C Refusal) (why : Refusal)
+fails_on : {A B C : Type 0} (r : Result A RefusalReason) (f : A → Result B RefusalReason) (g : A
+    → Result C RefusalReason) (why : RefusalReason)
     → ((a : A) → f a ≡ Err why → g a ≡ Err why) → (r >>= f) ≡ Err why → (r >>= g) ≡ Err why
 fails_on (Ok a) f g why more e = more a e
 fails_on (Err other) f g why more e = let is : other ≡ why = (cc) in ap Err is
 
-refused_before : (facts others : Facts) (why : Refusal) → joined_but_registers facts others ≡ Err why
+refused_before : (facts others : Facts) (why : RefusalReason) → joined_but_registers facts others ≡ Err why
     → joined facts others ≡ Err why
 refused_before facts others why e =
     fails_on (none_pending facts.arguments) _ _ why

@@ -1,23 +1,26 @@
 -- Lists that are joined one after another.
 use Rattle.teco_facts.proofs.Prelude.{◌≡◌, refl, sym, ap, ◌∙◌, ℕ, zero, suc, ◌<◌, List, [], ◌∷◌, length, take, drop}
-use Rattle.teco_facts.proofs.Prelude.{set, get_or, Result, Ok, Err, arith, Refusal, ◌>>=◌, join_of, joined_lengths}
+use Rattle.teco_facts.proofs.Prelude.{set, get_or, Result, Ok, Err, arith, RefusalReason, ◌>>=◌, join_of}
+use Rattle.teco_facts.proofs.Prelude.{joined_lengths}
 use Rattle.std.proofs.Common.{drop-cons}
 use Rattle.std.proofs.lemmas.List.{drop-set-lt, length-set}
 
 -- of two lists the first ones are joined
-pub record AreJoined {A : Type 0} (join : List A → List A → Result (List A) Refusal) (xs ys zs : List A) (count : ℕ) :
+pub record AreJoined {A : Type 0} (join : List A → List A → Result (List A) RefusalReason) (xs ys zs : List A)
+    (count : ℕ) :
     Type 0 where
   pub front : join (take count xs) (take count ys) ≡ Ok (take count zs)
   pub rest : drop count zs ≡ drop count xs
   pub long : length zs ≡ length xs
 
-pub ok_of : {A B : Type 0} (r : Result A Refusal) (f : A → Result B Refusal) (b : B) → (r >>= f) ≡ Ok b
+pub ok_of : {A B : Type 0} (r : Result A RefusalReason) (f : A → Result B RefusalReason) (b : B) → (r >>= f) ≡ Ok b
     → (a : A) × (r ≡ Ok a) × (f a ≡ Ok b)
 ok_of (Ok a) f b h = (a, refl, h)
 ok_of (Err why) f b h = absurd (cc)
 
 -- a join of lists that goes on by a join of their items
-pub record GoesOn {A : Type 0} (one : A → A → Result A Refusal) (all : List A → List A → Result (List A) Refusal) :
+pub record GoesOn {A : Type 0} (one : A → A → Result A RefusalReason) (all : List A → List A
+    → Result (List A) RefusalReason) :
     Type 0 where
   pub none : all [] [] ≡ Ok []
   pub more : (x y : A) (xs ys : List A) → all (x ∷ xs) (y ∷ ys) ≡ (one x y >>= (λ z. all xs ys >>= (λ zs. Ok (z ∷ zs))))
@@ -25,7 +28,7 @@ pub record GoesOn {A : Type 0} (one : A → A → Result A Refusal) (all : List 
 pub lengths_go_on : GoesOn join_of joined_lengths
 lengths_go_on = record { none = refl; more = λ x y xs ys. refl }
 
-module _ {A : Type 0} (one : A → A → Result A Refusal) (all : List A → List A → Result (List A) Refusal)
+module _ {A : Type 0} (one : A → A → Result A RefusalReason) (all : List A → List A → Result (List A) RefusalReason)
     (law : GoesOn one all) where
   -- one more is joined
   front_more : (xs ys zs : List A) (i : ℕ) (x y z : A) → i < length xs → i < length ys → i < length zs
@@ -65,7 +68,8 @@ module _ {A : Type 0} (one : A → A → Result A Refusal) (all : List A → Lis
         long = length-set zs i z ∙ j.long;
       }
 
-  refused_at : (xs ys ws : List A) (i : ℕ) (x y : A) (why : Refusal) → i < length xs → i < length ys → x ≡ get_or xs i x
+  refused_at : (xs ys ws : List A) (i : ℕ) (x y : A) (why : RefusalReason) → i < length xs → i < length ys
+      → x ≡ get_or xs i x
       → y ≡ get_or ys i y → one x y ≡ Err why → all (take i xs) (take i ys) ≡ Ok ws → all xs ys ≡ Err why
   refused_at [] ys ws i x y why h k d e f g = absurd (omega arith)
   refused_at (a ∷ xs) [] ws i x y why h k d e f g = absurd (omega arith)
@@ -76,6 +80,6 @@ module _ {A : Type 0} (one : A → A → Result A Refusal) (all : List A → Lis
       let later = refused_at xs ys others.0 i x y why (omega arith) (omega arith) d e f others.1 in
       rw (law.more a b xs ys, first.1, later) refl
 
-  pub joined_refused : (xs ys zs : List A) (i : ℕ) (x y : A) (why : Refusal) → i < length xs → i < length ys
+  pub joined_refused : (xs ys zs : List A) (i : ℕ) (x y : A) (why : RefusalReason) → i < length xs → i < length ys
       → x ≡ get_or xs i x → y ≡ get_or ys i y → one x y ≡ Err why → AreJoined all xs ys zs i → all xs ys ≡ Err why
   joined_refused xs ys zs i x y why h k d e f j = refused_at xs ys (take i zs) i x y why h k d e f j.front

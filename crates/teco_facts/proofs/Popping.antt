@@ -4,7 +4,7 @@ use Rattle.std.specs.List.{list_all}
 use Rattle.std.specs.Prelude.{nat_lt, if◌then◌else◌}
 use Rattle.teco_verifier.specs.facts.Facts.{Iteration}
 use Rattle.teco_verifier.specs.facts.Storages.{with_popped, with_number, with_text}
-use Rattle.teco_verifier.specs.declared.refusal.Refusal.TheVariants as refusal
+use Rattle.teco_verifier.specs.declared.refusal.RefusalReason.TheVariants as refusal
 
 pub popped : (r : ℕ) (facts new : Facts) (pair : Pushed) (pushes : List Pushed) (count : ℕ) (above : Bool)
     → count ≡ length facts.pushes → facts.pushes ≡ pair ∷ pushes → new ≡ record facts { pushes = pushes }

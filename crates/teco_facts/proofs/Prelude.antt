@@ -8,7 +8,7 @@ pub use Rattle.teco_base.specs.declared.TheConstants.{LIMIT}
 pub use Rattle.teco_facts.specs.Each.{each_met, replaced_where}
 pub use Rattle.teco_facts.specs.Least.{unknown}
 pub use Rattle.teco_facts.specs.Numbers.{AreSmall, IsNumber, IsPlace, IsRange, IsSmallFall}
-pub use Rattle.teco_verifier.specs.declared.refusal.Refusal.{Refusal}
+pub use Rattle.teco_verifier.specs.declared.refusal.RefusalReason.{RefusalReason}
 pub use Rattle.teco_verifier.specs.declared.values.Distances.{Distances}
 pub use Rattle.teco_verifier.specs.declared.values.Interval.{Interval}
 pub use Rattle.teco_verifier.specs.declared.values.Value.{Value}

@@ -3,13 +3,13 @@ use Rattle.std.specs.Borrow.{Bor}
 use Rattle.std.specs.Prelude.{◌≡◌, ◌≤◌, ℕ, List, length, take, ◌++◌, Result, Ok, Err}
 use Rattle.teco_facts.specs.declared.fault.FactFault.{FactFault}
 use Rattle.teco_facts.specs.declared.fault.FactFault.TheVariants as fault
-use Rattle.teco_verifier.specs.declared.refusal.Refusal.{Refusal}
+use Rattle.teco_verifier.specs.declared.refusal.RefusalReason.{RefusalReason}
 use Rattle.teco_verifier.specs.facts.Attempt.{◌>>=◌}
 use Rattle.teco_verifier.specs.facts.Facts.{Facts, Pushed, join_of, without_arguments}
 use Rattle.teco_verifier.specs.facts.Joins.{hulls, joined_lengths, joined_position, joined_pushes, none_pending}
 
 -- of these what is known on the first way
-abbrev pub joined_but_registers : Facts → Facts → Result Facts Refusal
+abbrev pub joined_but_registers : Facts → Facts → Result Facts RefusalReason
 joined_but_registers facts others = do
   one ← none_pending facts.arguments
   two ← none_pending others.arguments
@@ -19,7 +19,7 @@ joined_but_registers facts others = do
   Ok (record (without_arguments facts) { position = position; held = held; pushes = pushes })
 
 -- of the registers on both
-abbrev pub with_registers_joined : Facts → Facts → Result Facts Refusal
+abbrev pub with_registers_joined : Facts → Facts → Result Facts RefusalReason
 with_registers_joined facts others = do
   texts ← joined_lengths facts.texts others.texts
   Ok (record facts { numbers = hulls facts.numbers others.numbers; texts = texts })

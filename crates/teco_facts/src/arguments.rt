@@ -12,15 +12,15 @@ use crate::{FactFault, LevelFacts, Margins, Number};
 use std::alloc::{AllocError, Global};
 use std::marker::Model;
 use teco_model::ArgumentRange;
-use teco_stack::Stack;
-use teco_verifier::Refusal;
+use teco_stack::SharedStack;
+use teco_verifier::RefusalReason;
 
 /// The innermost level, and those outside it.
 #[derive(Drop)]
 pub struct Arguments {
     level: LevelFacts,
     // as they were when a parenthesis opened behind each
-    outer: Stack<Opened>,
+    outer: SharedStack<Opened>,
     // what has become of them since
     settling: Option<Settling>,
 }
@@ -45,7 +45,7 @@ impl Arguments {
         };
         Arguments {
             level,
-            outer: Stack::new(alloc),
+            outer: SharedStack::new(alloc),
             settling: None,
         }
     }
@@ -114,7 +114,7 @@ impl Arguments {
             self.new result }
     {
         let Some(opened) = self.outer.pop()? else {
-            return Err(FactFault::Refused(Refusal::Argument));
+            return Err(FactFault::Refused(RefusalReason::Argument));
         };
         let outside = settled(self.settling, opened.level);
         let value = self.level.inner()?;
@@ -151,13 +151,13 @@ impl Arguments {
     }
 
     /// Whether nothing is pending.
-    pub fn none_pending(&self) -> Result<(), Refusal>
+    pub fn none_pending(&self) -> Result<(), RefusalReason>
         ensures { result ≡ joins.none_pending self.now }
     {
         if self.level.is_empty() && self.outer.chain().parts().is_none() {
             Ok(())
         } else {
-            Err(Refusal::Pending)
+            Err(RefusalReason::Pending)
         }
     }
 }

@@ -12,7 +12,7 @@ use std::alloc::AllocError;
 use std::marker::Model;
 use teco_base::REGISTERS;
 use teco_poly::Poly;
-use teco_verifier::Refusal;
+use teco_verifier::RefusalReason;
 
 /// What is chosen: how much is held at most at the start of each turn, how long the texts are at
 /// most, and whether the iteration is kept: what is ahead, and the falls of those outside, are then
@@ -103,18 +103,18 @@ impl Facts {
 }
 
 /// What is held at the start of the last of some turns, if it grows by so much in each.
-pub fn held_last(at: &Poly, turns: &Poly, growth: &Poly) -> Result<Poly, Refusal>
+pub fn held_last(at: &Poly, turns: &Poly, growth: &Poly) -> Result<Poly, RefusalReason>
     ensures { result ≡ bodies.held_last at.now turns.now growth.now }
 {
-    let grown = turns.one_less().mul(growth).ok_or(Refusal::Overflow)?;
+    let grown = turns.one_less().mul(growth).ok_or(RefusalReason::Overflow)?;
     sum_of(at, &grown)
 }
 
 /// How much more is held at the end of a turn than at its start.
-pub fn growth_of(start: &Poly, end: &Poly) -> Result<Poly, Refusal>
+pub fn growth_of(start: &Poly, end: &Poly) -> Result<Poly, RefusalReason>
     ensures { result ≡ bodies.growth_of start.now end.now }
 {
-    end.sub(start).ok_or(Refusal::Bound)
+    end.sub(start).ok_or(RefusalReason::Bound)
 }
 
 // Whether no more is held at the start of the last turn than was chosen.

@@ -25,17 +25,17 @@ use std::rc::Rc;
 use teco_base::{REGISTERS, Reg};
 use teco_model::ArgumentRange;
 use teco_poly::Poly;
-use teco_stack::Stack;
-use teco_verifier::{Distances, Interval, Refusal};
+use teco_stack::SharedStack;
+use teco_verifier::{Distances, Interval, RefusalReason};
 
 /// The positions where a search found, and where it failed. They lie on the heap.
 #[derive(Drop)]
 pub struct Answer {
-    outcomes: Box<Outcomes>,
+    outcomes: Box<SearchEnds>,
 }
 
 #[derive(Drop)]
-struct Outcomes {
+struct SearchEnds {
     found: Position,
     failed: Position,
 }
@@ -56,7 +56,7 @@ impl Answer {
     fn of(alloc: Global, found: Position, failed: Position) -> Result<Answer, AllocError>
         ensures { IfOk result (λ answer. answer ≡ record { found = found; failed = failed }) }
     {
-        let outcomes = Box::new(alloc, Outcomes { found, failed })?;
+        let outcomes = Box::new(alloc, SearchEnds { found, failed })?;
         Ok(Answer { outcomes })
     }
 
@@ -146,7 +146,7 @@ pub(crate) struct FactsSaid {
     pub iterations: Few<Iteration>,
     pub held: Poly,
     pub registers: Rc<Registers>,
-    pub pushes: Stack<Pushed>,
+    pub pushes: SharedStack<Pushed>,
 }
 
 impl Model for Facts {
@@ -192,7 +192,7 @@ impl Facts {
             }),
             held: Poly::variable(),
             registers,
-            pushes: Stack::new(alloc),
+            pushes: SharedStack::new(alloc),
         };
         let known = Box::new(alloc, known)?;
         Ok(Facts { alloc, known })
@@ -395,7 +395,7 @@ impl Facts {
     }
 
     /// Whether nothing is pending.
-    pub fn none_pending(&self) -> Result<(), Refusal>
+    pub fn none_pending(&self) -> Result<(), RefusalReason>
         ensures { result ≡ joins.none_pending self.now.arguments }
     {
         self.known.arguments.none_pending()
@@ -468,7 +468,7 @@ impl Facts {
     }
 
     /// The facts behind a shift.
-    pub fn shifted(mut self, shift: &Shift) -> Result<Facts, Refusal>
+    pub fn shifted(mut self, shift: &Shift) -> Result<Facts, RefusalReason>
         requires { AreSmall self.position.falls }
         ensures { result ≡ shifts.shifted shift.now self }
     {

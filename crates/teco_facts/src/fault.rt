@@ -3,21 +3,21 @@ ghost use Rattle.std.specs.Prelude.{◌≡◌};
 ghost use Rattle.teco_facts.specs.declared.fault.FactFault.TheVariants as fault;
 
 use std::alloc::AllocError;
-use teco_verifier::Refusal;
+use teco_verifier::RefusalReason;
 
 /// Why there are no edges.
 #[derive(Clone, Copy)]
 pub enum FactFault {
     /// The rules refuse.
-    Refused(Refusal),
+    Refused(RefusalReason),
     /// A growth was refused.
     Memory,
 }
 
-impl From<Refusal> for FactFault {
+impl From<RefusalReason> for FactFault {
     ghost from_gives = { λ why told. told ≡ fault.Refused why };
 
-    fn from(why: Refusal) -> FactFault {
+    fn from(why: RefusalReason) -> FactFault {
         FactFault::Refused(why)
     }
 }

@@ -5,7 +5,7 @@ ghost use Rattle.teco_facts.specs.Numbers.{AreSmall};
 
 use crate::{Facts, Number, Range, Shift};
 use std::marker::Model;
-use teco_verifier::Refusal;
+use teco_verifier::RefusalReason;
 
 /// What a command leaves and answers, as far as it is known.
 #[derive(Drop)]
@@ -42,7 +42,7 @@ impl Foreseen {
     }
 
     /// With no answer, behind a shift.
-    pub fn behind(shift: &Shift, facts: Facts) -> Result<Foreseen, Refusal>
+    pub fn behind(shift: &Shift, facts: Facts) -> Result<Foreseen, RefusalReason>
         requires { AreSmall facts.position.falls }
         ensures { result ≡ shifts.silent_behind shift.now facts }
     {

@@ -10,14 +10,14 @@ use std::alloc::{AllocError, Global};
 use std::rc::Rc;
 use teco_base::REGISTERS;
 use teco_poly::Poly;
-use teco_stack::{Chain, Stack};
-use teco_verifier::Refusal;
+use teco_stack::{Chain, SharedStack};
+use teco_verifier::RefusalReason;
 
 /// The joins of the texts of each register.
 pub fn joined_lengths(
     one: &[Poly; REGISTERS],
     two: &[Poly; REGISTERS],
-) -> Result<[Poly; REGISTERS], Refusal>
+) -> Result<[Poly; REGISTERS], RefusalReason>
     ensures { result ≡ joins.joined_lengths one.now two.now }
 {
     let mut joined = *one;
@@ -28,7 +28,7 @@ pub fn joined_lengths(
 }
 
 /// What is known of a pair on two ways.
-pub fn joined_pair(one: &Pushed, two: &Pushed) -> Result<Pushed, Refusal>
+pub fn joined_pair(one: &Pushed, two: &Pushed) -> Result<Pushed, RefusalReason>
     ensures { result ≡ joins.joined_pair one.now two.now }
 {
     let text = join_of(&one.text, &two.text)?;
@@ -37,7 +37,7 @@ pub fn joined_pair(one: &Pushed, two: &Pushed) -> Result<Pushed, Refusal>
 }
 
 // These pairs on top of those of a stack, if there is memory.
-fn stacked(pairs: &[Pushed], below: Stack<Pushed>) -> Result<Stack<Pushed>, AllocError>
+fn stacked(pairs: &[Pushed], below: SharedStack<Pushed>) -> Result<SharedStack<Pushed>, AllocError>
     ensures { IfOk result (λ stack. stack ≡ pairs.now ++ below) }
 {
     let mut stack = below;
@@ -61,7 +61,7 @@ fn join_pairs<'a>(
     let (mut one, mut two, mut shared) = (first, second, first);
     while let Some((of_one, one_below)) = one.parts() {
         let Some((of_two, two_below)) = two.parts() else {
-            return Err(FactFault::Refused(Refusal::Pop));
+            return Err(FactFault::Refused(RefusalReason::Pop));
         };
         let pair = joined_pair(of_one, of_two)?;
         if pairs.push(pair).is_err() {
@@ -75,7 +75,7 @@ fn join_pairs<'a>(
         two = two_below;
     }
     if two.parts().is_some() {
-        return Err(FactFault::Refused(Refusal::Pop));
+        return Err(FactFault::Refused(RefusalReason::Pop));
     }
     Ok((changed, shared))
 }
@@ -85,12 +85,12 @@ fn joined_pairs(
     alloc: Global,
     first: &Chain<Pushed>,
     second: &Chain<Pushed>,
-) -> Result<Stack<Pushed>, FactFault>
+) -> Result<SharedStack<Pushed>, FactFault>
     ensures { Gives (joins.joined_pushes first.now second.now) result }
 {
     let mut pairs = Vec::new(alloc);
     let (changed, shared) = join_pairs(first, second, &mut pairs)?;
-    let below = Stack::of(alloc, shared)?;
+    let below = SharedStack::of(alloc, shared)?;
     Ok(stacked(&pairs[..changed], below)?)
 }
 

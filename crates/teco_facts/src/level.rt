@@ -8,7 +8,7 @@ use crate::{Margins, Number};
 use std::marker::Model;
 use teco_base::arithmetic;
 use teco_model::Operator;
-use teco_verifier::{Refusal, Value};
+use teco_verifier::{RefusalReason, Value};
 
 /// A level of arguments.
 #[derive(Clone, Copy)]
@@ -60,14 +60,17 @@ pub fn run_value(digits: &[u8]) -> i32
 }
 
 // The value at the end of a level, where a lone sign stands for one.
-fn finished(value: Option<Number>, operator: Option<Operator>) -> Result<Option<Number>, Refusal>
+fn finished(
+    value: Option<Number>,
+    operator: Option<Operator>,
+) -> Result<Option<Number>, RefusalReason>
     ensures { result ≡ rules.value_at_end value operator }
 {
     match (value, operator) {
         (value, None) => Ok(value),
         (None, Some(Operator::Minus)) => Ok(Some(Number::single(-1))),
         (None, Some(Operator::Plus)) => Ok(Some(Number::single(1))),
-        (_, Some(_)) => Err(Refusal::Argument),
+        (_, Some(_)) => Err(RefusalReason::Argument),
     }
 }
 
@@ -123,7 +126,7 @@ impl LevelFacts {
     }
 
     /// The level with a value given to it, to which a pending operator is applied.
-    pub fn given(mut self, value: Number, margins: Margins) -> Result<LevelFacts, Refusal>
+    pub fn given(mut self, value: Number, margins: Margins) -> Result<LevelFacts, RefusalReason>
         ensures { result ≡ rules.level_with margins value self }
     {
         let standing = self.value.unwrap_or(Number::single(0));
@@ -142,28 +145,28 @@ impl LevelFacts {
     }
 
     /// The level with an operator that waits for a value.
-    pub fn operating(mut self, operator: Operator) -> Result<LevelFacts, Refusal>
+    pub fn operating(mut self, operator: Operator) -> Result<LevelFacts, RefusalReason>
         ensures { result ≡ rules.level_with_operator operator self }
     {
         if self.operator.is_some() {
-            return Err(Refusal::Argument);
+            return Err(RefusalReason::Argument);
         }
         self.operator = Some(operator);
         Ok(self)
     }
 
     /// The level behind a comma; what cannot be negative may stand in front of it.
-    pub fn parted(self, margins: Margins) -> Result<LevelFacts, Refusal>
+    pub fn parted(self, margins: Margins) -> Result<LevelFacts, RefusalReason>
         ensures { result ≡ rules.level_after_comma margins self }
     {
         if self.first.is_some() {
-            return Err(Refusal::Argument);
+            return Err(RefusalReason::Argument);
         }
         let Some(first) = finished(self.value, self.operator)? else {
-            return Err(Refusal::Argument);
+            return Err(RefusalReason::Argument);
         };
         if !first.range(margins).is_natural() {
-            return Err(Refusal::Argument);
+            return Err(RefusalReason::Argument);
         }
         Ok(LevelFacts {
             first: Some(first),
@@ -173,22 +176,22 @@ impl LevelFacts {
     }
 
     /// The value of a level in parentheses.
-    pub(crate) fn inner(self) -> Result<Number, Refusal>
+    pub(crate) fn inner(self) -> Result<Number, RefusalReason>
         ensures { result ≡ rules.inner_value self }
     {
         if self.first.is_some() {
-            return Err(Refusal::Argument);
+            return Err(RefusalReason::Argument);
         }
-        finished(self.value, self.operator)?.ok_or(Refusal::Argument)
+        finished(self.value, self.operator)?.ok_or(RefusalReason::Argument)
     }
 
     /// What a command takes.
-    pub fn taken(self) -> Result<TakenFacts, Refusal>
+    pub fn taken(self) -> Result<TakenFacts, RefusalReason>
         ensures { result ≡ rules.arguments_of self }
     {
         let (first, value) = (self.first, finished(self.value, self.operator)?);
         if first.is_some() && value.is_none() {
-            return Err(Refusal::Argument);
+            return Err(RefusalReason::Argument);
         }
         Ok(TakenFacts { first, value })
     }

@@ -10,7 +10,7 @@ use crate::place::is_linear;
 use crate::{Margins, Range, minus, plus};
 use std::marker::Model;
 use teco_model::ArgumentRange;
-use teco_verifier::{Refusal, Value};
+use teco_verifier::{RefusalReason, Value};
 
 /// A number that is pending: so often each distance of the pointer, and something of a range; where
 /// it is saved, it is a place of the buffer.
@@ -162,7 +162,7 @@ impl Number {
     }
 
     /// The quotient, where the divisor cannot be 0.
-    pub(crate) fn quotient(self, other: Number, margins: Margins) -> Result<Number, Refusal>
+    pub(crate) fn quotient(self, other: Number, margins: Margins) -> Result<Number, RefusalReason>
         ensures { result ≡ rules.quotient_of margins self other }
     {
         let divisor = other.range(margins);
@@ -170,7 +170,7 @@ impl Number {
             let range = self.range(margins).quotient(divisor);
             Ok(Number::within(range))
         } else {
-            Err(Refusal::Divisor)
+            Err(RefusalReason::Divisor)
         }
     }
 

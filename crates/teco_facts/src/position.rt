@@ -10,7 +10,7 @@ use crate::{Margins, Meets, OpenFalls, Shift, falls, meet_each};
 use std::marker::Model;
 use teco_base::REGISTERS;
 use teco_poly::Poly;
-use teco_verifier::Refusal;
+use teco_verifier::RefusalReason;
 
 /// The least distances of the pointer, the least fall of each open iteration, how much is ahead, and
 /// which registers are saved.
@@ -40,17 +40,17 @@ impl Model for Position {
 }
 
 /// The sum, where it does not overflow.
-pub fn sum_of(one: &Poly, two: &Poly) -> Result<Poly, Refusal>
+pub fn sum_of(one: &Poly, two: &Poly) -> Result<Poly, RefusalReason>
     ensures { result ≡ facts.sum_of one.now two.now }
 {
-    one.add(two).ok_or(Refusal::Overflow)
+    one.add(two).ok_or(RefusalReason::Overflow)
 }
 
 /// The join, where it does not overflow.
-pub fn join_of(one: &Poly, two: &Poly) -> Result<Poly, Refusal>
+pub fn join_of(one: &Poly, two: &Poly) -> Result<Poly, RefusalReason>
     ensures { result ≡ facts.join_of one.now two.now }
 {
-    one.join(two).ok_or(Refusal::Overflow)
+    one.join(two).ok_or(RefusalReason::Overflow)
 }
 
 impl Meets for bool {

@@ -9,7 +9,7 @@ use crate::Margins;
 use crate::place::{distance_of, least, least_behind, least_past};
 use std::marker::Model;
 use teco_poly::Poly;
-use teco_verifier::{Refusal, Value};
+use teco_verifier::{RefusalReason, Value};
 
 /// The least distances afterwards, how much ahead falls at the least, if that is known, how much
 /// longer the buffer grows at the most, and whether what is saved may be no place any more.
@@ -81,12 +81,12 @@ impl Shift {
     }
 
     /// To a place that is known to lie in the buffer.
-    pub fn to(place: Value, margins: Margins) -> Result<Shift, Refusal>
+    pub fn to(place: Value, margins: Margins) -> Result<Shift, RefusalReason>
         requires { IsPlace place.ahead place.behind place.lo place.hi }
         ensures { result ≡ shifts.shift_to place margins }
     {
-        let back = distance_of(least(place, margins)).ok_or(Refusal::Place)?;
-        let fore = distance_of(least_behind(place, margins)).ok_or(Refusal::Place)?;
+        let back = distance_of(least(place, margins)).ok_or(RefusalReason::Place)?;
+        let fore = distance_of(least_behind(place, margins)).ok_or(RefusalReason::Place)?;
         Ok(Shift::moving(back, fore, least_past(place, margins)))
     }
 

@@ -9,8 +9,8 @@ use crate::{FactFault, Facts, Pushed};
 use std::alloc::AllocError;
 use std::mem;
 use teco_base::Reg;
-use teco_stack::Stack;
-use teco_verifier::Refusal;
+use teco_stack::SharedStack;
+use teco_verifier::RefusalReason;
 
 impl Facts {
     /// How many pairs were pushed since the entry.
@@ -31,16 +31,16 @@ impl Facts {
     }
 
     /// Takes all pairs out that were pushed.
-    pub fn take_pushes(&mut self) -> Stack<Pushed>
+    pub fn take_pushes(&mut self) -> SharedStack<Pushed>
         ensures value { result ≡ self.old.pushes }
         ensures left { self.new ≡ record self.old { pushes = [] } }
     {
-        let none = Stack::new(self.alloc);
+        let none = SharedStack::new(self.alloc);
         mem::replace(&mut self.known.pushes, none)
     }
 
     /// Puts these pairs in the place of those that were pushed.
-    pub fn put_pushes(&mut self, pushes: Stack<Pushed>)
+    pub fn put_pushes(&mut self, pushes: SharedStack<Pushed>)
         ensures { self.new ≡ record self.old { pushes = pushes } }
     {
         self.known.pushes = pushes;
@@ -87,18 +87,18 @@ pub fn pop(library: bool, register: Reg, mut facts: Facts) -> Result<Facts, Fact
     ensures { Gives (storages.pop library register facts) result }
 {
     if library {
-        return Err(FactFault::Refused(Refusal::Written));
+        return Err(FactFault::Refused(RefusalReason::Written));
     }
     let above = facts.is_above(facts.pushed());
     let popped = facts.pop_pushed()?;
     match popped {
-        None => Err(FactFault::Refused(Refusal::Pop)),
+        None => Err(FactFault::Refused(RefusalReason::Pop)),
         Some(pair) => {
             if above {
                 let facts = facts.with_number(register, pair.number, false)?;
                 Ok(facts.with_text(register, pair.text)?)
             } else {
-                Err(FactFault::Refused(Refusal::Pop))
+                Err(FactFault::Refused(RefusalReason::Pop))
             }
         }
     }

@@ -7,7 +7,7 @@ use Rattle.std.specs.Prelude.{not}
 use Rattle.teco_model.specs.Match as model
 use Rattle.teco_model.specs.declared.pattern.Item.TheVariants as item
 use Rattle.teco_find.specs.Anchors.{IsMarkedBy}
-use Rattle.teco_find.specs.declared.mark.Mark.{Mark}
+use Rattle.teco_find.specs.declared.mark.SoughtByte.{SoughtByte}
 
 -- an element matches one character
 abbrev pub IsSingle : Item → Type 0
@@ -40,7 +40,7 @@ one_more items n d within singles some =
     subst (λ k. AreSingle k items) (sym next) (next_single items n d within singles (is_single (get_or items n d) some))
 
 -- the character at the front of a match
-pub marked_front : (i : Item) (items : List Item) (m : Mark) (text : List ℕ) → IsMarkedBy i m
+pub marked_front : (i : Item) (items : List Item) (m : SoughtByte) (text : List ℕ) → IsMarkedBy i m
     → IsSome (model.match_rest (i ∷ items) text) → (0 < length text) × Passes (is_marked m) text 0
 marked_front (item.Is c) items m [] marked some = absurd (false≢true some)
 marked_front (item.Is c) items m (b ∷ text) marked some = by_test (model.is_in c b) (cc) some
@@ -76,7 +76,8 @@ goes_on (item.Is c) items text single some = one_front (model.is_in c) items tex
 goes_on (item.IsNot c) items text single some = one_front (λ b. not (model.is_in c b)) items text some
 goes_on item.Blanks items text single some = absurd single
 
-marked_at : (items : List Item) (n : ℕ) (d : Item) (m : Mark) (text : List ℕ) → n < length items → AreSingle n items
+marked_at : (items : List Item) (n : ℕ) (d : Item) (m : SoughtByte) (text : List ℕ) → n < length items
+    → AreSingle n items
     → IsMarkedBy (get_or items n d) m → IsSome (model.match_rest items text)
     → (n < length text) × Passes (is_marked m) text n
 marked_at [] n d m text within singles marked some = absurd (omega arith)
@@ -96,7 +97,7 @@ unfolding model.here
 matched [] text at some = absurd (false≢true some)
 matched (i ∷ items) text at some = mapped (model.match_rest (i ∷ items) (drop at text)) _ some
 
-pub anchored : (items : List Item) (n : ℕ) (d : Item) (m : Mark) → n < length items → AreSingle n items
+pub anchored : (items : List Item) (n : ℕ) (d : Item) (m : SoughtByte) → n < length items → AreSingle n items
     → IsMarkedBy (get_or items n d) m → Anchors items (record { distance = n; mark = m })
 anchored items n d m within singles marked text at some =
     let found = marked_at items n d m (drop at text) within singles marked (matched items text at some) in

@@ -10,7 +10,7 @@ use Rattle.std.specs.Borrow.{Bor}
 use Rattle.memchr.specs.Find.{FindsNeedle, OccursAt}
 use Rattle.teco_model.specs.Match as model
 use Rattle.teco_find.specs.Needles.{AreLiterals, Begins}
-use Rattle.teco_find.specs.declared.mark.Mark.TheVariants as mark
+use Rattle.teco_find.specs.declared.mark.SoughtByte.TheVariants as mark
 use Rattle.teco_find.proofs.Anchored.{GoesOn, goes_on, marked_front, matched}
 use Rattle.teco_find.proofs.Matches.{here_some}
 

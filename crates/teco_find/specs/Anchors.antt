@@ -5,16 +5,16 @@ use Rattle.teco_model.specs.Match.{here, is_in}
 use Rattle.teco_model.specs.declared.pattern.Item.{Item}
 use Rattle.teco_model.specs.declared.pattern.Item.TheVariants as item
 use Rattle.teco_find.specs.declared.anchor.Anchor.{Anchor}
-use Rattle.teco_find.specs.declared.mark.Mark.{Mark}
-use Rattle.teco_find.specs.declared.mark.Mark.TheVariants as mark
+use Rattle.teco_find.specs.declared.mark.SoughtByte.{SoughtByte}
+use Rattle.teco_find.specs.declared.mark.SoughtByte.TheVariants as mark
 
 -- is a byte one of a mark's
-abbrev pub is_marked : Mark → ℕ → Bool
+abbrev pub is_marked : SoughtByte → ℕ → Bool
 is_marked (mark.One a) = is_byte a
 is_marked (mark.Two a b) = is_byte2 a b
 
 -- each character that an element matches is a byte of a mark
-abbrev pub IsMarkedBy : Item → Mark → Type 0
+abbrev pub IsMarkedBy : Item → SoughtByte → Type 0
 IsMarkedBy (item.Is c) m = (b : ℕ) → IsTrue (is_in c b) → IsTrue (is_marked m b)
 IsMarkedBy (item.IsNot c) m = ⊥
 IsMarkedBy item.Blanks m = ⊥

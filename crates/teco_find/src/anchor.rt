@@ -4,7 +4,7 @@ ghost use Rattle.memchr.specs.Find.{IsFirst, IsLast};
 ghost use Rattle.teco_find.specs.Anchors.{Anchors, IsMarkedBy, Stands};
 ghost use Rattle.teco_find.specs.Pieces.{joined};
 
-use crate::mark::Mark;
+use crate::mark::SoughtByte;
 use crate::pieces::{Pieces, text_from, text_len, text_up_to};
 use teco_model::pattern::{Class, Item};
 
@@ -12,16 +12,16 @@ use teco_model::pattern::{Class, Item};
 #[derive(Clone, Copy)]
 pub(crate) struct Anchor {
     distance: usize,
-    mark: Mark,
+    mark: SoughtByte,
 }
 
 // The bytes that an element matches, where it is a literal.
-fn mark_of(item: Item) -> Option<Mark>
+fn mark_of(item: Item) -> Option<SoughtByte>
     ensures { IfSome result (IsMarkedBy item) }
 {
     match item {
-        Item::Is(Class::Literal(b)) => Some(Mark::One(b)),
-        Item::Is(Class::EitherCase(b)) => Some(Mark::Two(b, b.to_ascii_lowercase())),
+        Item::Is(Class::Literal(b)) => Some(SoughtByte::One(b)),
+        Item::Is(Class::EitherCase(b)) => Some(SoughtByte::Two(b, b.to_ascii_lowercase())),
         _ => None,
     }
 }
@@ -38,10 +38,10 @@ fn frequency(byte: u8) -> u8 {
     }
 }
 
-fn mark_frequency(mark: Mark) -> u8 {
+fn mark_frequency(mark: SoughtByte) -> u8 {
     match mark {
-        Mark::One(a) => frequency(a),
-        Mark::Two(a, b) => frequency(a).max(frequency(b)),
+        SoughtByte::One(a) => frequency(a),
+        SoughtByte::Two(a, b) => frequency(a).max(frequency(b)),
     }
 }
 

@@ -8,18 +8,18 @@ use memchr::{memchr, memchr2, memrchr, memrchr2};
 
 // One byte, or either of two.
 #[derive(Clone, Copy)]
-pub(crate) enum Mark {
+pub(crate) enum SoughtByte {
     One(u8),
     Two(u8, u8),
 }
 
-impl Mark {
+impl SoughtByte {
     fn first_in_piece(self, piece: &[u8]) -> Option<usize>
         ensures { IsFirstByte (is_marked self) piece.now result }
     {
         match self {
-            Mark::One(a) => memchr(a, piece),
-            Mark::Two(a, b) => memchr2(a, b, piece),
+            SoughtByte::One(a) => memchr(a, piece),
+            SoughtByte::Two(a, b) => memchr2(a, b, piece),
         }
     }
 
@@ -27,8 +27,8 @@ impl Mark {
         ensures { IsLastByte (is_marked self) piece.now result }
     {
         match self {
-            Mark::One(a) => memrchr(a, piece),
-            Mark::Two(a, b) => memrchr2(a, b, piece),
+            SoughtByte::One(a) => memrchr(a, piece),
+            SoughtByte::Two(a, b) => memrchr2(a, b, piece),
         }
     }
 

@@ -130,16 +130,10 @@ fn digits_at(nodes: &Nodes<'_>, number: usize) -> Option<i64> {
 
 // Whether an element takes away.
 fn is_minus(nodes: &Nodes<'_>, number: usize) -> bool {
-    if number == 0 || number > nodes.len() {
-        return false;
-    }
-    match nodes.element(number) {
-        Some(element) => matches!(
-            element.kind,
-            Kind::Argument(Argument::Operate(Operator::Minus))
-        ),
-        None => false,
-    }
+    matches!(
+        kind_at(nodes, number),
+        Some(Kind::Argument(Argument::Operate(Operator::Minus)))
+    )
 }
 
 // The numbers that bounds are widened to, in order.
@@ -148,11 +142,15 @@ fn numbers_of(nodes: &Nodes<'_>, alloc: Global) -> Result<Vec<i64>, SearchStop> 
     numbers.extend_from_slice(&[0, 1, -1, LIMIT as i64])?;
     for at in 0..nodes.len() {
         if let Some(number) = digits_at(nodes, at + 1) {
-            for more in [-1, 0, 1] {
-                let one = number.saturating_add(more);
-                numbers.push(one)?;
-                numbers.push(number.saturating_neg().saturating_add(more))?;
-            }
+            let less = number.saturating_neg();
+            numbers.extend_from_slice(&[
+                number.saturating_sub(1),
+                number,
+                number.saturating_add(1),
+                less.saturating_sub(1),
+                less,
+                less.saturating_add(1),
+            ])?;
         }
     }
     numbers.sort()?;
@@ -170,26 +168,19 @@ fn note(flags: &mut Vec<Flag>, place: u32, number: i64, alloc: Global) -> Result
             return Ok(());
         }
     }
-    let mut numbers = Vec::new(alloc);
-    numbers.push(number)?;
+    let numbers = Vec::from_slice(alloc, &[number])?;
     flags.push(Flag { place, numbers })?;
     Ok(())
 }
 
 // The place of the number that an element sets.
 fn set_at(nodes: &Nodes<'_>, number: usize) -> Option<u32> {
-    if number == 0 || number > nodes.len() {
-        return None;
-    }
-    match nodes.element(number) {
-        Some(element) => match element.kind {
-            Kind::Command(Command::Storage(storage)) => match storage {
-                Storage::SetNumber(register) => Some(place_of(NUMBER, register)),
-                _ => None,
-            },
+    match kind_at(nodes, number) {
+        Some(Kind::Command(Command::Storage(storage))) => match storage {
+            Storage::SetNumber(register) => Some(place_of(NUMBER, register)),
             _ => None,
         },
-        None => None,
+        _ => None,
     }
 }
 
@@ -240,32 +231,33 @@ fn add_quotients(
     Ok(())
 }
 
+// The place that an element sets to a number, and the number; none where it is a part of itself.
+fn number_set(nodes: &Nodes<'_>, number: usize) -> Option<(u32, i64)> {
+    let place = set_at(nodes, number)?;
+    let digits = digits_at(nodes, number.saturating_sub(1))?;
+    if is_divided(nodes, number, place) {
+        return None;
+    }
+    if is_minus(nodes, number.saturating_sub(2)) {
+        return Some((place, digits.saturating_neg()));
+    }
+    Some((place, digits))
+}
+
 // The registers that are set to several numbers, or to one below 0, or to parts of themselves.
 fn flags_of(nodes: &Nodes<'_>, alloc: Global) -> Result<Vec<Flag>, SearchStop> {
     let mut flags: Vec<Flag> = Vec::new(alloc);
     for at in 1..nodes.len() {
-        if let (Some(place), Some(number)) = (set_at(nodes, at + 1), digits_at(nodes, at)) {
-            if is_divided(nodes, at + 1, place) {
-                continue;
-            }
-            let is_below = is_minus(nodes, at.saturating_sub(1));
-            let number = if is_below {
-                number.saturating_neg()
-            } else {
-                number
-            };
+        if let Some((place, number)) = number_set(nodes, at + 1) {
             note(&mut flags, place, number, alloc)?;
         }
     }
-    let mut left = Vec::new(alloc);
-    for flag in flags {
-        let is_flag = flag.numbers.len() > 1 || flag.numbers.iter().any(|number| *number < 0);
-        if is_flag && left.len() < MOST_FLAGS {
-            left.push(flag)?;
-        }
-    }
-    add_quotients(&mut left, nodes, alloc)?;
-    Ok(left)
+    flags.retain(|flag| {
+        flag.numbers.len() > 1 || flag.numbers.iter().any(|number| *number < 0)
+    });
+    flags.truncate(MOST_FLAGS);
+    add_quotients(&mut flags, nodes, alloc)?;
+    Ok(flags)
 }
 
 /// Why no claims of a macro are found in a way.

@@ -69,6 +69,28 @@ fn claims_of(sought: &PotentialProgram<'_>, values: &Assignment) -> Result<Vec<F
     Ok(claims)
 }
 
+// Makes the program of claims that show a condition.
+fn want(
+    sought: &mut PotentialProgram<'_>,
+    open: &OpenCondition,
+    span: Option<(usize, usize)>,
+) -> Result<(), SearchStop> {
+    add_legs(sought, span)?;
+    let mut entries = Vec::new(sought.draft.alloc);
+    add_source(sought, &mut entries, open.source)?;
+    add_form(&mut entries, &open.wanted, 0, None, 1)?;
+    sought.imply(open.source, &open.constraints, entries)?;
+    sought.settle()
+}
+
+// What a program claims at each key, if its values are found.
+fn found_claims(sought: &PotentialProgram<'_>) -> Result<Option<Vec<Form>>, SearchStop> {
+    match sought.values(PIVOTS)? {
+        Some(values) => Ok(Some(claims_of(sought, &values)?)),
+        None => Ok(None),
+    }
+}
+
 // What is claimed at each key to show a condition, if that is found, and the work that is spent on it.
 fn tried(
     web: &Web,
@@ -78,18 +100,9 @@ fn tried(
     alloc: Global,
 ) -> Result<(Option<Vec<Form>>, usize), SearchStop> {
     let mut sought = PotentialProgram::of_measures(web, known, alloc)?;
-    add_legs(&mut sought, span)?;
-    let mut entries = Vec::new(alloc);
-    add_source(&sought, &mut entries, open.source)?;
-    add_form(&mut entries, &open.wanted, 0, None, 1)?;
-    sought.imply(open.source, &open.constraints, entries)?;
-    sought.settle()?;
-    let work = sought.draft.work(PIVOTS);
-    known.afford(work)?;
-    match sought.draft.solved(PIVOTS)? {
-        Some(values) => Ok((Some(claims_of(&sought, &values)?), work)),
-        None => Ok((None, work)),
-    }
+    want(&mut sought, open, span)?;
+    let claims = found_claims(&sought)?;
+    Ok((claims, sought.draft.work(PIVOTS)))
 }
 
 // What is claimed at each key to show a condition, if that is found.

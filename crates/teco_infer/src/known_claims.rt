@@ -70,6 +70,25 @@ impl KnownClaims {
         Ok(all)
     }
 
+    // Takes what is used at a key to find more: a claim, or in its stead a bound, if it is not plain.
+    fn tell(
+        &mut self,
+        key: usize,
+        claim: &Form,
+        bound: Option<&Form>,
+        alloc: Global,
+    ) -> Result<(), SearchStop> {
+        let used = if is_plain(claim) {
+            Some(claim)
+        } else {
+            bound.filter(|bound| !bound.is_harmless())
+        };
+        if let Some(form) = used {
+            self.told.push((key, copied(form, alloc)?))?;
+        }
+        Ok(())
+    }
+
     // Takes what is claimed at each key besides. In the stead of a claim that is not plain a bound is
     // used.
     pub fn add(
@@ -82,13 +101,7 @@ impl KnownClaims {
             if key == 0 || claim.is_harmless() || self.has(key, &claim) {
                 continue;
             }
-            if is_plain(&claim) {
-                self.told.push((key, copied(&claim, alloc)?))?;
-            } else if let Some(bound) = bounds.get(key) {
-                if !bound.is_harmless() {
-                    self.told.push((key, copied(bound, alloc)?))?;
-                }
-            }
+            self.tell(key, &claim, bounds.get(key), alloc)?;
             self.claims.push((key, claim))?;
         }
         Ok(())

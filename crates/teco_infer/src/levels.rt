@@ -1,8 +1,7 @@
 //! Steps level by level: what falls in each turn of an outer iteration, and between two turns of it what
 //! falls in those of the iterations inside.
 use crate::known_claims::KnownClaims;
-use crate::polynomials::whole;
-use crate::potentials::{PotentialProgram, lowest, product};
+use crate::potentials::{PotentialProgram, form_of, lowest};
 use crate::wanted::{Scope, WantedBound};
 use std::alloc::Global;
 use teco_bounds::fault::SearchStop;
@@ -176,6 +175,21 @@ struct Turns<'a> {
     slacks: Vec<(usize, usize)>,
 }
 
+// That a turn makes what is sought fall, but for its variable.
+fn add_fall(
+    turns: &mut Turns<'_>,
+    place: usize,
+    entries: &mut Vec<Coefficient>,
+) -> Result<(), SearchStop> {
+    let draft = &mut turns.sought.draft;
+    let slack = draft.variable(Sign::NonNegative)?;
+    draft.bound(slack, Relation::AtMost, 1)?;
+    add_number(entries, Some(slack), 1)?;
+    add_number(entries, None, -1)?;
+    turns.slacks.push((place, slack))?;
+    Ok(())
+}
+
 // That what is sought does not grow on a path of a level; a turn may make it fall.
 fn add_inside(
     turns: &mut Turns<'_>,
@@ -183,29 +197,11 @@ fn add_inside(
     leg: &Leg,
     is_turn: bool,
 ) -> Result<(), SearchStop> {
-    let Some(target) = leg.target else {
-        return Ok(());
-    };
-    let sought = &mut turns.sought;
-    let alloc = sought.draft.alloc;
-    let web = sought.web;
-    let mut entries = Vec::new(alloc);
-    if let Some(start) = web.starts.get(leg.source) {
-        sought
-            .unknowns
-            .add(&mut entries, leg.source, &start.forms, 1, alloc)?;
-    }
-    sought
-        .unknowns
-        .add(&mut entries, target, &leg.forms, -1, alloc)?;
+    let mut entries = turns.sought.fall(leg)?;
     if is_turn {
-        let slack = sought.draft.variable(Sign::NonNegative)?;
-        sought.draft.bound(slack, Relation::AtMost, 1)?;
-        add_number(&mut entries, Some(slack), 1)?;
-        add_number(&mut entries, None, -1)?;
-        turns.slacks.push((place, slack))?;
+        add_fall(turns, place, &mut entries)?;
     }
-    sought.imply_on(leg, entries)
+    turns.sought.imply_on(leg, entries)
 }
 
 // That what is sought is within the polynomial where a path comes to a level.
@@ -223,19 +219,9 @@ fn add_arrival(
     sought.imply_on(leg, entries)
 }
 
-// The program of a level.
-fn turns_of<'a>(
-    web: &'a Web,
-    known: &'a KnownClaims,
-    levels: &Levels,
-    keys: &[bool],
-    highest: u32,
-) -> Result<Turns<'a>, SearchStop> {
-    let alloc = web.record.alloc;
-    let mut turns = Turns {
-        sought: PotentialProgram::of_facts(web, known, &wanted_of(highest), alloc)?,
-        slacks: Vec::new(alloc),
-    };
+// What is so on the paths of a level, and on those that come to it.
+fn add_paths(turns: &mut Turns<'_>, levels: &Levels, keys: &[bool]) -> Result<(), SearchStop> {
+    let web = turns.sought.web;
     let head = head_of(web, keys);
     for (place, leg) in web.legs.iter().enumerate() {
         let Some(target) = leg.target else {
@@ -246,20 +232,23 @@ fn turns_of<'a>(
                 .starts
                 .get(target)
                 .is_some_and(|start| start.number == head);
-            add_inside(&mut turns, place, leg, is_turn)?;
+            add_inside(turns, place, leg, is_turn)?;
         } else if keys.get(target) == Some(&true) {
             add_arrival(&mut turns.sought, leg, target)?;
         }
     }
-    let mut slacks = Vec::new(alloc);
+    Ok(())
+}
+
+// Makes the program: what is sought falls in as many turns as may be, and then the polynomial is least.
+fn settle(turns: &mut Turns<'_>) -> Result<(), SearchStop> {
+    let sought = &mut turns.sought;
+    let mut slacks = Vec::new(sought.draft.alloc);
     for (_place, slack) in &turns.slacks {
         slacks.push(*slack)?;
     }
-    let sought = &mut turns.sought;
     sought.draft.minimise(&slacks)?;
-    sought.unknowns.minimise(&mut sought.draft, 1)?;
-    sought.settle()?;
-    Ok(turns)
+    sought.settle_least()
 }
 
 // Marks the turns of a new level in which something falls, and says whether there are some.
@@ -276,17 +265,20 @@ fn mark_turns(turns: &Turns<'_>, values: &Assignment, levels: &mut Levels) -> bo
     is_less
 }
 
+// That what falls in a level is within a whole, at a key of the level.
+fn claim_at(whole: &Form, form: &Form, is_in: bool, alloc: Global) -> Result<Form, SearchStop> {
+    if !is_in {
+        return Ok(Form::zero(alloc));
+    }
+    lowest(&whole.sub(form, alloc)?, alloc)
+}
+
 // That what falls in a level is within its bound, at each of its keys.
 fn claims_of(level: &KeyLevel, alloc: Global) -> Result<Vec<Form>, SearchStop> {
-    let one = Form::constant(1, alloc)?;
-    let whole = product(&level.bound, &one, alloc)?;
+    let whole = form_of(&level.bound, alloc)?;
     let mut claims = Vec::new(alloc);
     for (form, is_in) in level.forms.iter().zip(level.keys.iter()) {
-        claims.push(if *is_in {
-            lowest(&whole.sub(form, alloc)?, alloc)?
-        } else {
-            Form::zero(alloc)
-        })?;
+        claims.push(claim_at(&whole, form, *is_in, alloc)?)?;
     }
     Ok(claims)
 }
@@ -298,23 +290,35 @@ fn level_by(
     levels: &Levels,
     keys: Vec<bool>,
 ) -> Result<KeyLevel, SearchStop> {
-    let sought = &turns.sought;
-    let alloc = sought.draft.alloc;
-    let mut forms = Vec::new(alloc);
-    for key in 0..keys.len() {
-        forms.push(sought.unknowns.form(key, values, alloc)?)?;
-    }
+    let alloc = turns.sought.draft.alloc;
+    let forms = turns.sought.forms(values)?;
+    let bound = turns.sought.most(values)?;
     let first = keys.iter().position(|is_in| *is_in).unwrap_or(0);
     let parent = levels.common(first, first);
     Ok(KeyLevel {
         keys,
         parent,
         forms,
-        bound: whole(&sought.unknowns.polynomial(values, alloc)?, alloc)?,
+        bound,
         worth: Vec::new(alloc),
         all: Vec::new(alloc),
         tails: Vec::new(alloc),
     })
+}
+
+// The level by the program's values, if they are found, and something falls in some of its turns.
+fn found_level(
+    turns: &Turns<'_>,
+    levels: &mut Levels,
+    keys: Vec<bool>,
+) -> Result<Option<KeyLevel>, SearchStop> {
+    let Some(values) = turns.sought.values(PIVOTS)? else {
+        return Ok(None);
+    };
+    if !mark_turns(turns, &values, levels) {
+        return Ok(None);
+    }
+    Ok(Some(level_by(turns, &values, levels, keys)?))
 }
 
 // A level of these keys, if something falls in some of its turns, and the work that is spent on it.
@@ -325,18 +329,15 @@ fn tried(
     keys: Vec<bool>,
     highest: u32,
 ) -> Result<(Option<KeyLevel>, usize), SearchStop> {
-    let turns = turns_of(web, known, levels, &keys, highest)?;
-    let work = turns.sought.draft.work(PIVOTS);
-    known.afford(work)?;
-    let solved = turns.sought.draft.solved(PIVOTS)?;
-    let Some(values) = solved else {
-        return Ok((None, work));
+    let alloc = web.record.alloc;
+    let mut turns = Turns {
+        sought: PotentialProgram::of_facts(web, known, &wanted_of(highest), alloc)?,
+        slacks: Vec::new(alloc),
     };
-    if !mark_turns(&turns, &values, levels) {
-        return Ok((None, work));
-    }
-    let level = level_by(&turns, &values, levels, keys)?;
-    Ok((Some(level), work))
+    add_paths(&mut turns, levels, &keys)?;
+    settle(&mut turns)?;
+    let level = found_level(&turns, levels, keys)?;
+    Ok((level, turns.sought.draft.work(PIVOTS)))
 }
 
 // Adds a level of these keys; says whether something falls in some of its turns.
@@ -360,6 +361,26 @@ fn add_level(
     }
 }
 
+// Adds all levels; says whether there are no others.
+fn add_levels(
+    web: &Web,
+    known: &mut KnownClaims,
+    levels: &mut Levels,
+    highest: u32,
+) -> Result<bool, SearchStop> {
+    let alloc = web.record.alloc;
+    for _ in 0..MOST_LEVELS {
+        let rows = reached(web, levels, alloc)?;
+        let Some(keys) = next_keys(&rows, alloc)? else {
+            return Ok(true);
+        };
+        if !add_level(web, known, levels, keys, highest)? {
+            return Ok(false);
+        }
+    }
+    Ok(false)
+}
+
 // All levels, if there are some.
 pub fn all_levels(
     web: &Web,
@@ -371,14 +392,8 @@ pub fn all_levels(
         levels: Vec::new(alloc),
         turn_of: Vec::from_elem(alloc, None, web.legs.len())?,
     };
-    for _ in 0..MOST_LEVELS {
-        let rows = reached(web, &levels, alloc)?;
-        let Some(keys) = next_keys(&rows, alloc)? else {
-            return Ok(Some(levels));
-        };
-        if !add_level(web, known, &mut levels, keys, highest)? {
-            return Ok(None);
-        }
+    if add_levels(web, known, &mut levels, highest)? {
+        return Ok(Some(levels));
     }
     Ok(None)
 }

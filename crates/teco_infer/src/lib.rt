@@ -11,6 +11,7 @@ mod potentials;
 mod promises;
 mod reason;
 mod turns;
+mod unknowns;
 mod wanted;
 mod ways;
 mod worth;

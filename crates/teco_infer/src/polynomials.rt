@@ -31,25 +31,31 @@ pub fn most(one: &[u128], other: &[u128], alloc: Global) -> Result<Vec<u128>, Se
     Ok(all)
 }
 
+// Adds a number to the coefficient of a power, which may not be above the highest.
+fn add_at(sum: &mut Vec<u128>, power: usize, number: u128) -> Result<(), SearchStop> {
+    let refused = SearchStop::Refused(SearchRefusal::TooMuch);
+    if power > MOST_POWER {
+        return Err(refused);
+    }
+    for _ in sum.len()..power.saturating_add(1) {
+        sum.push(0)?;
+    }
+    if let Some(coefficient) = sum.get_mut(power) {
+        *coefficient = coefficient.checked_add(number).ok_or(refused)?;
+    }
+    Ok(())
+}
+
 // The product of two polynomials.
 pub fn times(one: &[u128], other: &[u128], alloc: Global) -> Result<Vec<u128>, SearchStop> {
-    let refused = SearchStop::Refused(SearchRefusal::TooMuch);
     let mut product: Vec<u128> = Vec::new(alloc);
     for (power, left) in one.iter().enumerate() {
         for (more, right) in other.iter().enumerate() {
-            let both = left.checked_mul(*right).ok_or(refused)?;
-            let place = power.saturating_add(more);
-            if both == 0 {
-                continue;
-            }
-            if place > MOST_POWER {
-                return Err(refused);
-            }
-            for _ in product.len()..place.saturating_add(1) {
-                product.push(0)?;
-            }
-            if let Some(sum) = product.get_mut(place) {
-                *sum = sum.checked_add(both).ok_or(refused)?;
+            let both = left
+                .checked_mul(*right)
+                .ok_or(SearchStop::Refused(SearchRefusal::TooMuch))?;
+            if both != 0 {
+                add_at(&mut product, power.saturating_add(more), both)?;
             }
         }
     }

@@ -1,26 +1,20 @@
 //! Potentials: what is promised of a measure, or of the steps, by sums of measures at each key.
 use crate::known_claims::{KnownClaims, is_plain};
-use crate::wanted::{Scope, WantedBound};
+use crate::polynomials::whole;
+use crate::unknowns::Unknowns;
+use crate::wanted::WantedBound;
 use std::alloc::Global;
 use teco_bounds::fault::SearchStop;
-use teco_bounds::keys::{STEPS, least_forms, power_of};
-use teco_bounds::legs::{Leg, LegStart, Web};
+use teco_bounds::keys::{STEPS, power_of};
+use teco_bounds::legs::{Leg, Web};
 use teco_bounds::numbers::common;
 use teco_bounds::programs::{Coefficient, DraftProgram, add_form};
+use teco_bounds::record::Peak;
 use teco_bounds::reduced::{Bounded, Demand, UsedLimits, reduced};
-use teco_bounds::rounds::at_forms;
 use teco_bounds::steps::constant;
 use teco_linear::{Form, Scale, Term};
-use teco_rows::applied::{copied, form_at};
-use teco_simplex::{Assignment, Relation, Sign};
-
-// An unknown coefficient: of a form over the places of measures, times a power of N.
-#[derive(Drop)]
-struct Unknown {
-    form: Form,
-    power: u32,
-    variable: usize,
-}
+use teco_rows::applied::copied;
+use teco_simplex::Assignment;
 
 // A promise: the coefficients of the polynomial and their divisor, and what is claimed at each key: a
 // form over the places of measures.
@@ -36,257 +30,6 @@ pub struct FoundPromise {
 // The most pivots of a program that is to make claims plain.
 const PLAIN_PIVOTS: usize = 60;
 
-// The unknown coefficients of each key.
-#[derive(Drop)]
-pub struct Unknowns {
-    of: Vec<Vec<Unknown>>,
-}
-
-// Adds an unknown for each power of N below a degree.
-fn add_unknowns(
-    unknowns: &mut Vec<Unknown>,
-    draft: &mut DraftProgram,
-    form: &Form,
-    sign: Sign,
-    powers: u32,
-) -> Result<(), SearchStop> {
-    for power in 0..powers {
-        unknowns.push(Unknown {
-            form: copied(form, draft.alloc)?,
-            power,
-            variable: draft.variable(sign)?,
-        })?;
-    }
-    Ok(())
-}
-
-// Whether a form speaks of measures of a scope alone.
-fn is_within(form: &Form, scope: Scope) -> bool {
-    form.terms().iter().all(|term| match term.symbol {
-        Some(place) => scope.has(place),
-        None => true,
-    })
-}
-
-// What is known at a key of the measures of a scope.
-fn generators(
-    start: &LegStart,
-    key: usize,
-    known: &KnownClaims,
-    wanted: &WantedBound<'_>,
-    alloc: Global,
-) -> Result<Vec<Form>, SearchStop> {
-    let scope = wanted.scope;
-    let mut symbols: Vec<u32> = Vec::new(alloc);
-    for place in &start.own {
-        if scope.has(*place) {
-            symbols.push(*place)?;
-        }
-    }
-    let mut forms = Vec::new(alloc);
-    for form in least_forms(&start.bounds.of_symbols(&symbols, alloc)?, alloc)? {
-        if wanted.limits.take(&form) {
-            forms.push(form)?;
-        }
-    }
-    for form in known.at(key, &start.forms, alloc)? {
-        if is_within(&form, scope) {
-            forms.push(form)?;
-        }
-    }
-    Ok(forms)
-}
-
-impl Unknowns {
-    // Of each measure of each key, of either sign, and at the entry of the polynomial.
-    pub fn of_measures(
-        web: &Web,
-        draft: &mut DraftProgram,
-        degree: u32,
-    ) -> Result<Unknowns, SearchStop> {
-        let alloc = draft.alloc;
-        let one = Form::constant(1, alloc)?;
-        let mut of = Vec::new(alloc);
-        for start in &web.starts {
-            let mut unknowns = Vec::new(alloc);
-            add_unknowns(
-                &mut unknowns,
-                draft,
-                &one,
-                Sign::Free,
-                degree.saturating_add(1),
-            )?;
-            for measure in &start.own {
-                let form = Form::symbol(*measure, alloc)?;
-                add_unknowns(&mut unknowns, draft, &form, Sign::Free, degree)?;
-            }
-            of.push(unknowns)?;
-        }
-        Ok(Unknowns { of })
-    }
-
-    // Of what is known at each key to be at least 0, and at the entry of the polynomial.
-    pub fn of_facts(
-        web: &Web,
-        known: &KnownClaims,
-        draft: &mut DraftProgram,
-        wanted: &WantedBound<'_>,
-    ) -> Result<Unknowns, SearchStop> {
-        let alloc = draft.alloc;
-        let degree = wanted.degree;
-        let one = Form::constant(1, alloc)?;
-        let mut of = Vec::new(alloc);
-        for place in 0..web.starts.len() {
-            let mut unknowns = Vec::new(alloc);
-            add_unknowns(
-                &mut unknowns,
-                draft,
-                &one,
-                Sign::NonNegative,
-                wanted.highest.saturating_add(1),
-            )?;
-            if let Some(start) = web.starts.get(place) {
-                if place > 0 {
-                    for form in generators(start, place, known, wanted, alloc)? {
-                        add_unknowns(&mut unknowns, draft, &form, Sign::NonNegative, degree)?;
-                    }
-                }
-            }
-            of.push(unknowns)?;
-        }
-        Ok(Unknowns { of })
-    }
-
-    // Adds the sum of a key's measures, which are given by forms, times its unknowns.
-    pub fn add(
-        &self,
-        entries: &mut Vec<Coefficient>,
-        key: usize,
-        forms: &[Option<Form>],
-        times: i128,
-        alloc: Global,
-    ) -> Result<(), SearchStop> {
-        let Some(unknowns) = self.of.get(key) else {
-            return Ok(());
-        };
-        for unknown in unknowns {
-            let form = at_forms(&unknown.form, forms, alloc)?;
-            add_form(entries, &form, unknown.power, Some(unknown.variable), times)?;
-        }
-        Ok(())
-    }
-
-    // The polynomial is to be least, its highest coefficient first, and then the sum of all others, so
-    // that there are few; of a higher degree only the highest coefficient comes first.
-    pub fn minimise(&self, draft: &mut DraftProgram, degree: u32) -> Result<(), SearchStop> {
-        let Some(unknowns) = self.of.first() else {
-            return Ok(());
-        };
-        let mut others: Vec<usize> = Vec::new(draft.alloc);
-        for unknown in unknowns.iter().rev() {
-            if degree == 1 || unknown.power == degree {
-                draft.minimise(&[unknown.variable])?;
-            } else {
-                others.push(unknown.variable)?;
-            }
-        }
-        for unknowns in self.of.get(1..).unwrap_or(&[]) {
-            for unknown in unknowns {
-                others.push(unknown.variable)?;
-            }
-        }
-        draft.minimise(&others)
-    }
-
-    // The polynomial's number is no less than this.
-    fn begin_with(&self, draft: &mut DraftProgram, least: i128) -> Result<(), SearchStop> {
-        for unknown in self
-            .of
-            .first()
-            .map_or(&[][..], |unknowns| unknowns.as_slice())
-        {
-            if unknown.power == 0 {
-                draft.bound(unknown.variable, Relation::AtLeast, least)?;
-            }
-        }
-        Ok(())
-    }
-
-    // Takes the polynomial to be no more than the values rounded up; the sum of all others is to be
-    // least.
-    fn round(&self, draft: &mut DraftProgram, values: &Assignment) -> Result<(), SearchStop> {
-        for unknown in self
-            .of
-            .first()
-            .map_or(&[][..], |unknowns| unknowns.as_slice())
-        {
-            let numerator = values
-                .numerators
-                .get(unknown.variable)
-                .copied()
-                .unwrap_or(0);
-            let most = rounded_up(numerator, values.denominator);
-            draft.bound(unknown.variable, Relation::AtMost, most)?;
-        }
-        draft.let_go();
-        let mut others: Vec<usize> = Vec::new(draft.alloc);
-        for unknowns in self.of.get(1..).unwrap_or(&[]) {
-            for unknown in unknowns {
-                others.push(unknown.variable)?;
-            }
-        }
-        draft.minimise(&others)
-    }
-
-    // The sum at a key, as a form over the places of measures.
-    pub fn form(&self, key: usize, values: &Assignment, alloc: Global) -> Result<Form, SearchStop> {
-        let mut sum = Form::zero(alloc);
-        let Some(unknowns) = self.of.get(key) else {
-            return Ok(sum);
-        };
-        for unknown in unknowns {
-            let scale = Scale {
-                factor: values
-                    .numerators
-                    .get(unknown.variable)
-                    .copied()
-                    .unwrap_or(0),
-                power: unknown.power,
-            };
-            sum = sum.add(&unknown.form.scaled(&scale, alloc)?, alloc)?;
-        }
-        Ok(sum)
-    }
-
-    // The numerators of the polynomial.
-    pub fn polynomial(&self, values: &Assignment, alloc: Global) -> Result<Vec<i128>, SearchStop> {
-        let mut numerators = Vec::new(alloc);
-        if let Some(unknowns) = self.of.first() {
-            for unknown in unknowns {
-                numerators.push(
-                    values
-                        .numerators
-                        .get(unknown.variable)
-                        .copied()
-                        .unwrap_or(0),
-                )?;
-            }
-        }
-        Ok(numerators)
-    }
-}
-
-// A fraction's whole part, rounded up.
-pub fn rounded_up(numerator: i128, divisor: i128) -> i128 {
-    let whole = numerator.checked_div(divisor).unwrap_or(0);
-    let rest = numerator.checked_rem(divisor).unwrap_or(0);
-    if rest > 0 {
-        whole.saturating_add(1)
-    } else {
-        whole
-    }
-}
-
 // A polynomial times a form.
 pub fn product(polynomial: &[u128], form: &Form, alloc: Global) -> Result<Form, SearchStop> {
     let mut sum = Form::zero(alloc);
@@ -296,6 +39,21 @@ pub fn product(polynomial: &[u128], form: &Form, alloc: Global) -> Result<Form, 
             power: u32::try_from(power).unwrap_or(0),
         };
         sum = sum.add(&form.scaled(&scale, alloc)?, alloc)?;
+    }
+    Ok(sum)
+}
+
+// A polynomial as a form.
+pub fn form_of(polynomial: &[u128], alloc: Global) -> Result<Form, SearchStop> {
+    product(polynomial, &Form::constant(1, alloc)?, alloc)
+}
+
+// A polynomial of numerators as a form.
+fn form_by(numerators: &[i128], alloc: Global) -> Result<Form, SearchStop> {
+    let mut sum = Form::zero(alloc);
+    for (power, numerator) in numerators.iter().enumerate() {
+        let power = u32::try_from(power).unwrap_or(0);
+        sum = sum.add(&power_of(power, *numerator, alloc)?, alloc)?;
     }
     Ok(sum)
 }
@@ -320,11 +78,41 @@ pub fn lowest(form: &Form, alloc: Global) -> Result<Form, SearchStop> {
     Ok(sum)
 }
 
+// The form of the measure in a place, if there is one.
+pub fn form_in(forms: &[Option<Form>], place: u32) -> Option<&Form> {
+    forms.get(place as usize)?.as_ref()
+}
+
+// Takes the measure in a place away, if there is a form of it.
+pub fn take_away(
+    entries: &mut Vec<Coefficient>,
+    forms: &[Option<Form>],
+    place: u32,
+) -> Result<(), SearchStop> {
+    match form_in(forms, place) {
+        Some(form) => add_form(entries, form, 0, None, -1),
+        None => Ok(()),
+    }
+}
+
+// The number of a path's own steps.
+pub fn own_steps(leg: &Leg) -> i128 {
+    form_in(&leg.forms, STEPS).map_or(0, constant).max(0)
+}
+
+// Marks a place; says whether it was not marked yet.
+fn is_first(is_done: &mut [bool], place: usize) -> bool {
+    match is_done.get_mut(place) {
+        Some(mark) => !std::mem::replace(mark, true),
+        None => false,
+    }
+}
+
 // Whether a form is no greater on a path than another.
 fn is_below(
     leg: &Leg,
     form: &Form,
-    above: &Option<Form>,
+    above: Option<&Form>,
     alloc: Global,
 ) -> Result<bool, SearchStop> {
     let Some(above) = above else {
@@ -452,6 +240,49 @@ impl<'a> PotentialProgram<'a> {
         Ok(())
     }
 
+    // Makes the program of all demands, in which the polynomial is to be least.
+    pub fn settle_least(&mut self) -> Result<(), SearchStop> {
+        self.unknowns.minimise(&mut self.draft, self.degree)?;
+        self.settle()
+    }
+
+    // The values of the program, if enough work is left, and they are found.
+    pub fn values(&self, pivots: usize) -> Result<Option<Assignment>, SearchStop> {
+        self.known.afford(self.draft.work(pivots))?;
+        self.draft.solved(pivots)
+    }
+
+    // The sums at the keys, as forms over the places of measures.
+    pub fn forms(&self, values: &Assignment) -> Result<Vec<Form>, SearchStop> {
+        let alloc = self.draft.alloc;
+        let mut forms = Vec::new(alloc);
+        for key in 0..self.web.starts.len() {
+            forms.push(self.unknowns.form(key, values, alloc)?)?;
+        }
+        Ok(forms)
+    }
+
+    // The polynomial.
+    pub fn most(&self, values: &Assignment) -> Result<Vec<u128>, SearchStop> {
+        let alloc = self.draft.alloc;
+        whole(&self.unknowns.polynomial(values, alloc)?, alloc)
+    }
+
+    // The sum where a path begins, less that where it leads to.
+    pub fn fall(&self, leg: &Leg) -> Result<Vec<Coefficient>, SearchStop> {
+        let alloc = self.draft.alloc;
+        let mut entries = Vec::new(alloc);
+        if let Some(start) = self.web.starts.get(leg.source) {
+            self.unknowns
+                .add(&mut entries, leg.source, &start.forms, 1, alloc)?;
+        }
+        if let Some(target) = leg.target {
+            self.unknowns
+                .add(&mut entries, target, &leg.forms, -1, alloc)?;
+        }
+        Ok(entries)
+    }
+
     // The sum where measures are given by forms, and the measure itself, if one is promised.
     fn add_sum(
         &self,
@@ -464,9 +295,9 @@ impl<'a> PotentialProgram<'a> {
         let (wanted, times) = part;
         self.unknowns.add(entries, key, forms, times, alloc)?;
         if !wanted.is_count() && key != 0 {
-            if let Some(form) = form_at(forms, wanted.place as usize, alloc)? {
+            if let Some(form) = form_in(forms, wanted.place) {
                 let signed = times.saturating_mul(wanted.sign);
-                add_form(entries, &form, 0, None, signed)?;
+                add_form(entries, form, 0, None, signed)?;
             }
         }
         Ok(())
@@ -487,15 +318,12 @@ impl<'a> PotentialProgram<'a> {
 
     // That the sum does not grow on a path, even with what it adds to a count, if that is promised.
     fn add_leg(&mut self, leg: &Leg, wanted: &WantedBound<'_>) -> Result<(), SearchStop> {
-        let alloc = self.draft.alloc;
         if leg.target.is_none() && !wanted.is_count() {
             return Ok(());
         }
         let mut entries = self.begin(leg.source, wanted)?;
         if wanted.is_count() {
-            if let Some(more) = form_at(&leg.forms, wanted.place as usize, alloc)? {
-                add_form(&mut entries, &more, 0, None, -1)?;
-            }
+            take_away(&mut entries, &leg.forms, wanted.place)?;
         }
         if let Some(target) = leg.target {
             self.add_sum(&mut entries, target, &leg.forms, (wanted, -1))?;
@@ -503,7 +331,19 @@ impl<'a> PotentialProgram<'a> {
         self.imply_on(leg, entries)
     }
 
-    // That the sum is no less than the measure where it was raised, unless it is so behind that.
+    // That the sum is no less than the measure where it was raised.
+    fn add_peak(
+        &mut self,
+        source: usize,
+        peak: &Peak,
+        wanted: &WantedBound<'_>,
+    ) -> Result<(), SearchStop> {
+        let mut entries = self.begin(source, wanted)?;
+        add_form(&mut entries, &peak.form, 0, None, -1)?;
+        self.imply(source, &peak.constraints, entries)
+    }
+
+    // That it is so at each place where it was raised on a path, unless it is so behind that.
     fn add_peaks(
         &mut self,
         leg: &Leg,
@@ -511,10 +351,10 @@ impl<'a> PotentialProgram<'a> {
         is_done: &mut [bool],
     ) -> Result<(), SearchStop> {
         let alloc = self.draft.alloc;
-        let mut at = leg.peak;
         let web = self.web;
+        let mut at = leg.peak;
         let mut above = match leg.target {
-            Some(_) => form_at(&leg.forms, wanted.place as usize, alloc)?,
+            Some(_) => form_in(&leg.forms, wanted.place),
             None => None,
         };
         for _ in 0..web.record.peaks.len() {
@@ -525,17 +365,29 @@ impl<'a> PotentialProgram<'a> {
                 break;
             };
             at = peak.before;
-            if peak.place != wanted.place || is_below(leg, &peak.form, &above, alloc)? {
+            if peak.place != wanted.place || is_below(leg, &peak.form, above, alloc)? {
                 continue;
             }
-            above = Some(copied(&peak.form, alloc)?);
-            if is_done.get(place) == Some(&false) {
-                if let Some(mark) = is_done.get_mut(place) {
-                    *mark = true;
-                }
-                let mut entries = self.begin(leg.source, wanted)?;
-                add_form(&mut entries, &peak.form, 0, None, -1)?;
-                self.imply(leg.source, &peak.constraints, entries)?;
+            above = Some(&peak.form);
+            if is_first(is_done, place) {
+                self.add_peak(leg.source, peak, wanted)?;
+            }
+        }
+        Ok(())
+    }
+
+    // That the sum does not grow on the paths that count, and is no less than the measure on them.
+    fn add_legs(&mut self, wanted: &WantedBound<'_>) -> Result<(), SearchStop> {
+        let web = self.web;
+        let has_peaks = !wanted.is_count() && !wanted.is_loose;
+        let mut is_done = Vec::from_elem(self.draft.alloc, false, web.record.peaks.len())?;
+        for (at, leg) in web.legs.iter().enumerate() {
+            if !wanted.counts(at) {
+                continue;
+            }
+            self.add_leg(leg, wanted)?;
+            if has_peaks {
+                self.add_peaks(leg, wanted, &mut is_done)?;
             }
         }
         Ok(())
@@ -550,9 +402,7 @@ impl<'a> PotentialProgram<'a> {
         let mut least = 0i128;
         for leg in &self.web.legs {
             if leg.source == 0 {
-                if let Some(steps) = form_at(&leg.forms, STEPS as usize, self.draft.alloc)? {
-                    least = least.max(constant(&steps));
-                }
+                least = least.max(own_steps(leg));
             }
         }
         self.unknowns.begin_with(&mut self.draft, least)
@@ -560,7 +410,6 @@ impl<'a> PotentialProgram<'a> {
 
     // That the polynomial is no less than the measure at the entry.
     fn add_entry(&mut self, wanted: &WantedBound<'_>) -> Result<(), SearchStop> {
-        let alloc = self.draft.alloc;
         let web = self.web;
         let Some(start) = web.starts.first() else {
             return Ok(());
@@ -569,10 +418,16 @@ impl<'a> PotentialProgram<'a> {
             return Ok(());
         }
         let mut entries = self.begin(0, wanted)?;
-        if let Some(form) = form_at(&start.forms, wanted.place as usize, alloc)? {
-            add_form(&mut entries, &form, 0, None, -1)?;
-        }
+        take_away(&mut entries, &start.forms, wanted.place)?;
         self.imply(0, &start.constraints, entries)
+    }
+
+    // Makes the program of what is wanted.
+    fn want(&mut self, wanted: &WantedBound<'_>) -> Result<(), SearchStop> {
+        self.add_legs(wanted)?;
+        self.add_entry(wanted)?;
+        self.add_first_steps(wanted)?;
+        self.settle_least()
     }
 
     // What is claimed at a key: the polynomial, less the sum and the measure.
@@ -584,24 +439,31 @@ impl<'a> PotentialProgram<'a> {
         wanted: &WantedBound<'_>,
     ) -> Result<Form, SearchStop> {
         let alloc = self.draft.alloc;
-        let sum = self.unknowns.form(key, values, alloc)?;
+        let rest = most.sub(&self.unknowns.form(key, values, alloc)?, alloc)?;
         let start = self.web.starts.get(key);
-        let is_there = match start {
-            Some(start) => form_at(&start.forms, wanted.place as usize, alloc)?.is_some(),
-            None => false,
-        };
-        if !is_there {
-            return lowest(&most.sub(&sum, alloc)?, alloc);
+        if start.is_none_or(|start| form_in(&start.forms, wanted.place).is_none()) {
+            return lowest(&rest, alloc);
         }
-        let measure = Form::symbol(wanted.place, alloc)?.scaled(
-            &Scale {
-                factor: values.denominator.saturating_mul(wanted.sign),
-                power: 0,
-            },
-            alloc,
-        )?;
-        let claim = most.sub(&sum, alloc)?.sub(&measure, alloc)?;
-        lowest(&claim, alloc)
+        let times = Scale {
+            factor: values.denominator.saturating_mul(wanted.sign),
+            power: 0,
+        };
+        let measure = Form::symbol(wanted.place, alloc)?.scaled(&times, alloc)?;
+        lowest(&rest.sub(&measure, alloc)?, alloc)
+    }
+
+    // What is claimed at each key.
+    fn claims(
+        &self,
+        most: &Form,
+        values: &Assignment,
+        wanted: &WantedBound<'_>,
+    ) -> Result<Vec<Form>, SearchStop> {
+        let mut claims = Vec::new(self.draft.alloc);
+        for key in 0..self.web.starts.len() {
+            claims.push(self.claim(key, most, values, wanted)?)?;
+        }
+        Ok(claims)
     }
 
     // What is promised where the polynomial is rounded up, if that is found and plain, or else what was.
@@ -629,18 +491,7 @@ impl<'a> PotentialProgram<'a> {
     ) -> Result<FoundPromise, SearchStop> {
         let alloc = self.draft.alloc;
         let numerators = self.unknowns.polynomial(values, alloc)?;
-        let mut claims = Vec::new(alloc);
-        let mut most = Form::zero(alloc);
-        for power in 0..numerators.len() {
-            let coefficient = numerators.get(power).copied().unwrap_or(0);
-            most = most.add(
-                &power_of(u32::try_from(power).unwrap_or(0), coefficient, alloc)?,
-                alloc,
-            )?;
-        }
-        for key in 0..self.web.starts.len() {
-            claims.push(self.claim(key, &most, values, wanted)?)?;
-        }
+        let claims = self.claims(&form_by(&numerators, alloc)?, values, wanted)?;
         Ok(FoundPromise {
             place: wanted.place,
             sign: wanted.sign,
@@ -651,40 +502,12 @@ impl<'a> PotentialProgram<'a> {
     }
 }
 
-// The program of what is wanted.
-fn sought_of<'a>(
-    web: &'a Web,
-    known: &'a KnownClaims,
-    wanted: &WantedBound<'_>,
-    alloc: Global,
-) -> Result<PotentialProgram<'a>, SearchStop> {
-    let mut sought = PotentialProgram::of_facts(web, known, wanted, alloc)?;
-    let mut is_done = Vec::from_elem(alloc, false, web.record.peaks.len())?;
-    for (at, leg) in web.legs.iter().enumerate() {
-        if !wanted.counts(at) {
-            continue;
-        }
-        sought.add_leg(leg, wanted)?;
-        if !wanted.is_count() && !wanted.is_loose {
-            sought.add_peaks(leg, wanted, &mut is_done)?;
-        }
-    }
-    sought.add_entry(wanted)?;
-    sought.add_first_steps(wanted)?;
-    let program = &mut sought;
-    program
-        .unknowns
-        .minimise(&mut program.draft, wanted.degree)?;
-    sought.settle()?;
-    Ok(sought)
-}
-
 // What a program promises, if its values are found.
 fn solved(
     sought: &mut PotentialProgram<'_>,
     wanted: &WantedBound<'_>,
 ) -> Result<Option<FoundPromise>, SearchStop> {
-    let Some(values) = sought.draft.solved(wanted.pivots)? else {
+    let Some(values) = sought.values(wanted.pivots)? else {
         return Ok(None);
     };
     let promise = sought.promise(&values, wanted)?;
@@ -701,12 +524,12 @@ fn tried(
     wanted: &WantedBound<'_>,
     alloc: Global,
 ) -> Result<(Option<FoundPromise>, usize), SearchStop> {
-    let mut sought = sought_of(web, known, wanted, alloc)?;
+    let mut sought = PotentialProgram::of_facts(web, known, wanted, alloc)?;
+    sought.want(wanted)?;
     if sought.draft.rows() > wanted.rows {
         return Ok((None, 0));
     }
     let work = sought.draft.work(wanted.pivots);
-    known.afford(work)?;
     let promise = solved(&mut sought, wanted)?;
     Ok((promise, work))
 }

@@ -2,8 +2,9 @@
 //! types.
 use crate::invariants::add_invariants;
 use crate::known_claims::KnownClaims;
-use crate::potentials::{FoundPromise, promised, rounded_up};
+use crate::potentials::{FoundPromise, form_in, promised};
 use crate::turns::add_turns;
+use crate::unknowns::rounded_up;
 use crate::wanted::{Scope, WantedBound};
 use crate::ways::endless;
 use crate::worth::promised_by_levels;
@@ -11,12 +12,11 @@ use std::alloc::Global;
 use teco_base::LIMIT;
 use teco_bounds::fault::{SearchRefusal, SearchStop};
 use teco_bounds::keys::{HELD, STEPS, TYPED, is_count, power_of};
-use teco_bounds::legs::Web;
+use teco_bounds::legs::{LegStart, Web};
 use teco_bounds::measures::{TURNS, family_of};
 use teco_bounds::reduced::UsedLimits;
 use teco_bounds::search::Keys;
 use teco_linear::Form;
-use teco_rows::applied::form_at;
 
 // The highest degree of a promise.
 const DEGREES: u32 = 3;
@@ -52,6 +52,48 @@ fn rounded(promise: &FoundPromise, alloc: Global) -> Result<Vec<u64>, SearchStop
     Ok(all)
 }
 
+// A polynomial as a form.
+fn form_of(coefficients: &[u64], alloc: Global) -> Result<Form, SearchStop> {
+    let mut sum = Form::zero(alloc);
+    for (power, coefficient) in coefficients.iter().enumerate() {
+        let power = u32::try_from(power).unwrap_or(0);
+        sum = sum.add(&power_of(power, i128::from(*coefficient), alloc)?, alloc)?;
+    }
+    Ok(sum)
+}
+
+// That the measure is within the polynomial where paths begin, if it has a form there.
+fn bound_at(
+    start: &LegStart,
+    promise: &FoundPromise,
+    most: &Form,
+    alloc: Global,
+) -> Result<Form, SearchStop> {
+    if form_in(&start.forms, promise.place).is_none() {
+        return Ok(Form::zero(alloc));
+    }
+    let measure = Form::symbol(promise.place, alloc)?;
+    if promise.sign > 0 {
+        return Ok(most.sub(&measure, alloc)?);
+    }
+    Ok(most.add(&measure, alloc)?)
+}
+
+// That the measure is within the polynomial at each key.
+fn bounds_of(
+    web: &Web,
+    promise: &FoundPromise,
+    coefficients: &[u64],
+    alloc: Global,
+) -> Result<Vec<Form>, SearchStop> {
+    let most = form_of(coefficients, alloc)?;
+    let mut bounds = Vec::new(alloc);
+    for start in &web.starts {
+        bounds.push(bound_at(start, promise, &most, alloc)?)?;
+    }
+    Ok(bounds)
+}
+
 // Takes what a promise claims: at each key at least that the measure is within the polynomial.
 fn take(
     web: &Web,
@@ -60,26 +102,7 @@ fn take(
     alloc: Global,
 ) -> Result<Vec<u64>, SearchStop> {
     let coefficients = rounded(&promise, alloc)?;
-    let mut most = Form::zero(alloc);
-    for at in 0..coefficients.len() {
-        let coefficient = coefficients.get(at).copied().unwrap_or(0);
-        let power = u32::try_from(at).unwrap_or(0);
-        most = most.add(&power_of(power, i128::from(coefficient), alloc)?, alloc)?;
-    }
-    let mut bounds = Vec::new(alloc);
-    for start in &web.starts {
-        let is_there = form_at(&start.forms, promise.place as usize, alloc)?.is_some();
-        bounds.push(if is_there {
-            let measure = Form::symbol(promise.place, alloc)?;
-            if promise.sign > 0 {
-                most.sub(&measure, alloc)?
-            } else {
-                most.add(&measure, alloc)?
-            }
-        } else {
-            Form::zero(alloc)
-        })?;
-    }
+    let bounds = bounds_of(web, &promise, &coefficients, alloc)?;
     known.add(promise.claims, &bounds, alloc)?;
     Ok(coefficients)
 }
@@ -192,22 +215,17 @@ fn least_promise(
     degree: u32,
     alloc: Global,
 ) -> Result<Option<FoundPromise>, SearchStop> {
-    let mut found: Option<FoundPromise> = None;
     if degree > 1 && web.legs.len().saturating_mul(degree as usize) > MOST_LEGS {
         return Ok(None);
     }
-    for scope in [Scope::Few, Scope::More, Scope::All] {
-        let is_enough = match &found {
-            Some(promise) => scope == Scope::More || is_least(promise),
-            None => false,
-        };
-        if !is_enough {
-            let wanted = wanted_of(place, degree, scope, found.is_none());
-            let other = promised(web, known, &wanted, alloc)?;
-            found = lesser(found, other);
-        }
+    let few = wanted_of(place, degree, Scope::Few, true);
+    let found = promised(web, known, &few, alloc)?;
+    if found.as_ref().is_some_and(is_least) {
+        return Ok(found);
     }
-    Ok(found)
+    let all = wanted_of(place, degree, Scope::All, found.is_none());
+    let other = promised(web, known, &all, alloc)?;
+    Ok(lesser(found, other))
 }
 
 // That a measure, taken so often, is within a polynomial at keys.

@@ -1,7 +1,7 @@
 //! What would show a condition that could not be shown, in the measures that claims speak of.
 use crate::known_claims::KnownClaims;
 use crate::ways::unbounded;
-use crate::written::{claim_of, claimed_facts};
+use crate::written::{claim_of, fact_claims};
 use std::alloc::Global;
 use teco_bounds::fault::{SearchRefusal, SearchStop};
 use teco_bounds::keys::{is_count, shifted};
@@ -62,27 +62,27 @@ fn difference_in(
     alloc: Global,
 ) -> Result<Option<Form>, SearchStop> {
     for (place, more) in forms.iter().enumerate().filter_map(measured) {
-        let rest = form.sub(more, alloc)?;
-        let one = shifted(Some(place), 0, alloc)?;
-        if let Some(number) = number_of(&rest) {
-            return Ok(Some(one.add(&shifted(None, number, alloc)?, alloc)?));
-        }
-        if let Some(less) = less_in(&rest, forms, alloc)? {
-            return Ok(Some(one.sub(&less, alloc)?));
+        if let Some(rest) = rest_in(&form.sub(more, alloc)?, forms, alloc)? {
+            return Ok(Some(shifted(Some(place), 0, alloc)?.add(&rest, alloc)?));
         }
     }
-    match less_in(form, forms, alloc)? {
-        Some(less) => Ok(Some(Form::zero(alloc).sub(&less, alloc)?)),
-        None => Ok(None),
+    less_in(form, forms, alloc)
+}
+
+// A form that is a number, or one less a measure, by the measures' places.
+fn rest_in(form: &Form, forms: &[Option<Form>], alloc: Global) -> Result<Option<Form>, SearchStop> {
+    match number_of(form) {
+        Some(number) => Ok(Some(shifted(None, number, alloc)?)),
+        None => less_in(form, forms, alloc),
     }
 }
 
-// What a form takes away, where that is a measure more or less a number.
+// A form that is a number less a measure, by the measures' places.
 fn less_in(form: &Form, forms: &[Option<Form>], alloc: Global) -> Result<Option<Form>, SearchStop> {
     for (place, less) in forms.iter().enumerate().filter_map(measured) {
         if let Some(number) = number_of(&form.add(less, alloc)?) {
             let one = shifted(Some(place), 0, alloc)?;
-            return Ok(Some(one.sub(&shifted(None, number, alloc)?, alloc)?));
+            return Ok(Some(shifted(None, number, alloc)?.sub(&one, alloc)?));
         }
     }
     Ok(None)
@@ -142,16 +142,10 @@ fn claim_at(
 
 // What is known at a key, as claims.
 fn known_at(search: &PathSearch<'_>, keys: &Keys, place: usize) -> Result<Vec<Claim>, SearchStop> {
-    let mut claims = Vec::new(search.alloc);
-    let (Some(key), Some(facts)) = (keys.keys.get(place), keys.facts.get(place)) else {
-        return Ok(claims);
-    };
-    for form in claimed_facts(search, key, facts, false)? {
-        if let Some(claim) = claim_of(search, key.number, &form)? {
-            claims.push(claim)?;
-        }
+    match (keys.keys.get(place), keys.facts.get(place)) {
+        (Some(key), Some(facts)) => fact_claims(search, key, facts, false),
+        _ => Ok(Vec::new(search.alloc)),
     }
-    Ok(claims)
 }
 
 // A condition as a claim where its element stands.

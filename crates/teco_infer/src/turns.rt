@@ -1,7 +1,6 @@
 //! How many turns of each iteration are still to come at most, where paths come to it.
 use crate::known_claims::KnownClaims;
-use crate::polynomials::whole;
-use crate::potentials::{PotentialProgram, lowest, product};
+use crate::potentials::{PotentialProgram, form_in, form_of, lowest, product};
 use crate::wanted::WantedBound;
 use std::alloc::Global;
 use teco_bounds::fault::SearchStop;
@@ -9,7 +8,7 @@ use teco_bounds::legs::{Leg, Web};
 use teco_bounds::measures::{FAMILIES, SINGLES, TURNS};
 use teco_bounds::programs::add_form;
 use teco_linear::Form;
-use teco_rows::applied::{copied, form_at};
+use teco_rows::applied::copied;
 use teco_simplex::Assignment;
 
 // An iteration: where it begins, and the place of its turns.
@@ -71,31 +70,28 @@ fn add_arrival(
     sought.imply_on(leg, entries)
 }
 
-// The program of the turns of an iteration; none where they are not counted.
-fn sought_of<'a>(
-    web: &'a Web,
-    known: &'a KnownClaims,
-    wanted: &WantedBound<'_>,
-    iteration: IterationTurns,
-) -> Result<Option<PotentialProgram<'a>>, SearchStop> {
-    let alloc = web.record.alloc;
-    let mut sought = PotentialProgram::of_facts(web, known, wanted, alloc)?;
+// Whether a path comes to an iteration.
+fn comes_to(web: &Web, leg: &Leg, iteration: IterationTurns) -> bool {
+    match leg.target {
+        Some(target) => is_in(web, target, iteration) && !is_in(web, leg.source, iteration),
+        None => false,
+    }
+}
+
+// Makes the program of the turns of an iteration; says whether they are counted.
+fn want(sought: &mut PotentialProgram<'_>, iteration: IterationTurns) -> Result<bool, SearchStop> {
+    let web = sought.web;
     for leg in &web.legs {
-        let Some(target) = leg.target else {
-            continue;
-        };
-        if !is_in(web, target, iteration) || is_in(web, leg.source, iteration) {
+        if !comes_to(web, leg, iteration) {
             continue;
         }
-        match form_at(&leg.forms, iteration.place as usize, alloc)? {
-            Some(turns) => add_arrival(&mut sought, leg, &turns)?,
-            None => return Ok(None),
+        match form_in(&leg.forms, iteration.place) {
+            Some(turns) => add_arrival(sought, leg, turns)?,
+            None => return Ok(false),
         }
     }
-    let program = &mut sought;
-    program.unknowns.minimise(&mut program.draft, 1)?;
-    program.settle()?;
-    Ok(Some(sought))
+    sought.settle_least()?;
+    Ok(true)
 }
 
 // That the turns are within the polynomial found.
@@ -105,34 +101,50 @@ fn claim_of(
     iteration: IterationTurns,
 ) -> Result<Form, SearchStop> {
     let alloc = sought.draft.alloc;
-    let numerators = sought.unknowns.polynomial(values, alloc)?;
-    let most = product(
-        &whole(&numerators, alloc)?,
-        &Form::constant(1, alloc)?,
-        alloc,
-    )?;
+    let most = form_of(&sought.most(values)?, alloc)?;
     let divisor = u128::try_from(values.denominator).unwrap_or(1);
     let turns = product(&[divisor], &Form::symbol(iteration.place, alloc)?, alloc)?;
     lowest(&most.sub(&turns, alloc)?, alloc)
 }
 
-// What is claimed at each key: within the iteration, the turns' bound.
+// What is claimed at a key: within the iteration, the turns' bound.
+fn claim_at(
+    web: &Web,
+    key: usize,
+    iteration: IterationTurns,
+    claim: &Form,
+) -> Result<Form, SearchStop> {
+    if !is_in(web, key, iteration) {
+        return Ok(Form::zero(web.record.alloc));
+    }
+    Ok(copied(claim, web.record.alloc)?)
+}
+
+// What is claimed at each key.
 fn claims_of(
     sought: &PotentialProgram<'_>,
     values: &Assignment,
     iteration: IterationTurns,
 ) -> Result<Vec<Form>, SearchStop> {
-    let alloc = sought.draft.alloc;
+    let web = sought.web;
     let claim = claim_of(sought, values, iteration)?;
-    let mut claims = Vec::new(alloc);
-    for key in 0..sought.web.starts.len() {
-        claims.push(if is_in(sought.web, key, iteration) {
-            copied(&claim, alloc)?
-        } else {
-            Form::zero(alloc)
-        })?;
+    let mut claims = Vec::new(sought.draft.alloc);
+    for key in 0..web.starts.len() {
+        claims.push(claim_at(web, key, iteration, &claim)?)?;
     }
     Ok(claims)
+}
+
+// What a program claims at each key, if its values are found.
+fn found_claims(
+    sought: &PotentialProgram<'_>,
+    pivots: usize,
+    iteration: IterationTurns,
+) -> Result<Option<Vec<Form>>, SearchStop> {
+    match sought.values(pivots)? {
+        Some(values) => Ok(Some(claims_of(sought, &values, iteration)?)),
+        None => Ok(None),
+    }
 }
 
 // What is claimed of the turns of an iteration, if that is found, and the work that is spent on it.
@@ -142,15 +154,12 @@ fn tried(
     wanted: &WantedBound<'_>,
     iteration: IterationTurns,
 ) -> Result<(Option<Vec<Form>>, usize), SearchStop> {
-    let Some(sought) = sought_of(web, known, wanted, iteration)? else {
+    let mut sought = PotentialProgram::of_facts(web, known, wanted, web.record.alloc)?;
+    if !want(&mut sought, iteration)? {
         return Ok((None, 0));
-    };
-    let work = sought.draft.work(wanted.pivots);
-    known.afford(work)?;
-    match sought.draft.solved(wanted.pivots)? {
-        Some(values) => Ok((Some(claims_of(&sought, &values, iteration)?), work)),
-        None => Ok((None, work)),
     }
+    let claims = found_claims(&sought, wanted.pivots, iteration)?;
+    Ok((claims, sought.draft.work(wanted.pivots)))
 }
 
 // Adds bounds on turns to what is known, each sought like this one.

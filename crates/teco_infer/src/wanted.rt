@@ -1,5 +1,5 @@
 //! What is wanted of a program.
-use teco_bounds::keys::{HELD, LINE_END, LINE_START, is_count};
+use teco_bounds::keys::{HELD, is_count};
 use teco_bounds::measures::{TURNS, family_of};
 use teco_bounds::reduced::UsedLimits;
 
@@ -39,8 +39,6 @@ impl WantedBound<'_> {
 pub enum Scope {
     // Of the pointer, of lengths of the buffer, and of turns.
     Few,
-    // Of registers too.
-    More,
     // Of all.
     All,
 }
@@ -49,7 +47,6 @@ impl Scope {
     pub fn has(self, place: u32) -> bool {
         match self {
             Scope::Few => place <= HELD || family_of(place) == Some(TURNS),
-            Scope::More => place != LINE_END && place != LINE_START,
             Scope::All => true,
         }
     }

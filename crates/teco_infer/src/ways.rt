@@ -80,6 +80,22 @@ fn without(places: &[usize], left_out: usize, alloc: Global) -> Result<Vec<usize
     Ok(rest)
 }
 
+// Leaves out a path if the rest has no bound; says whether work is left.
+fn leave_out(
+    web: &Web,
+    known: &mut KnownClaims,
+    left: &mut Vec<usize>,
+    place: usize,
+    alloc: Global,
+) -> Result<bool, SearchStop> {
+    let rest = without(left, place, alloc)?;
+    let found = is_bounded(web, known, &rest, alloc);
+    if matches!(found, Ok(false)) {
+        *left = rest;
+    }
+    Ok(found.is_ok())
+}
+
 // As few of these paths as have no bound together: each is left out in turn, the last one first, and
 // stays so where the rest has none. Where work runs out they may be more than need be.
 fn fewest(
@@ -91,11 +107,8 @@ fn fewest(
     let all = Vec::from_slice(alloc, &places)?;
     let mut left = places;
     for place in all.iter().rev() {
-        let rest = without(&left, *place, alloc)?;
-        match is_bounded(web, known, &rest, alloc) {
-            Ok(true) => {}
-            Ok(false) => left = rest,
-            Err(_) => break,
+        if !leave_out(web, known, &mut left, *place, alloc)? {
+            break;
         }
     }
     Ok(left)

@@ -1,90 +1,55 @@
 //! What steps are worth, level by level.
 use crate::known_claims::KnownClaims;
 use crate::levels::{KeyLevel, Levels, PIVOTS, add_number, all_levels, wanted_of};
-use crate::polynomials::{most, plus, times, whole};
-use crate::potentials::{FoundPromise, PotentialProgram, lowest, product, rounded_up};
+use crate::polynomials::{most, plus, times};
+use crate::potentials::{
+    FoundPromise, PotentialProgram, form_of, lowest, own_steps, product, take_away,
+};
+use crate::unknowns::rounded_up;
 use crate::wanted::{Scope, WantedBound};
 use std::alloc::Global;
 use teco_bounds::fault::SearchStop;
 use teco_bounds::keys::STEPS;
 use teco_bounds::legs::{Leg, Web};
-use teco_bounds::programs::add_form;
-use teco_bounds::steps::constant;
 use teco_linear::Form;
-use teco_rows::applied::form_at;
 use teco_simplex::{Assignment, Sign};
 
-// What paths cost: a number each, or its variable.
+// What paths cost: the program, and a number each, or its variable.
 #[derive(Drop)]
-struct Costs {
+struct Costs<'a> {
+    sought: PotentialProgram<'a>,
     numbers: Vec<i128>,
     variables: Vec<usize>,
 }
 
 // That the steps of a path are within its cost and what falls.
-fn add_cost(
-    sought: &mut PotentialProgram<'_>,
-    costs: &mut Costs,
-    leg: &Leg,
-    is_given: bool,
-) -> Result<(), SearchStop> {
-    let alloc = sought.draft.alloc;
-    let web = sought.web;
-    let mut entries = Vec::new(alloc);
-    if let Some(start) = web.starts.get(leg.source) {
-        sought
-            .unknowns
-            .add(&mut entries, leg.source, &start.forms, 1, alloc)?;
-    }
-    if let Some(target) = leg.target {
-        sought
-            .unknowns
-            .add(&mut entries, target, &leg.forms, -1, alloc)?;
-    }
-    let mut number = 0;
-    if let Some(steps) = form_at(&leg.forms, STEPS as usize, alloc)? {
-        add_form(&mut entries, &steps, 0, None, -1)?;
-        number = constant(&steps).max(0);
-    }
+fn add_cost(costs: &mut Costs<'_>, leg: &Leg, is_given: bool) -> Result<(), SearchStop> {
+    let mut entries = costs.sought.fall(leg)?;
+    take_away(&mut entries, &leg.forms, STEPS)?;
+    let number = own_steps(leg);
     costs.numbers.push(number)?;
     if is_given {
         add_number(&mut entries, None, number)?;
     } else {
-        let cost = sought.draft.variable(Sign::NonNegative)?;
+        let cost = costs.sought.draft.variable(Sign::NonNegative)?;
         costs.variables.push(cost)?;
         add_number(&mut entries, Some(cost), 1)?;
     }
-    sought.imply_on(leg, entries)
+    costs.sought.imply_on(leg, entries)
 }
 
-// The program of costs: they are given, the number of its own steps for each path, or their sum is to
-// be least.
-fn costs_of<'a>(
-    web: &'a Web,
-    known: &'a KnownClaims,
-    is_given: bool,
-) -> Result<(PotentialProgram<'a>, Costs), SearchStop> {
-    let alloc = web.record.alloc;
-    let wanted = WantedBound {
-        scope: Scope::Few,
-        ..wanted_of(1)
-    };
-    let mut sought = PotentialProgram::of_facts(web, known, &wanted, alloc)?;
-    let mut costs = Costs {
-        numbers: Vec::new(alloc),
-        variables: Vec::new(alloc),
-    };
+// Makes the program of costs: they are given, the number of its own steps for each path, or their sum
+// is to be least.
+fn want(costs: &mut Costs<'_>, is_given: bool) -> Result<(), SearchStop> {
+    let web = costs.sought.web;
     for leg in &web.legs {
-        add_cost(&mut sought, &mut costs, leg, is_given)?;
+        add_cost(costs, leg, is_given)?;
     }
-    let program = &mut sought;
     if is_given {
-        program.unknowns.minimise(&mut program.draft, 1)?;
-    } else {
-        program.draft.minimise(&costs.variables)?;
+        return costs.sought.settle_least();
     }
-    program.settle()?;
-    Ok((sought, costs))
+    costs.sought.draft.minimise(&costs.variables)?;
+    costs.sought.settle()
 }
 
 // What each path costs, rounded up, what falls besides at each key, the most of that, and the divisor of
@@ -106,7 +71,7 @@ impl Paid {
 }
 
 // What a path costs, rounded up.
-fn cost_at(costs: &Costs, values: &Assignment, place: usize) -> u128 {
+fn cost_at(costs: &Costs<'_>, values: &Assignment, place: usize) -> u128 {
     let up = match costs.variables.get(place) {
         Some(variable) => {
             let numerator = values.numerators.get(*variable).copied().unwrap_or(0);
@@ -124,28 +89,24 @@ fn number_of(number: u128, alloc: Global) -> Result<Vec<u128>, SearchStop> {
     Ok(polynomial)
 }
 
-// What paths cost, by the values of their program.
-fn paid_by(
-    sought: &PotentialProgram<'_>,
-    costs: &Costs,
-    values: &Assignment,
-) -> Result<Paid, SearchStop> {
-    let alloc = sought.draft.alloc;
+// What each path costs, rounded up.
+fn costs_by(costs: &Costs<'_>, values: &Assignment) -> Result<Vec<Vec<u128>>, SearchStop> {
+    let alloc = costs.sought.draft.alloc;
     let mut all = Vec::new(alloc);
     for place in 0..costs.numbers.len() {
         all.push(number_of(cost_at(costs, values, place), alloc)?)?;
     }
-    let mut forms = Vec::new(alloc);
-    for key in 0..sought.web.starts.len() {
-        forms.push(sought.unknowns.form(key, values, alloc)?)?;
-    }
-    let most = whole(&sought.unknowns.polynomial(values, alloc)?, alloc)?;
-    let divisor = number_of(u128::try_from(values.denominator).unwrap_or(1), alloc)?;
+    Ok(all)
+}
+
+// What paths cost, by the values of their program.
+fn paid_by(costs: &Costs<'_>, values: &Assignment) -> Result<Paid, SearchStop> {
+    let divisor = u128::try_from(values.denominator).unwrap_or(1);
     Ok(Paid {
-        costs: all,
-        forms,
-        most,
-        divisor,
+        costs: costs_by(costs, values)?,
+        forms: costs.sought.forms(values)?,
+        most: costs.sought.most(values)?,
+        divisor: number_of(divisor, costs.sought.draft.alloc)?,
     })
 }
 
@@ -231,6 +192,55 @@ fn raise(
     Ok(())
 }
 
+// Where a path leads to, if that is in a level.
+fn target_in(levels: &Levels, at: usize, leg: &Leg) -> Option<usize> {
+    let level = levels.levels.get(at)?;
+    leg.target.filter(|target| level.has(*target))
+}
+
+// What a fall in a level is worth: what a turn costs, and what is to come behind it.
+fn worth_of(
+    web: &Web,
+    levels: &Levels,
+    at: usize,
+    paid: &Paid,
+    tails: &[Vec<u128>],
+) -> Result<Vec<u128>, SearchStop> {
+    let alloc = web.record.alloc;
+    let mut worth: Vec<u128> = Vec::new(alloc);
+    for (place, leg) in web.legs.iter().enumerate() {
+        if levels.turn_of.get(place) != Some(&Some(at)) {
+            continue;
+        }
+        if let Some(target) = target_in(levels, at, leg) {
+            let there = arriving(levels, Some(at), target, tails, alloc)?;
+            worth = most(&worth, &plus(paid.cost(place), &there, alloc)?, alloc)?;
+        }
+    }
+    Ok(worth)
+}
+
+// What is to come where a path that is no turn leads to in a level.
+fn first_of(
+    web: &Web,
+    levels: &Levels,
+    at: usize,
+    tails: &[Vec<u128>],
+) -> Result<Vec<u128>, SearchStop> {
+    let alloc = web.record.alloc;
+    let mut first: Vec<u128> = Vec::new(alloc);
+    for (place, leg) in web.legs.iter().enumerate() {
+        if levels.turn_of.get(place) == Some(&Some(at)) {
+            continue;
+        }
+        if let Some(target) = target_in(levels, at, leg) {
+            let there = arriving(levels, Some(at), target, tails, alloc)?;
+            first = most(&first, &there, alloc)?;
+        }
+    }
+    Ok(first)
+}
+
 // Finds what a fall in a level is worth, and what coming to it is.
 fn value(
     web: &Web,
@@ -240,22 +250,8 @@ fn value(
     alloc: Global,
 ) -> Result<(), SearchStop> {
     let tails = tails_of(web, levels, Some(at), paid, alloc)?;
-    let mut worth: Vec<u128> = Vec::new(alloc);
-    let mut first: Vec<u128> = Vec::new(alloc);
-    for (place, leg) in web.legs.iter().enumerate() {
-        let Some(target) = leg.target else {
-            continue;
-        };
-        if !levels.levels.get(at).is_some_and(|level| level.has(target)) {
-            continue;
-        }
-        let there = arriving(levels, Some(at), target, &tails, alloc)?;
-        if levels.turn_of.get(place) == Some(&Some(at)) {
-            worth = most(&worth, &plus(paid.cost(place), &there, alloc)?, alloc)?;
-        } else {
-            first = most(&first, &there, alloc)?;
-        }
-    }
+    let worth = worth_of(web, levels, at, paid, &tails)?;
+    let first = first_of(web, levels, at, &tails)?;
     if let Some(level) = levels.levels.get_mut(at) {
         level.all = plus(&times(&worth, &level.bound, alloc)?, &first, alloc)?;
         level.worth = worth;
@@ -271,18 +267,15 @@ fn ahead(
     key: usize,
     alloc: Global,
 ) -> Result<Form, SearchStop> {
-    let one = Form::constant(1, alloc)?;
-    let mut sum = match tops.get(key) {
-        Some(tail) => product(tail, &one, alloc)?,
-        None => Form::zero(alloc),
-    };
+    let top = tops.get(key).map_or(&[][..], |tail| tail.as_slice());
+    let mut sum = form_of(top, alloc)?;
     for level in &levels.levels {
         if !level.has(key) {
             continue;
         }
         if let (Some(form), Some(tail)) = (level.forms.get(key), level.tails.get(key)) {
             sum = sum.add(&product(&level.worth, form, alloc)?, alloc)?;
-            sum = sum.add(&product(tail, &one, alloc)?, alloc)?;
+            sum = sum.add(&form_of(tail, alloc)?, alloc)?;
         }
     }
     Ok(sum)
@@ -332,11 +325,12 @@ impl StepsToCome<'_> {
         lowest(&whole.sub(&sum, alloc)?, alloc)
     }
 
-    // What is claimed at each of so many keys.
-    fn claims(&self, whole: &Form, keys: usize) -> Result<Vec<Form>, SearchStop> {
+    // What is claimed at each of so many keys, by what all steps are worth.
+    fn claims(&self, all: &[u128], keys: usize) -> Result<Vec<Form>, SearchStop> {
+        let whole = form_of(all, self.alloc)?;
         let mut claims = Vec::new(self.alloc);
         for key in 0..keys {
-            claims.push(self.claim_at(whole, key)?)?;
+            claims.push(self.claim_at(&whole, key)?)?;
         }
         Ok(claims)
     }
@@ -360,14 +354,13 @@ fn promise_of(
 ) -> Result<FoundPromise, SearchStop> {
     let tops = tails_of(web, levels, None, paid, alloc)?;
     let all = all_of(web, levels, paid, &tops, alloc)?;
-    let whole = product(&all, &Form::constant(1, alloc)?, alloc)?;
     let to_come = StepsToCome {
         levels,
         paid,
         tops: &tops,
         alloc,
     };
-    let claims = to_come.claims(&whole, web.starts.len())?;
+    let claims = to_come.claims(&all, web.starts.len())?;
     let divisor = paid.divisor.first().copied().unwrap_or(1);
     Ok(FoundPromise {
         place: STEPS,
@@ -378,20 +371,33 @@ fn promise_of(
     })
 }
 
+// What paths cost, if the values of their program are found.
+fn found_paid(costs: &Costs<'_>) -> Result<Option<Paid>, SearchStop> {
+    match costs.sought.values(PIVOTS)? {
+        Some(values) => Ok(Some(paid_by(costs, &values)?)),
+        None => Ok(None),
+    }
+}
+
 // What paths cost, if that is found, and the work that is spent on it.
 fn tried(
     web: &Web,
     known: &KnownClaims,
     is_given: bool,
 ) -> Result<(Option<Paid>, usize), SearchStop> {
-    let (sought, costs) = costs_of(web, known, is_given)?;
-    let work = sought.draft.work(PIVOTS);
-    known.afford(work)?;
-    let solved = sought.draft.solved(PIVOTS)?;
-    match solved {
-        Some(values) => Ok((Some(paid_by(&sought, &costs, &values)?), work)),
-        None => Ok((None, work)),
-    }
+    let alloc = web.record.alloc;
+    let wanted = WantedBound {
+        scope: Scope::Few,
+        ..wanted_of(1)
+    };
+    let mut costs = Costs {
+        sought: PotentialProgram::of_facts(web, known, &wanted, alloc)?,
+        numbers: Vec::new(alloc),
+        variables: Vec::new(alloc),
+    };
+    want(&mut costs, is_given)?;
+    let paid = found_paid(&costs)?;
+    Ok((paid, costs.sought.draft.work(PIVOTS)))
 }
 
 // What paths cost, if that is found: what is given is tried first.

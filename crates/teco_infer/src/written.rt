@@ -115,22 +115,41 @@ fn always(search: &PathSearch<'_>, key: &Key) -> Result<Bounds, SearchStop> {
     Ok(always)
 }
 
+// Whether a register, a turn or a pair has a limit that does not always hold.
+fn is_limited(always: &Bounds, facts: &Bounds) -> bool {
+    for row in 1..facts.size() {
+        let is_among_them = symbol_of(facts, row).is_some_and(|place| place >= SINGLES);
+        if is_among_them && has_limit(always, facts, row) {
+            return true;
+        }
+    }
+    false
+}
+
 // Whether limits are claimed: a register, a turn or a pair has one.
 fn has_limits(search: &PathSearch<'_>, keys: &Keys) -> Result<bool, SearchStop> {
     for (key, facts) in keys.keys.iter().zip(keys.facts.iter()) {
-        let always = always(search, key)?;
-        for row in 1..facts.size() {
-            let is_among_them = symbol_of(facts, row).is_some_and(|place| place >= SINGLES);
-            if is_among_them && has_limit(&always, facts, row) {
-                return Ok(true);
-            }
+        if is_limited(&always(search, key)?, facts) {
+            return Ok(true);
         }
     }
     Ok(false)
 }
 
+// Leaves out what need not be claimed of facts, with limits or without.
+fn leave_out(facts: &mut Bounds, always: &Bounds, with_limits: bool) {
+    for row in 0..facts.size() {
+        for column in 0..facts.size() {
+            let is_left_out = !with_limits && is_limit(facts, row, column);
+            if is_left_out || is_known(always, facts, row, column) {
+                facts.set(row, column, NONE);
+            }
+        }
+    }
+}
+
 // The facts of a key that are claimed, with limits or without.
-pub fn claimed_facts(
+fn claimed_facts(
     search: &PathSearch<'_>,
     key: &Key,
     facts: &Bounds,
@@ -139,14 +158,7 @@ pub fn claimed_facts(
     let alloc = search.alloc;
     let always = always(search, key)?;
     let mut left = facts.copied(alloc)?;
-    for row in 0..left.size() {
-        for column in 0..left.size() {
-            let is_left_out = !with_limits && is_limit(&left, row, column);
-            if is_left_out || is_known(&always, &left, row, column) {
-                left.set(row, column, NONE);
-            }
-        }
-    }
+    leave_out(&mut left, &always, with_limits);
     let mut forms = Vec::new(alloc);
     for row in 0..left.size() {
         for column in 0..left.size() {
@@ -163,6 +175,23 @@ pub fn claimed_facts(
     Ok(forms)
 }
 
+// The facts of a key as claims, with limits or without.
+pub fn fact_claims(
+    search: &PathSearch<'_>,
+    key: &Key,
+    facts: &Bounds,
+    with_limits: bool,
+) -> Result<Vec<Claim>, SearchStop> {
+    let forms = claimed_facts(search, key, facts, with_limits)?;
+    let mut claims = Vec::new(search.alloc);
+    for form in &forms {
+        if let Some(claim) = claim_of(search, key.number, form)? {
+            claims.push(claim)?;
+        }
+    }
+    Ok(claims)
+}
+
 // The cut point of a key, with limits or without.
 fn cut(
     search: &PathSearch<'_>,
@@ -174,12 +203,7 @@ fn cut(
     let (Some(key), Some(facts)) = (keys.keys.get(place), keys.facts.get(place)) else {
         return Ok(None);
     };
-    let mut claims = Vec::new(search.alloc);
-    for form in claimed_facts(search, key, facts, with_limits)? {
-        if let Some(claim) = claim_of(search, key.number, &form)? {
-            claims.push(claim)?;
-        }
-    }
+    let mut claims = fact_claims(search, key, facts, with_limits)?;
     for (at, form) in &known.claims {
         if *at == place {
             match claim_of(search, key.number, form)? {

@@ -4,7 +4,7 @@ use Rattle.std.proofs.Common.{true, false, Option, Some, None, IsSome, Ok, refl}
 use Rattle.std.proofs.Common.{sym, ap, ◌∙◌, subst, arith}
 use Rattle.teco_apply.specs.Apply.{AnswersText, IsNotRun, Lacks, TextStops, stop_of}
 use Rattle.teco_apply.specs.ByPages.{AdmittedStops, AnswersAdmitted, Order, steps_of}
-use Rattle.teco_apply.specs.Sure.{Call, MOST}
+use Rattle.teco_apply.specs.Sure.{PromisedCall, MOST}
 use Rattle.teco_apply.specs.declared.ready.NotReady.{NotReady}
 use Rattle.teco_apply.specs.declared.ready.NotReady.TheVariants as not_ready
 use Rattle.teco_law_edits.specs.Bounds.{bound_at}
@@ -98,7 +98,7 @@ none_missing : {X : Type 0} (needed : Bool) (file : Option X) → IsSome file �
 none_missing needed None open_file missing = absurd (cc)
 none_missing needed (Some x) open_file missing = absurd (grind arith)
 
-not_run_beyond : (most : ℕ) (call : Call) (old new : World) (answer : Stop) → IsOpen most old.files
+not_run_beyond : (most : ℕ) (call : PromisedCall) (old new : World) (answer : Stop) → IsOpen most old.files
     → IsNotRun call.promise.needs old answer new → IsBeyond answer
 not_run_beyond most call old new answer open_files n = by n.why n.stopped n.lacks
   where

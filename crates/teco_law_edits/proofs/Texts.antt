@@ -32,7 +32,7 @@ use Rattle.teco_model.specs.declared.kind.Kind.{Kind}
 use Rattle.teco_model.specs.declared.kind.Kind.TheVariants as kind
 use Rattle.teco_model.specs.declared.kind.Motion.TheVariants as motion
 use Rattle.teco_model.specs.declared.kind.Page.TheVariants as page
-use Rattle.teco_model.specs.declared.kind.Value.TheVariants as value
+use Rattle.teco_model.specs.declared.kind.MachineValue.TheVariants as value
 
 -- an element of no text
 plain : Kind → ℕ → ℕ → Element

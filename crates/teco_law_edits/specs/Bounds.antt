@@ -6,7 +6,7 @@ use Rattle.teco_apply.specs.Apply.{AnswersText, Course, opening}
 use Rattle.teco_apply.specs.ByPages.{Behind, BehindMacro, BehindPage, Closing, EachPage, EditCourse}
 use Rattle.teco_apply.specs.ByPages.{EditsFile, EditsPages, EditsText, FromStart, Gathers, Once, Order, PagesTurned}
 use Rattle.teco_apply.specs.ByPages.{nothing_done, to_start}
-use Rattle.teco_apply.specs.Sure.{Call, loaded}
+use Rattle.teco_apply.specs.Sure.{PromisedCall, loaded}
 use Rattle.teco_apply.specs.declared.by_pages.Edited.{Edited}
 use Rattle.teco_apply.specs.declared.by_pages.PageChoice.{PageChoice}
 use Rattle.teco_apply.specs.declared.by_pages.PageChoice.TheVariants as pages
@@ -84,4 +84,4 @@ IsBounded order =
 -- Its runs take no more commands than their bounds together.
 abbrev pub StrictEditsAreBounded : Type 0
 StrictEditsAreBounded =
-    (terms : Terms) (call : Call) → AreStrict terms call → IsBounded (on_terms terms call)
+    (terms : Terms) (call : PromisedCall) → AreStrict terms call → IsBounded (on_terms terms call)

@@ -1,6 +1,6 @@
 -- The frame of a verified run: what its macro does not name stays as it was.
 use Rattle.std.specs.Prelude.{◌≡◌, ℕ, List, Ok}
-use Rattle.teco_apply.specs.Sure.{Call, Calls}
+use Rattle.teco_apply.specs.Sure.{PromisedCall, Calls}
 use Rattle.teco_law_facts.specs.SoundSteps.{AreOpen}
 use Rattle.teco_law_tables.specs.Framing.{IsFramed, LiesBelow}
 use Rattle.teco_law_tables.specs.Verified.{IsReady, n_of}
@@ -14,7 +14,7 @@ use Rattle.teco_verify.specs.Promised.{promise_of}
 
 -- A macro is called of which what is found is certified, where a run of it may begin, and the files are open that it
 -- needs.
-pub record IsCalledWhere (call : Call) (world : World) : Type 0 where
+pub record IsCalledWhere (call : PromisedCall) (world : World) : Type 0 where
   pub found : Finding
   pub certified : IsCertified found.library found.fields
   pub promised : call.promise ≡ promise_of found
@@ -29,6 +29,6 @@ pub record LeavesFramed (nodes : List Node) (old new : Kept) : Type 0 where
 
 abbrev pub VerifiedRunsAreFramed : Type 0
 VerifiedRunsAreFramed =
-    (call : Call) (nodes : List Node) (n : ℕ) (old new : World) → IsCalledWhere call old
+    (call : PromisedCall) (nodes : List Node) (n : ℕ) (old new : World) → IsCalledWhere call old
     → expansion call.promise.library call.promise.entry ≡ Ok nodes → Calls call (stop.Ended n) old new
     → LeavesFramed nodes old.kept new.kept

@@ -5,7 +5,7 @@ use Rattle.teco_applied.specs.Strict.{AreStrict, on_terms}
 use Rattle.teco_applied.specs.declared.watching.Terms.{Terms}
 use Rattle.teco_apply.specs.Apply.{are_plain}
 use Rattle.teco_apply.specs.ByPages.{EditsFile, IsAnswered, Order}
-use Rattle.teco_apply.specs.Sure.{Call, IsReady, loaded}
+use Rattle.teco_apply.specs.Sure.{PromisedCall, IsReady, loaded}
 use Rattle.teco_apply.specs.declared.by_pages.Edited.{Edited}
 use Rattle.teco_apply.specs.declared.by_pages.PageChoice.{PageChoice}
 use Rattle.teco_base.specs.declared.TheConstants.{LIMIT}
@@ -61,4 +61,4 @@ CannotFail order =
 -- An edit on strict terms cannot fail.
 abbrev pub StrictEditsCannotFail : Type 0
 StrictEditsCannotFail =
-    (terms : Terms) (call : Call) → AreStrict terms call → CannotFail (on_terms terms call)
+    (terms : Terms) (call : PromisedCall) → AreStrict terms call → CannotFail (on_terms terms call)

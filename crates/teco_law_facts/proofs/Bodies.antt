@@ -23,7 +23,7 @@ use Rattle.teco_verifier.specs.facts.Bodies.{has_own_fall, own_fall}
 use Rattle.teco_verifier.specs.facts.Facts.{entry_facts}
 use Rattle.teco_law_facts.specs.Laws.{BodyStartsAreSound, IsCarried, ReturnsAreSound, TurnsFall, HasRoom, RoomIsSound}
 use Rattle.teco_law_facts.specs.Laws.{IsEntry, EntryIsSound}
-use Rattle.teco_verifier.specs.declared.refusal.Refusal.TheVariants as refusal
+use Rattle.teco_verifier.specs.declared.refusal.RefusalReason.TheVariants as refusal
 
 -- ---- numbers that are written are unknown
 unknown_one : (b : Bool) (i : Interval) (pair : Pair) → IsWholePair pair → IsWithin i pair.number

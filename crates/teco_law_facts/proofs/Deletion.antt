@@ -19,7 +19,7 @@ use Rattle.teco_law_facts.proofs.Shapes.{Shifts, Moves, IsDone, Foretells, shift
 use Rattle.teco_law_facts.proofs.Leading.{leads_given}
 use Rattle.teco_verifier.specs.facts.Deletions as row
 use Rattle.teco_verifier.specs.facts.Motions.{shift_by_lines}
-use Rattle.teco_verifier.specs.declared.refusal.Refusal.TheVariants as refusal
+use Rattle.teco_verifier.specs.declared.refusal.RefusalReason.TheVariants as refusal
 use Rattle.teco_law_facts.proofs.Parts.{in_text, within_text}
 
 -- the positive part keeps the order

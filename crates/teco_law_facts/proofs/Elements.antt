@@ -5,7 +5,7 @@ use Rattle.teco_law_facts.proofs.Prelude.{World, State, Next, step, Taken, Loop,
 use Rattle.teco_law_facts.proofs.Prelude.{number, KnownTaken, ◌>>=◌, Run, IsTaken, IsOptional, fore_of, back_of, Facts}
 use Rattle.teco_law_facts.proofs.Prelude.{Edges, steps_of_page, steps_of_search, steps, facts_answered, Succeeds, Leads}
 use Rattle.teco_law_facts.proofs.Prelude.{FitsOn, unread_of, IsInPages, KindEnds, IsNamed, KindStands, BeginsAt}
-use Rattle.teco_law_facts.proofs.Prelude.{IsUnderway, Proceeds, Placed, transfer, IsValue, Refusal, Value}
+use Rattle.teco_law_facts.proofs.Prelude.{IsUnderway, Proceeds, Placed, transfer, IsValue, RefusalReason, Value}
 use Rattle.std.proofs.Common.{rules}
 use Rattle.teco_model.specs.Arguments as model
 use Rattle.teco_model.specs.Paging as paging
@@ -34,14 +34,14 @@ use Rattle.teco_law_facts.specs.SoundSeeking.{SearchesAtMost}
 use Rattle.teco_law_facts.specs.SoundSteps.{ReturnsGoBack, AreOpen}
 use Rattle.teco_law_facts.specs.SoundSteps.{StepsAreSound, LaterStepsAreSound, ElementsAreSound}
 use Rattle.teco_verifier.specs.facts.Transfer as transfers
-use Rattle.teco_verifier.specs.declared.refusal.Refusal.TheVariants as refusal
+use Rattle.teco_verifier.specs.declared.refusal.RefusalReason.TheVariants as refusal
 
 -- ---- what is refused leads nowhere
 yank_refused : (x : Placed) (facts : Facts) → x.element.kind ≡ kind.Page page.Yank
     → IfOk (transfer x facts) (λ edges. ⊥)
 yank_refused x facts e =
     by_kind x facts _ (λ r. IfOk r (λ edges. ⊥)) e (by (known.arguments_of facts.arguments.level)) where
-      by : (r : Result KnownTaken Refusal)
+      by : (r : Result KnownTaken RefusalReason)
           → IfOk (transfers.on (r >>= λ taken. Err refusal.Unverified >>= λ known. Ok (facts_answered known)))
           (λ edges. ⊥)
       by (Ok taken) = tt
@@ -51,7 +51,7 @@ file_refused : (x : Placed) (facts : Facts) (f : File) → x.element.kind ≡ ki
     → IfOk (transfer x facts) (λ edges. ⊥)
 file_refused x facts f e =
     by_kind x facts _ (λ r. IfOk r (λ edges. ⊥)) e (by (known.arguments_of facts.arguments.level)) where
-      by : (r : Result KnownTaken Refusal) → IfOk (r >>= λ taken. Err refusal.Unverified) (λ (edges : Edges). ⊥)
+      by : (r : Result KnownTaken RefusalReason) → IfOk (r >>= λ taken. Err refusal.Unverified) (λ (edges : Edges). ⊥)
       by (Ok taken) = tt
       by (Err why) = tt
 
@@ -80,7 +80,7 @@ module _ (run : Run) (facts : Facts) (x : Placed) (edges : Edges) (s : State) (h
 
   -- A without a value needs an input, P, PW, N and FN an output
   output_of : (p : Page) (most : Polynomial) → ((o : Option Value) → (needs_of_page p o).output ≡ true)
-      → (r : Result KnownTaken Refusal) → (r >>= λ taken. steps_of_page p taken facts) ≡ Ok most
+      → (r : Result KnownTaken RefusalReason) → (r >>= λ taken. steps_of_page p taken facts) ≡ Ok most
       → IfOk (r >>= λ taken. Ok (needs_of_page p taken.value)) (λ need. AreOpen need s.world.files) → IsOpen s.world
   output_of p most o (Err why) m i = absurd (cc)
   output_of p most o (Ok taken) m i = i.output (o taken.value)
@@ -89,7 +89,7 @@ module _ (run : Run) (facts : Facts) (x : Placed) (edges : Edges) (s : State) (h
       → ((o : Option Value) → (needs_of_page p o).output ≡ true) → IsOpen s.world
   page_output p most e m o = output_of p most o _ m (needed (kind.Page p) e)
 
-  input_of : (most : Polynomial) (r : Result KnownTaken Refusal) (c : Result Taken Code)
+  input_of : (most : Polynomial) (r : Result KnownTaken RefusalReason) (c : Result Taken Code)
       → Covers (IsTaken (fore_of kept) (back_of kept)) r c
       → (r >>= λ taken. steps_of_page page.Append taken facts) ≡ Ok most
       → IfOk (r >>= λ taken. Ok (needs_of_page page.Append taken.value)) (λ need. AreOpen need s.world.files)
@@ -120,7 +120,7 @@ module _ (run : Run) (facts : Facts) (x : Placed) (edges : Edges) (s : State) (h
   one_step most m = let e : number 1 ≡ most = cc in
       subst (λ (p : Polynomial). 1 ≤ value p run.n) e (omega (arith, value-number 1 run.n))
 
-  one_taken : (most : Polynomial) (r : Result KnownTaken Refusal) → (r >>= λ taken. Ok (number 1)) ≡ Ok most
+  one_taken : (most : Polynomial) (r : Result KnownTaken RefusalReason) → (r >>= λ taken. Ok (number 1)) ≡ Ok most
       → 1 ≤ value most run.n
   one_taken most (Ok taken) m = one_step most m
   one_taken most (Err why) m = absurd (cc)

@@ -9,7 +9,7 @@ use Rattle.teco_law_facts.proofs.Prelude.{back_of, Position, Answer, Facts, Iter
 use Rattle.teco_law_facts.proofs.Prelude.{without_arguments, Edges, facts_taken, leaving, entering, none_pending}
 use Rattle.teco_law_facts.proofs.Prelude.{IsTold, Tells, IsReached, number_needed, LeavingOr, EntersOr, EndsTurn}
 use Rattle.teco_law_facts.proofs.Prelude.{IsValue, IsWithin, interval_of, Numbers, Positive, NotPositive}
-use Rattle.teco_law_facts.proofs.Prelude.{Takes, position_by, way, Refusal, Value}
+use Rattle.teco_law_facts.proofs.Prelude.{Takes, position_by, way, RefusalReason, Value}
 use Rattle.teco_model.specs.Arguments as model
 use Rattle.teco_model.specs.Effect as effect
 use Rattle.teco_model.specs.Flow.{leaves}
@@ -30,32 +30,37 @@ use Rattle.teco_law_facts.specs.SoundFlow.{IterationsAreSound, AreTurns, TurnsAr
 use Rattle.teco_law_facts.specs.SoundFlow.{TurnEndsAreSound, TagsAreSound, OthersAreSound}
 use Rattle.teco_verifier.specs.facts.Transfer as transfers
 use Rattle.teco_verifier.specs.facts.Ways.{holding, other}
-use Rattle.teco_verifier.specs.declared.refusal.Refusal.TheVariants as refusal
+use Rattle.teco_verifier.specs.declared.refusal.RefusalReason.TheVariants as refusal
 
 -- ---- steps
-pub tells_then : {X Y A : Type 0} (P : X → Y → Type 0) (Q : A → Y → Type 0) (r : Result X Refusal) (c : Result Y Code)
-    (f : X → Result A Refusal) → Covers P r c → ((x : X) (y : Y) → P x y → Tells Q (f x) (Ok y)) → Tells Q (r >>= f) c
+pub tells_then : {X Y A : Type 0} (P : X → Y → Type 0) (Q : A → Y → Type 0) (r : Result X RefusalReason)
+    (c : Result Y Code)
+    (f : X → Result A RefusalReason) → Covers P r c → ((x : X) (y : Y) → P x y → Tells Q (f x) (Ok y))
+    → Tells Q (r >>= f) c
 tells_then P Q (Ok x) (Ok y) f h k = k x y h
 tells_then P Q (Ok x) (Err e) f h k = absurd h
 tells_then P Q (Err e) c f h k = tt
 
-passes : {X Y A : Type 0} (Q : A → Y → Type 0) (r : Result X Refusal) (c : Result Y Code) (f : X → Result A Refusal)
+passes : {X Y A : Type 0} (Q : A → Y → Type 0) (r : Result X RefusalReason) (c : Result Y Code) (f : X
+    → Result A RefusalReason)
     → ((x : X) → Tells Q (f x) c) → Tells Q (r >>= f) c
 passes Q (Ok x) c f k = k x
 passes Q (Err e) c f k = tt
 
-passes_with : {X Y A : Type 0} (P : X → Type 0) (Q : A → Y → Type 0) (r : Result X Refusal) (c : Result Y Code) (f : X
-    → Result A Refusal) → IfOk r P → ((x : X) → P x → Tells Q (f x) c) → Tells Q (r >>= f) c
+passes_with : {X Y A : Type 0} (P : X → Type 0) (Q : A → Y → Type 0) (r : Result X RefusalReason) (c : Result Y Code)
+    (f : X
+    → Result A RefusalReason) → IfOk r P → ((x : X) → P x → Tells Q (f x) c) → Tells Q (r >>= f) c
 passes_with P Q (Ok x) c f h k = k x h
 passes_with P Q (Err e) c f h k = tt
 
-weaker : {X Y : Type 0} (P Q : X → Y → Type 0) (r : Result X Refusal) (c : Result Y Code)
+weaker : {X Y : Type 0} (P Q : X → Y → Type 0) (r : Result X RefusalReason) (c : Result Y Code)
     → ((x : X) (y : Y) → P x y → Q x y) → Covers P r c → Covers Q r c
 weaker P Q (Ok x) (Ok y) k h = k x y h
 weaker P Q (Ok x) (Err e) k h = h
 weaker P Q (Err e) c k h = tt
 
-always : {X Y : Type 0} (P : X → Y → Type 0) (r : Result X Refusal) (y : Y) → ((x : X) → P x y) → Covers P r (Ok y)
+always : {X Y : Type 0} (P : X → Y → Type 0) (r : Result X RefusalReason) (y : Y) → ((x : X) → P x y)
+    → Covers P r (Ok y)
 always P (Ok x) y h = h x
 always P (Err e) y h = tt
 
@@ -91,7 +96,7 @@ abbrev number_in : Level → Result ℤ Code
 number_in level = model.arguments_of level >>= λ taken. effect.needed_value taken.value
 
 told_by : (run : Run) (o : Option Answer) (fore back unread : ℕ) (pairs : List Pair) (level : Level)
-    (r : Result Value Refusal) → Answers run o fore back unread pairs level
+    (r : Result Value RefusalReason) → Answers run o fore back unread pairs level
     → Covers (IsValue fore back) r (number_in level)
     → Covers (λ s v. IsTold run o s fore back unread pairs v) r (number_in level)
 told_by run None fore back unread pairs level r a c = weaker (IsValue fore back) _ r (number_in level) (λ s v i. i.is) c
@@ -300,7 +305,7 @@ module _ (run : Run) (facts : Facts) (unread : ℕ) (kept : Kept) (arguments : m
   bounded_sum : (p : Polynomial) (k : ℕ) (v : ℤ) → v ≤ℤ (pos (value p run.n) +ℤ pos k)
       → IfOk (sum_of p (number k)) (λ most. v ≤ℤ pos (value most run.n))
   bounded_sum p k v b = on_sum _ (value-sum_of run.n p (number k)) where
-    on_sum : (r : Result Polynomial Refusal)
+    on_sum : (r : Result Polynomial RefusalReason)
         → IfOk r (λ most. value most run.n ≡ value p run.n + value (number k) run.n)
         → IfOk r (λ most. v ≤ℤ pos (value most run.n))
     on_sum (Ok most) e = omega (arith, ints, value-number k run.n)
@@ -309,7 +314,7 @@ module _ (run : Run) (facts : Facts) (unread : ℕ) (kept : Kept) (arguments : m
   bounded_both : (k : ℕ) (v : ℤ) → v ≤ℤ (pos (value facts.held run.n + value facts.held run.n) +ℤ pos k)
       → IfOk (sum_of facts.held facts.held >>= λ both. sum_of both (number k)) (λ most. v ≤ℤ pos (value most run.n))
   bounded_both k v b = on_sum _ (value-sum_of run.n facts.held facts.held) where
-    on_sum : (r : Result Polynomial Refusal)
+    on_sum : (r : Result Polynomial RefusalReason)
         → IfOk r (λ both. value both run.n ≡ value facts.held run.n + value facts.held run.n)
         → IfOk (r >>= λ both. sum_of both (number k)) (λ most. v ≤ℤ pos (value most run.n))
     on_sum (Ok both) e = bounded_sum both k v (omega (arith, ints))
@@ -379,13 +384,13 @@ module _ (run : Run) (facts : Facts) (unread : ℕ) (kept : Kept) (arguments : m
 
   ahead_and_one : IfOk (sum_of facts.position.ahead (number 1)) (λ most. fore_of kept + unread + 1 ≤ value most run.n)
   ahead_and_one = on_sum _ (value-sum_of run.n facts.position.ahead (number 1)) where
-    on_sum : (r : Result Polynomial Refusal)
+    on_sum : (r : Result Polynomial RefusalReason)
         → IfOk r (λ most. value most run.n ≡ value facts.position.ahead run.n + value (number 1) run.n)
         → IfOk r (λ most. fore_of kept + unread + 1 ≤ value most run.n)
     on_sum (Ok most) e = omega (arith, value-number 1 run.n, d.state.position.ahead)
     on_sum (Err why) e = tt
 
-  turned : (r : Result Polynomial Refusal) (taken : Taken)
+  turned : (r : Result Polynomial RefusalReason) (taken : Taken)
       → IfOk r (λ most. AreTurns (value most run.n) (fore_of kept + unread) taken.value)
       → Tells (λ most (taken : Taken). AreTurns (value most run.n) (fore_of kept + unread) taken.value) r (Ok taken)
   turned (Ok most) taken h = λ l. h
@@ -465,7 +470,7 @@ module _ (run : Run) (facts : Facts) (unread : ℕ) (kept : Kept) (arguments : m
       (model.arguments_of arguments.level)
   gone leaves = tells_then (IsTaken (fore_of kept) (back_of kept)) _ _ _ _ taking_is
       (λ known taken i. alone_on _ taken (tagged leaves known.value taken.value i.value)) where
-        alone_on : (r : Result (Unit {0}) Refusal) (taken : Taken)
+        alone_on : (r : Result (Unit {0}) RefusalReason) (taken : Taken)
             → IfOk r (λ alone. (taken.value ≡ None) × Describes (run_behind leaves run)
             (leaving leaves (transfers.without_answer facts)) unread kept model.no_arguments)
             → Tells (λ (edges : Edges) (taken : Taken). (taken.value ≡ None)

@@ -7,7 +7,7 @@ use Rattle.teco_law_facts.proofs.Prelude.{◌>>=◌, Run, run_behind, run_in_tur
 use Rattle.teco_law_facts.proofs.Prelude.{at_position, without_arguments, Edges, none_pending, Succeeds, Leads, Arrives}
 use Rattle.teco_law_facts.proofs.Prelude.{ArrivesOn, IsReached, number_needed, LeavingOr, EntersOr, EndsTurn, unread_of}
 use Rattle.teco_law_facts.proofs.Prelude.{ComesTo, Comes, LeadsAhead, IsInside, FlowStands, BeginsAt, GoesBehind}
-use Rattle.teco_law_facts.proofs.Prelude.{FlowGoes, Placed, transfer, Numbers, way, Refusal, Value}
+use Rattle.teco_law_facts.proofs.Prelude.{FlowGoes, Placed, transfer, Numbers, way, RefusalReason, Value}
 use Rattle.std.specs.Prelude.{is_some}
 use Rattle.teco_base.specs.declared.code.Code.TheVariants as code
 use Rattle.teco_model.specs.Arguments as model
@@ -27,11 +27,12 @@ use Rattle.teco_law_facts.specs.SoundSteps.{is_last, run_begun}
 use Rattle.teco_verifier.specs.facts.Transfer as transfers
 
 -- ---- steps
-pub leads_at : {X Y : Type 0} (L : X → Type 0) (Q : X → Y → Type 0) (r : Result X Refusal) (c : Result Y Code) (x : X)
+pub leads_at : {X Y : Type 0} (L : X → Type 0) (Q : X → Y → Type 0) (r : Result X RefusalReason) (c : Result Y Code)
+    (x : X)
     → r ≡ Ok x → L x → Leads L Q r c → Succeeds (Q x) c
 leads_at L Q r c x e l h = let h : Leads L Q (Ok x) c = subst (λ r. Leads L Q r c) e h in h l
 
-pub ok_at : {X : Type 0} (P : X → Type 0) (r : Result X Refusal) (x : X) → r ≡ Ok x → IfOk r P → P x
+pub ok_at : {X : Type 0} (P : X → Type 0) (r : Result X RefusalReason) (x : X) → r ≡ Ok x → IfOk r P → P x
 ok_at P r x e h = subst (λ r. IfOk r P) e h
 
 pub then_so : {X Y : Type 0} (P : X → Type 0) (Q : Y → Type 0) (r : Result X Code) (f : X → Result Y Code)
@@ -106,7 +107,7 @@ ended_held : (iterations : List Iteration) (facts : Facts) → IfOk (edge.turn_e
 ended_held [] facts = tt
 ended_held (i ∷ outer) facts = (if_held i.counted facts (edge.leaving 1 facts) refl, refl)
 
-left_or_held : (a b : Numbers) (answer : Option Answer) (facts : Facts) (r : Result Value Refusal)
+left_or_held : (a b : Numbers) (answer : Option Answer) (facts : Facts) (r : Result Value RefusalReason)
     → IfOk (r >>= λ n. Ok (record {
       on = way a answer n (edge.facts_taken facts);
       away = option_map (edge.leaving 1) (way b answer n (edge.facts_taken facts));
@@ -114,7 +115,7 @@ left_or_held : (a b : Numbers) (answer : Option Answer) (facts : Facts) (r : Res
 left_or_held a b answer facts (Ok n) = (way_held _ (edge.facts_taken facts), left_held _ (edge.facts_taken facts))
 left_or_held a b answer facts (Err why) = tt
 
-tested_held : (a b : Numbers) (answer : Option Answer) (facts : Facts) (r : Result Value Refusal)
+tested_held : (a b : Numbers) (answer : Option Answer) (facts : Facts) (r : Result Value RefusalReason)
     → IfOk (r >>= λ n. Ok (record {
       on = way a answer n (edge.facts_taken facts);
       away = way b answer n (edge.facts_taken facts);
@@ -122,7 +123,7 @@ tested_held : (a b : Numbers) (answer : Option Answer) (facts : Facts) (r : Resu
 tested_held a b answer facts (Ok n) = (way_held _ (edge.facts_taken facts), way_held _ (edge.facts_taken facts))
 tested_held a b answer facts (Err why) = tt
 
-gone_held : (leaves : ℕ) (facts : Facts) (r : Result (Unit {0}) Refusal)
+gone_held : (leaves : ℕ) (facts : Facts) (r : Result (Unit {0}) RefusalReason)
     → IfOk (r >>= λ alone. Ok (edge.goes_away (edge.leaving leaves facts))) (KeepsHeld facts)
 gone_held leaves facts (Ok u) = (tt, refl)
 gone_held leaves facts (Err why) = tt

@@ -1,7 +1,7 @@
 -- No text of the library is written.
 use Rattle.teco_law_facts.proofs.Prelude.{◌≡◌, ℕ, true, refl, sym, subst, List, Option, Some, None, Result, Ok, Err}
 use Rattle.teco_law_facts.proofs.Prelude.{Kind, KnownTaken, ◌>>=◌, Facts, with_arguments, Foreseen, Placed, transfer}
-use Rattle.teco_law_facts.proofs.Prelude.{edges_of, answer_for, without_answer, Refusal, Value}
+use Rattle.teco_law_facts.proofs.Prelude.{edges_of, answer_for, without_answer, RefusalReason, Value}
 use Rattle.std.specs.Prelude.{IsErr}
 use Rattle.teco_model.specs.declared.kind.Command.TheVariants as command
 use Rattle.teco_model.specs.declared.kind.Kind.TheVariants as kind
@@ -14,17 +14,17 @@ use Rattle.teco_verifier.specs.facts.Transfer.{after_taking}
 use Rattle.teco_verifier.specs.facts.Transfer.{execution, on}
 use Rattle.teco_verifier.specs.facts.Typings.{part_named}
 
-refused_then : {X Y : Type 0} (r : Result X Refusal) (f : X → Result Y Refusal) → IsErr r → IsErr (r >>= f)
+refused_then : {X Y : Type 0} (r : Result X RefusalReason) (f : X → Result Y RefusalReason) → IsErr r → IsErr (r >>= f)
 refused_then (Err why) f h = refl
 refused_then (Ok x) f h = absurd (cc)
 
-then_refused : {X Y : Type 0} (r : Result X Refusal) (f : X → Result Y Refusal) → ((x : X) → IsErr (f x))
+then_refused : {X Y : Type 0} (r : Result X RefusalReason) (f : X → Result Y RefusalReason) → ((x : X) → IsErr (f x))
     → IsErr (r >>= f)
 then_refused (Ok x) f h = h x
 then_refused (Err why) f h = refl
 
 -- after the arguments are taken
-taking_refused : (act : KnownTaken → Facts → Result Foreseen Refusal) (facts : Facts)
+taking_refused : (act : KnownTaken → Facts → Result Foreseen RefusalReason) (facts : Facts)
     → ((taken : KnownTaken) (facts : Facts) → IsErr (act taken facts)) → IsErr (on (after_taking act facts))
 taking_refused act facts h = refused_then (after_taking act facts) _
     (then_refused (arguments_of facts.arguments.level) _

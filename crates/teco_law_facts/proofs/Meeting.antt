@@ -3,7 +3,7 @@ use Rattle.teco_law_facts.proofs.Prelude.{◌≡◌, ℕ, ◌≤◌, arith, refl
 use Rattle.teco_law_facts.proofs.Prelude.{Ok, Err, IfOk, ok_or, ◌+◌, ℤ, ints, clamps, Polynomial, value, ◌>>=◌, Run}
 use Rattle.teco_law_facts.proofs.Prelude.{IsAt, AreEach, HasFallen, ArePushed, ArePending, fore_of, back_of, Position}
 use Rattle.teco_law_facts.proofs.Prelude.{Pushed, Facts, without_arguments, joined_saved, none_pending, Interval, Value}
-use Rattle.teco_law_facts.proofs.Prelude.{KnownLevel, KnownArguments, ok_then, Arguments, Pair, Operator, Refusal}
+use Rattle.teco_law_facts.proofs.Prelude.{KnownLevel, KnownArguments, ok_then, Arguments, Pair, Operator, RefusalReason}
 use Rattle.teco_poly.proofs.Lawful.{value_of_join}
 use Rattle.teco_poly.specs.Polynomial.{join}
 use Rattle.teco_verifier.specs.facts.Facts.{join_of}
@@ -13,7 +13,7 @@ use Rattle.teco_law_facts.specs.Laws.{MayMeet, MeetsBoth, JoinsAreSound}
 use Rattle.teco_verifier.specs.facts.Arguments.{no_arguments}
 use Rattle.teco_law_facts.proofs.Each.{IsNumber, IsText}
 use Rattle.teco_law_facts.proofs.Saved.{saved_left, saved_right}
-use Rattle.teco_verifier.specs.declared.refusal.Refusal.TheVariants as refusal
+use Rattle.teco_verifier.specs.declared.refusal.RefusalReason.TheVariants as refusal
 
 -- ---- polynomials
 pub record IsAbove (n : ℕ) (p q r : Polynomial) : Type 0 where
@@ -65,7 +65,7 @@ pub record IsJoin (run : Run) (p q j : Position) : Type 0 where
       → IsAt run j fore back unread pairs
 
 position_with : (run : Run) (p q : Position) → length p.falls ≡ length q.falls → length p.saved ≡ length q.saved
-    → (r : Result Polynomial Refusal) → IfOk r (IsAbove run.n p.ahead q.ahead)
+    → (r : Result Polynomial RefusalReason) → IfOk r (IsAbove run.n p.ahead q.ahead)
     → IfOk (r >>= λ ahead. Ok (record {
       distances = nearer_of p.distances q.distances;
       falls = smaller_falls p.falls q.falls;
@@ -119,8 +119,8 @@ pub record AreAbove (ps qs rs : List Polynomial) : Type 0 where
   pub left : (n : ℕ) (pairs : List Pair) → AreEach (IsText n) ps pairs → AreEach (IsText n) rs pairs
   pub right : (n : ℕ) (pairs : List Pair) → AreEach (IsText n) qs pairs → AreEach (IsText n) rs pairs
 
-put_before : (p q : Polynomial) (ps qs : List Polynomial) (r : Result Polynomial Refusal)
-    (rs : Result (List Polynomial) Refusal) → ((n : ℕ) → IfOk r (IsAbove n p q)) → IfOk rs (AreAbove ps qs)
+put_before : (p q : Polynomial) (ps qs : List Polynomial) (r : Result Polynomial RefusalReason)
+    (rs : Result (List Polynomial) RefusalReason) → ((n : ℕ) → IfOk r (IsAbove n p q)) → IfOk rs (AreAbove ps qs)
     → IfOk (r >>= λ join. rs >>= λ joins. Ok (join ∷ joins)) (AreAbove (p ∷ ps) (q ∷ qs))
 put_before p q ps qs (Err why) rs a b = tt
 put_before p q ps qs (Ok r) (Err why) a b = tt
@@ -144,7 +144,8 @@ pub record ArePushedBoth (ss ts js : List Pushed) : Type 0 where
   pub left : (n : ℕ) (below stack : List Pair) → ArePushed n below ss stack → ArePushed n below js stack
   pub right : (n : ℕ) (below stack : List Pair) → ArePushed n below ts stack → ArePushed n below js stack
 
-push_before : (s t : Pushed) (ss ts : List Pushed) (r : Result Polynomial Refusal) (js : Result (List Pushed) Refusal)
+push_before : (s t : Pushed) (ss ts : List Pushed) (r : Result Polynomial RefusalReason)
+    (js : Result (List Pushed) RefusalReason)
     → ((n : ℕ) → IfOk r (IsAbove n s.text t.text)) → IfOk js (ArePushedBoth ss ts)
     → IfOk ((r >>= λ text. Ok (record { number = hull s.number t.number; text = text })) >>= λ pair. js >>= λ pairs.
     Ok (pair ∷ pairs)) (ArePushedBoth (s ∷ ss) (t ∷ ts))
@@ -256,12 +257,12 @@ met facts others m p q pushes s position j held a texts t = record {
   };
 }
 
-all_above : (p q : Polynomial) (r : Result Polynomial Refusal) → ((n : ℕ) → IfOk r (IsAbove n p q))
+all_above : (p q : Polynomial) (r : Result Polynomial RefusalReason) → ((n : ℕ) → IfOk r (IsAbove n p q))
     → IfOk r (λ j. (n : ℕ) → IsAbove n p q j)
 all_above p q (Ok j) h = h
 all_above p q (Err why) h = tt
 
-all_joins : (p q : Position) (r : Result Position Refusal) → ((run : Run) → IfOk r (IsJoin run p q))
+all_joins : (p q : Position) (r : Result Position RefusalReason) → ((run : Run) → IfOk r (IsJoin run p q))
     → IfOk r (λ j. (run : Run) → IsJoin run p q j)
 all_joins p q (Ok j) h = h
 all_joins p q (Err why) h = tt

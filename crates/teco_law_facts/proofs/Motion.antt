@@ -5,7 +5,7 @@ use Rattle.teco_law_facts.proofs.Prelude.{IfSome, IfOk, Bool, true, false, ◌||
 use Rattle.teco_law_facts.proofs.Prelude.{nat_tests, LIMIT, Element, place_in, Kept, Taken, ok_then, KnownTaken, Run}
 use Rattle.teco_law_facts.proofs.Prelude.{IsWhole, Holds, IsTaken, IsOptional, fore_of, back_of, Facts, nowhere, Shift}
 use Rattle.teco_law_facts.proofs.Prelude.{moving, IsIn, IsWithin, IsPlaceIf, single, size, minus, least, IsValue}
-use Rattle.teco_law_facts.proofs.Prelude.{value_in, Refusal, Distances, Interval, Value, number}
+use Rattle.teco_law_facts.proofs.Prelude.{value_in, RefusalReason, Distances, Interval, Value, number}
 use Rattle.std.proofs.Common.{unsigned_abs, is_ok}
 use Rattle.teco_base.specs.Lines.{line_place}
 use Rattle.teco_model.specs.Effect.{with_answer}
@@ -21,7 +21,7 @@ use Rattle.teco_verifier.specs.facts.Motions as row
 use Rattle.teco_verifier.specs.facts.Shifts as shifts
 use Rattle.teco_verifier.specs.facts.Values.{pointer}
 use Rattle.teco_verifier.specs.facts.Values.{distance_of}
-use Rattle.teco_verifier.specs.declared.refusal.Refusal.TheVariants as refusal
+use Rattle.teco_verifier.specs.declared.refusal.RefusalReason.TheVariants as refusal
 
 -- ---- what may be absent
 pub or_single : (fore back : ℕ) (o : Option Value) (v : Option ℤ) (d : ℤ) → IsOptional (IsValue fore back) o v
@@ -32,18 +32,18 @@ or_single fore back None (Some v) d h = absurd h
 or_single fore back (Some s) None d h = absurd h
 
 -- ---- least distances
-known_if : (b : Bool) (why : Refusal) (m v : ℤ) → int_lt m (pos 0) ≡ b → m ≤ℤ v
+known_if : (b : Bool) (why : RefusalReason) (m v : ℤ) → int_lt m (pos 0) ≡ b → m ≤ℤ v
     → IfOk (shifts.known_distance why (cond b None (Some (min (unsigned_abs m) LIMIT)))) (λ m. pos m ≤ℤ v)
 known_if true why m v e h = tt
 known_if false why (pos m) v e h = omega (arith, ints)
 known_if false why (negsuc m) v e h = absurd (omega (arith, ints))
 
-known_at : (why : Refusal) (o : Option ℤ) (v : ℤ) → IfSome o (λ m. m ≤ℤ v)
+known_at : (why : RefusalReason) (o : Option ℤ) (v : ℤ) → IfSome o (λ m. m ≤ℤ v)
     → IfOk (shifts.known_distance why (distance_of o)) (λ m. pos m ≤ℤ v)
 known_at why None v h = tt
 known_at why (Some m) v h = known_if _ why m v refl h
 
-pub distance_at : (why : Refusal) (s : Value) (distances : Distances) (fore back : ℕ) (v : ℤ)
+pub distance_at : (why : RefusalReason) (s : Value) (distances : Distances) (fore back : ℕ) (v : ℤ)
     → AreLeast distances fore back → IsIn s fore back v → IfOk (shifts.distance why s distances) (λ m. pos m ≤ℤ v)
 distance_at why s distances fore back v b h = known_at why (least s distances) v (least_in s distances fore back v b h)
 
@@ -87,7 +87,7 @@ module _ (run : Run) (facts : Facts) (unread : ℕ) (kept : Kept) (whole : IsWho
       }))
 
   -- a saved place is one of the buffer
-  placed_or_saved : (b : Bool) (r : Result Shift Refusal) (z : ℤ) → IfOk r (IsPlaced z)
+  placed_or_saved : (b : Bool) (r : Result Shift RefusalReason) (z : ℤ) → IfOk r (IsPlaced z)
       → IsPlaceIf b (fore_of kept) (back_of kept) z → IfOk (row.shift_or_saved b r) (IsPlaced z)
   placed_or_saved b (Ok shift) z p i = p
   placed_or_saved true (Err why) z p i = record {
@@ -102,7 +102,7 @@ module _ (run : Run) (facts : Facts) (unread : ℕ) (kept : Kept) (whole : IsWho
   pub place_known : (s : Value) (z : ℤ) → IsValue (fore_of kept) (back_of kept) s z
       → IsPlaceIf (shifts.is_place s facts.position.distances) (fore_of kept) (back_of kept) z
   place_known s z i = known_place s.saved _ i.saved (placed_is s z i.is) where
-    known_place : (b : Bool) (r : Result Shift Refusal) → IsPlaceIf b (fore_of kept) (back_of kept) z
+    known_place : (b : Bool) (r : Result Shift RefusalReason) → IsPlaceIf b (fore_of kept) (back_of kept) z
         → IfOk r (IsPlaced z) → IsPlaceIf (b || is_ok r) (fore_of kept) (back_of kept) z
     known_place true r q p = q
     known_place false (Ok shift) q p = (omega (arith, ints, p.begin), omega (arith, ints, p.end, whole.inside))

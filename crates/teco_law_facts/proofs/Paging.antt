@@ -4,7 +4,7 @@ use Rattle.teco_law_facts.proofs.Prelude.{List, [], ◌∷◌, ◌++◌, length,
 use Rattle.teco_law_facts.proofs.Prelude.{◌==◌, Option, Some, None, option_map, Result, Ok, Err, IfOk, MatchOption}
 use Rattle.teco_law_facts.proofs.Prelude.{ok_or, unwrap_or, option_map_or, ints, nat_tests, LIMIT, REGISTERS, FF, Code}
 use Rattle.teco_law_facts.proofs.Prelude.{Taken, part_named, Part, Placed, transfer, Page, after, KnownTaken, ◌>>=◌}
-use Rattle.teco_law_facts.proofs.Prelude.{count_of, IsWithin, IsValue, Value, Edges, facts_taken, Refusal, Input}
+use Rattle.teco_law_facts.proofs.Prelude.{count_of, IsWithin, IsValue, Value, Edges, facts_taken, RefusalReason, Input}
 use Rattle.teco_law_facts.proofs.Prelude.{Output, behind_form_feed, first_page, unread, unread_of, Kept, World}
 use Rattle.teco_law_facts.proofs.Prelude.{Polynomial, value, number, Run, IsWhole, Holds, Describes, IsTaken}
 use Rattle.teco_law_facts.proofs.Prelude.{IsOptional, ArePending, fore_of, back_of, Facts, nowhere, none_saved, moving}
@@ -26,7 +26,7 @@ use Rattle.teco_law_facts.proofs.Pending.{settled_are}
 use Rattle.teco_law_facts.proofs.Leading.{taken_lead, succeeds_with}
 use Rattle.teco_law_facts.proofs.Transfers.{pending_again, without_answer}
 use Rattle.teco_verifier.specs.facts.Arguments as known
-use Rattle.teco_verifier.specs.declared.refusal.Refusal.TheVariants as refusal
+use Rattle.teco_verifier.specs.declared.refusal.RefusalReason.TheVariants as refusal
 use Rattle.teco_verifier.specs.facts.Transfer as transfers
 use Rattle.teco_model.specs.Files.{Files}
 use Rattle.teco_model.specs.Pages.{before_form_feed, behind_first_page, written_page}
@@ -217,12 +217,13 @@ module _ (run : Run) (facts : Facts) (world : World) (pending : arguments.Argume
   some_known false o v e w = tt
 
   -- what is true where the facts behind an element fit
-  abbrev FitsThen : (Edges → Type 0) → Result Foreseen Refusal → Type 0
+  abbrev FitsThen : (Edges → Type 0) → Result Foreseen RefusalReason → Type 0
   FitsThen P known = IfOk (transfers.on (known >>= λ known. Ok (facts_answered known)))
       (λ edges. FitsOn run.n edges → P edges)
 
   -- what is checked first
-  checked_then : (Q : Edges → Type 0) (P : Type 0) (r : Result (Unit {0}) Refusal) (known : Result Foreseen Refusal)
+  checked_then : (Q : Edges → Type 0) (P : Type 0) (r : Result (Unit {0}) RefusalReason)
+      (known : Result Foreseen RefusalReason)
       → IfOk r (λ u. P) → (P → FitsThen Q known) → FitsThen Q (r >>= λ u. known)
   checked_then Q P (Ok u) known h k = k h
   checked_then Q P (Err why) known h k = tt
@@ -289,7 +290,7 @@ module _ (run : Run) (facts : Facts) (world : World) (pending : arguments.Argume
         (Parts.both_named run taking (unread_of world) world.kept whole taking_holds s t v w i.is j.is)
 
     by_count : (Q : Edges → Type 0) (o : Option Value) (v : Option ℤ) → IsGiven o v
-        → (known : Result Foreseen Refusal) → (pos 1 ≤ℤ unwrap_or v (pos 1) → FitsThen Q known)
+        → (known : Result Foreseen RefusalReason) → (pos 1 ≤ℤ unwrap_or v (pos 1) → FitsThen Q known)
         → FitsThen Q (row.some_pages (count_of o facts.position.distances) >>= λ some. known)
     by_count Q o v i known = checked_then Q _ _ known
         (some_known _ o v refl (of_count run taking (unread_of world) world.kept whole taking_holds o v i))
@@ -297,7 +298,7 @@ module _ (run : Run) (facts : Facts) (world : World) (pending : arguments.Argume
     -- P
     turned_if : (m v : Option ℤ)
         → model.pages_of model.page_turned m v world ≡ (model.page_count (unwrap_or v (pos 1)) >>= λ n.
-        model.one_page_of model.page_turned n world) → (sum : Result Polynomial Refusal)
+        model.one_page_of model.page_turned n world) → (sum : Result Polynomial RefusalReason)
         → IfOk sum (λ held. value held run.n ≡ value facts.held run.n + value (number 0) run.n)
         → pos 1 ≤ℤ unwrap_or v (pos 1) → FitsThen (Turns m v)
         ((sum >>= λ held. Ok (facts_behind (ending (moving nowhere (Some (pos 0)))) held taking)) >>= λ known.
@@ -414,7 +415,7 @@ module _ (run : Run) (facts : Facts) (world : World) (pending : arguments.Argume
       (after world.kept (arguments.levels_after_answer (Some (character n world.kept))
       (arguments.levels_after_taking pending)))))
 
-  page_added : (sum : Result Polynomial Refusal)
+  page_added : (sum : Result Polynomial RefusalReason)
       → IfOk sum (λ held. value held run.n ≡ value facts.held run.n + value (number 0) run.n)
       → FitsThen (AppendsBy None)
       ((sum >>= λ held. Ok (facts_behind (moving facts.position.distances (Some (pos 0))) held taking)) >>= λ known.

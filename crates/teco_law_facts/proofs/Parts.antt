@@ -2,7 +2,7 @@
 use Rattle.teco_law_facts.proofs.Prelude.{◌≡◌, ℕ, ◌≤◌, arith, ap, ℤ, pos, negsuc, length, Option, Some, None, Result}
 use Rattle.teco_law_facts.proofs.Prelude.{Ok, Err, IfOk, true, cond, nat_le, ⊤, ints, nat_tests, Code, Effect, place_in}
 use Rattle.teco_law_facts.proofs.Prelude.{part_named, Kept, Part, ok_then, ◌>>=◌, Run, IsWhole, Holds, IsOptional}
-use Rattle.teco_law_facts.proofs.Prelude.{fore_of, back_of, Facts, Foreseen, Shift, IsValue, IsIn, Refusal, Value}
+use Rattle.teco_law_facts.proofs.Prelude.{fore_of, back_of, Facts, Foreseen, Shift, IsValue, IsIn, RefusalReason, Value}
 use Rattle.teco_law_facts.proofs.Motion.{IsPlaced, placed_is}
 use Rattle.teco_law_facts.proofs.Shapes.{IsDone, Foretells}
 use Rattle.teco_law_facts.proofs.Leading.{leads_given}
@@ -42,7 +42,7 @@ module _ (run : Run) (facts : Facts) (unread : ℕ) (kept : Kept) (whole : IsWho
       ok_then (IsPlaced run facts unread kept whole h w) (λ u. Comes (part_named (Some v) (Some w) kept)) _ _
       (placed_is run facts unread kept whole h t w j) (λ to q. both_in v w from to p q))
 
-  part_leads : (known : Result Foreseen Refusal) (go_on : Part → Result Effect Code)
+  part_leads : (known : Result Foreseen RefusalReason) (go_on : Part → Result Effect Code)
       → ((part : Part) → Foretells run facts unread kept known (go_on part)) → (part : Result Part Code) → Comes part
       → Foretells run facts unread kept known (part >>= go_on)
   part_leads known go_on k (Ok part) c = k part
@@ -51,7 +51,7 @@ module _ (run : Run) (facts : Facts) (unread : ℕ) (kept : Kept) (whole : IsWho
   -- a part that is named leads on
   pub parts_lead : (f o : Option Value) (m v : Option ℤ) → IsOptional (IsValue (fore_of kept) (back_of kept)) f m
       → IsOptional (IsValue (fore_of kept) (back_of kept)) o v
-      → (known : Result Foreseen Refusal) (go_on : Part → Result Effect Code)
+      → (known : Result Foreseen RefusalReason) (go_on : Part → Result Effect Code)
       → ((part : Part) → Foretells run facts unread kept known (go_on part))
       → Foretells run facts unread kept (typings.part_named f o facts.position.distances >>= λ named. known)
       (part_named m v kept >>= go_on)

@@ -4,7 +4,7 @@ use Rattle.teco_law_facts.proofs.Prelude.{cond, map, ok_or, Result, Ok, Err, Opt
 use Rattle.teco_law_facts.proofs.Prelude.{ints, SFits-int_wrap, and, or, Code, needed_value, Level, Operator, Plus}
 use Rattle.teco_law_facts.proofs.Prelude.{Minus, Times, Over, And, Or, ◌>>=◌, KnownLevel, KnownArguments, IsOptional}
 use Rattle.teco_law_facts.proofs.Prelude.{IsLevel, ArePending, AreEach, IsTaken, single, value_in, plus, minus}
-use Rattle.teco_law_facts.proofs.Prelude.{interval_of, IsValue, IsPlaceIf, Refusal, Distances, Interval, Value}
+use Rattle.teco_law_facts.proofs.Prelude.{interval_of, IsValue, IsPlaceIf, RefusalReason, Distances, Interval, Value}
 use Rattle.teco_base.specs.declared.code.Code.TheVariants as code
 use Rattle.teco_model.specs.Arguments as model
 use Rattle.teco_law_facts.proofs.Numbers.{AreDistances, interval_of_in, value_in_in, sum_in, difference_in}
@@ -13,7 +13,7 @@ use Rattle.teco_law_facts.proofs.Quotients.{divided_covers, bitwise_in, and_fits
 use Rattle.teco_law_facts.proofs.Saved.{Widens, place_after}
 use Rattle.teco_law_facts.proofs.Steps.{Covers, covers_then}
 use Rattle.teco_verifier.specs.facts.Arguments as known
-use Rattle.teco_verifier.specs.declared.refusal.Refusal.TheVariants as refusal
+use Rattle.teco_verifier.specs.declared.refusal.RefusalReason.TheVariants as refusal
 
 module _ (distances : Distances) (fore back : ℕ) (b : AreDistances distances fore back) where
   pub single_in : (v : ℤ) → FitsSigned w32 v → IsValue fore back (single v) v
@@ -126,7 +126,7 @@ module _ (distances : Distances) (fore back : ℕ) (b : AreDistances distances f
       covers_then (IsLevel fore back) (IsLevel fore back) _ _ _ _ (comma_covers k level p)
       (λ k level q. give_covers t w k level i q))
 
-  pub at_level_covers : (pending : KnownArguments) (arguments : model.Arguments) (x : Result KnownLevel Refusal)
+  pub at_level_covers : (pending : KnownArguments) (arguments : model.Arguments) (x : Result KnownLevel RefusalReason)
       (y : Result Level Code) → ArePending fore back pending arguments → Covers (IsLevel fore back) x y
       → Covers (ArePending fore back) (known.with_level pending x) (model.with_level arguments y)
   at_level_covers pending arguments x y h i =

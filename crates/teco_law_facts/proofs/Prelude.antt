@@ -68,7 +68,7 @@ pub use Rattle.teco_model.specs.declared.pattern.Span.{Span, Span as Part}
 pub use Rattle.teco_model.specs.laws.Matching.{IsMatch}
 pub use Rattle.teco_poly.proofs.Lawful.{value_of_sum, values_compare, values_of_constants}
 pub use Rattle.teco_poly.specs.Polynomial.{Polynomial, add, number, value}
-pub use Rattle.teco_verifier.specs.declared.refusal.Refusal.{Refusal}
+pub use Rattle.teco_verifier.specs.declared.refusal.RefusalReason.{RefusalReason}
 pub use Rattle.teco_verifier.specs.declared.values.Distances.{Distances}
 pub use Rattle.teco_verifier.specs.declared.values.Interval.{Interval}
 pub use Rattle.teco_verifier.specs.declared.values.Value.{Value}

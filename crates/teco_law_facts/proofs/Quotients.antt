@@ -11,7 +11,7 @@ use Rattle.std.proofs.lemmas.Nat.{le-div}
 use Rattle.std.specs.Option.{ok_or}
 use Rattle.teco_base.specs.Arithmetic.{div}
 use Rattle.teco_base.specs.declared.code.Code.TheVariants as code
-use Rattle.teco_verifier.specs.declared.refusal.Refusal.TheVariants as refusal
+use Rattle.teco_verifier.specs.declared.refusal.RefusalReason.TheVariants as refusal
 use Rattle.teco_law_facts.proofs.Steps.{Covers}
 use Rattle.teco_verifier.specs.facts.Values.{interval_quotient, quotient, bitwise, is_single}
 use Rattle.teco_verifier.specs.facts.Arguments.{quotient_of}

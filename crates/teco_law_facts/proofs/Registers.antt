@@ -7,7 +7,7 @@ use Rattle.teco_law_facts.proofs.Prelude.{no_answer, needed_value, Element, Pair
 use Rattle.teco_law_facts.proofs.Prelude.{Polynomial, value, KnownTaken, ◌>>=◌, Run, IsWhole, Holds, IsAt, ArePushed}
 use Rattle.teco_law_facts.proofs.Prelude.{IsTaken, IsOptional, fore_of, back_of, Facts, Pushed, number_of, count_of}
 use Rattle.teco_law_facts.proofs.Prelude.{Foreseen, silent, Succeeds, Fits, IsWithin, IsPlaceIf, any_number}
-use Rattle.teco_law_facts.proofs.Prelude.{interval_of, interval_sum, kept_in_32_bits, IsValue, value_in, Refusal}
+use Rattle.teco_law_facts.proofs.Prelude.{interval_of, interval_sum, kept_in_32_bits, IsValue, value_in, RefusalReason}
 use Rattle.teco_law_facts.proofs.Prelude.{Interval, Value}
 use Rattle.teco_base.specs.declared.code.Code.TheVariants as code
 use Rattle.teco_model.specs.Places.{characters_of}
@@ -171,7 +171,7 @@ module _ (run : Run) (facts : Facts) (unread : ℕ) (kept : Kept) (whole : IsWho
       let fits = all_set (λ most. value most run.n ≤ LIMIT) facts.texts r most (omega (arith, whole.count)) f.texts in
       absurd (grind (arith, nat_tests))
 
-  appended : (r : ℕ) (most : Polynomial) (text : List ℕ) (sum : Result Polynomial Refusal)
+  appended : (r : ℕ) (most : Polynomial) (text : List ℕ) (sum : Result Polynomial RefusalReason)
       → IfOk sum (λ p. value p run.n ≡ value (text_of r facts) run.n + value most run.n) → r < REGISTERS
       → length text ≤ value most run.n
       → Foretells run facts unread kept (sum >>= λ p. Ok (silent (row.with_text r p facts)))
@@ -193,7 +193,7 @@ module _ (run : Run) (facts : Facts) (unread : ℕ) (kept : Kept) (whole : IsWho
   stored (suc colons) r most text w l = appended r most text _ (value-sum_of run.n (text_of r facts) most) w l
 
   -- a text of the library is refused
-  unless_library : (library : Bool) (known : Result Foreseen Refusal) (effect : Result Effect Code)
+  unless_library : (library : Bool) (known : Result Foreseen RefusalReason) (effect : Result Effect Code)
       → Foretells run facts unread kept known effect
       → Foretells run facts unread kept (row.not_of_library library >>= λ free. known) effect
   unless_library true known effect f = tt

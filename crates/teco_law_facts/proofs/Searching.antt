@@ -10,7 +10,7 @@ use Rattle.teco_law_facts.proofs.Prelude.{KnownTaken, ◌>>=◌, Run, run_behind
 use Rattle.teco_law_facts.proofs.Prelude.{IsOptional, ArePending, fore_of, back_of, Position, Facts, at_position, Edges}
 use Rattle.teco_law_facts.proofs.Prelude.{leaving, facts_taken, count_of, Shift, shifted, facts_behind, saved_after}
 use Rattle.teco_law_facts.proofs.Prelude.{fall_after, Succeeds, Leads, Arrives, FitsOn, ArrivesOn, Placed}
-use Rattle.teco_law_facts.proofs.Prelude.{IsValue, IsWithin, Refusal, Interval, Value}
+use Rattle.teco_law_facts.proofs.Prelude.{IsValue, IsWithin, RefusalReason, Interval, Value}
 use Rattle.std.specs.Prelude.{not}
 use Rattle.teco_base.specs.declared.code.Code.TheVariants as code
 use Rattle.teco_model.specs.Arguments as model
@@ -34,7 +34,7 @@ use Rattle.teco_verifier.specs.facts.Arguments as known
 use Rattle.teco_verifier.specs.facts.Searches as row
 use Rattle.teco_verifier.specs.facts.Shifts.{position_after}
 use Rattle.teco_verifier.specs.facts.Transfer as transfers
-use Rattle.teco_verifier.specs.declared.refusal.Refusal.TheVariants as refusal
+use Rattle.teco_verifier.specs.declared.refusal.RefusalReason.TheVariants as refusal
 
 -- ---- the count is at least 1
 abbrev pub Counts : Option ℤ → Option ℤ → Type 0
@@ -223,7 +223,7 @@ succeeds_then P Q (Err c) f k h = h
 
 -- a search text of a known minimum length says a pattern of at least that length
 minimum_known : {Y Z : Type 0} (L : Y → Type 0) (Q : Y → Z → Type 0) (kept : Kept) (c : ℕ) (text : List ℕ)
-    (o : Result (Option ℕ) Code) (f : ℕ → Result Facts Refusal) (g : Facts → Result Y Refusal) (k : Pattern
+    (o : Result (Option ℕ) Code) (f : ℕ → Result Facts RefusalReason) (g : Facts → Result Y RefusalReason) (k : Pattern
     → Result Z Code) → minimum (c ∷ text) ≡ o
     → ((least : ℕ) (has : HasPattern kept.registers (not (is_zero kept.mode)) (c ∷ text) least)
     → Leads L Q (f least >>= g) (k has.it))
@@ -238,7 +238,7 @@ abbrev IsLong : Pattern → List ℕ → ℕ → Type 0
 IsLong p buffer least = (span : Span) → IsMatch p buffer span → span.start + least ≤ span.end
 
 minimum_leads : {Y Z : Type 0} (L : Y → Type 0) (Q : Y → Z → Type 0) (kept : Kept) (text : List ℕ) (f : ℕ
-    → Result Facts Refusal) (g : Facts → Result Y Refusal) (k : Pattern → Result Z Code)
+    → Result Facts RefusalReason) (g : Facts → Result Y RefusalReason) (k : Pattern → Result Z Code)
     → ((least : ℕ) (p : Pattern) → IsLong p kept.text least → Leads L Q (f least >>= g) (k p))
     → Leads L Q ((row.minimum_of text >>= f) >>= g)
     (searching.pattern_of (searching.search_text_of text kept) kept >>= k)
@@ -374,7 +374,7 @@ module _ (run : Run) (facts : Facts) (unread : ℕ) (kept : Kept) (arguments : m
         (found_at run taking unread kept whole taking_holds s inside_buffer x.element least span last l
         (omega (arith, more, fits)))
 
-    answered_by : (r : Result Position Refusal) → IfOk r (IsJoin run found.position failed) → (o : Option Span)
+    answered_by : (r : Result Position RefusalReason) → IfOk r (IsJoin run found.position failed) → (o : Option Span)
         → IfSome o (LiesAhead kept.text kept.pointer least) → (last : List ℕ)
         → Leads (FitsOn run.n) (ArrivesBy true) (transfers.on (r >>= λ position. Ok (answered found failed position)))
         (searching.finding_of s x.element o (record kept { search_text = last }))
@@ -402,7 +402,7 @@ module _ (run : Run) (facts : Facts) (unread : ℕ) (kept : Kept) (arguments : m
         })) found_arrives
 
   -- what is held after what was put in
-  grown_leads : (least : ℕ) (r : Result Polynomial Refusal)
+  grown_leads : (least : ℕ) (r : Result Polynomial RefusalReason)
       → IfOk r (λ held. value held run.n ≡ value facts.held run.n + value
       (row.shift_found s least (length x.element.second) facts.position.distances).growth run.n) → (o : Option Span)
       → IfSome o (LiesAhead kept.text kept.pointer least) → (last : List ℕ)
@@ -421,7 +421,7 @@ module _ (run : Run) (facts : Facts) (unread : ℕ) (kept : Kept) (arguments : m
             (transfers.search_outcomes x.colon (found least held e) (row.facts_failed s x.element.colons taking))
             (searching.finding_of s x.element o (record kept { search_text = last }))
         arrives_so colon c h = leads_as _ _ h where
-          leads_as : (r : Result Edges Refusal) (c : Result Finding Code)
+          leads_as : (r : Result Edges RefusalReason) (c : Result Finding Code)
               → Leads (FitsOn run.n) (ArrivesBy least held e x.colon) r c
               → Leads (FitsOn run.n) (SearchArrives run facts.held unread kept arguments x) r c
           leads_as (Err why) c h = tt
@@ -444,13 +444,13 @@ module _ (run : Run) (facts : Facts) (unread : ℕ) (kept : Kept) (arguments : m
       (λ least p long. grown_leads least _ (value-sum_of run.n facts.held _) _
       (match_lies p kept.text least long x.element.colons m kept.pointer) _))
 
-  allowed_first : (r : Result (Unit {0}) Refusal) (z : Result Edges Refusal) (c : Result Finding Code)
+  allowed_first : (r : Result (Unit {0}) RefusalReason) (z : Result Edges RefusalReason) (c : Result Finding Code)
       → Leads (FitsOn run.n) (SearchArrives run facts.held unread kept arguments x) z c
       → Leads (FitsOn run.n) (SearchArrives run facts.held unread kept arguments x) (r >>= λ allowed. z) c
   allowed_first (Ok u) z c h = h
   allowed_first (Err why) z c h = tt
 
-  at_search : (r : Result KnownTaken Refusal) (c : Result Taken Code)
+  at_search : (r : Result KnownTaken RefusalReason) (c : Result Taken Code)
       → Covers (IsTaken (fore_of kept) (back_of kept)) r c
       → Leads (FitsOn run.n) (SearchArrives run facts.held unread kept arguments x)
       ((r >>= λ known. row.count_checked s known.first known.value facts.position.distances >>= λ u. Ok taking)
@@ -461,7 +461,7 @@ module _ (run : Run) (facts : Facts) (unread : ℕ) (kept : Kept) (arguments : m
   at_search (Ok k) (Err c) h = absurd h
   at_search (Ok k) (Ok t) h = by_count _
       (counted run facts unread kept whole d.state s k.first k.value t.first t.value h.first h.value) where
-        by_count : (r : Result (Unit {0}) Refusal) → IfOk r (λ u. Counts t.first t.value)
+        by_count : (r : Result (Unit {0}) RefusalReason) → IfOk r (λ u. Counts t.first t.value)
             → Leads (FitsOn run.n) (SearchArrives run facts.held unread kept arguments x)
             ((r >>= λ u. Ok taking) >>= λ taken. transfers.search_allowed x.inside x.colon >>= λ allowed.
             row.facts_found s x.element taken >>= λ found. transfers.search_outcomes x.colon found

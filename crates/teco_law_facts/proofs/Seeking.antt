@@ -11,7 +11,7 @@ use Rattle.teco_law_facts.proofs.Prelude.{run_behind, IsWhole, Holds, IsAt, Desc
 use Rattle.teco_law_facts.proofs.Prelude.{back_of, none_saved, at_position, Position, Facts, Edges, leaving}
 use Rattle.teco_law_facts.proofs.Prelude.{facts_taken, steps_of_search, saved_after, Shift, shifted, facts_behind}
 use Rattle.teco_law_facts.proofs.Prelude.{fall_after, Succeeds, Leads, FitsOn, ComesTo, Comes, IsInPages, facts_seeking}
-use Rattle.teco_law_facts.proofs.Prelude.{IsSeeking, MissComes, LooksOn, Seeks, Placed, Refusal, Distances}
+use Rattle.teco_law_facts.proofs.Prelude.{IsSeeking, MissComes, LooksOn, Seeks, Placed, RefusalReason, Distances}
 use Rattle.teco_base.specs.declared.code.Code.TheVariants as code
 use Rattle.teco_model.specs.Arguments as model
 use Rattle.teco_model.specs.Files.{with_written}
@@ -399,7 +399,7 @@ module _ (run : Run) (facts : Facts) (world : World) (pending : model.Arguments)
       SeeksWith output t edges = FitsOn run.n edges → Seeks run seeking world pending x s edges t
 
       module _ (output : Output) (out : world.files.output ≡ Some output) (t : Taken) (c : Counts t.first t.value) where
-        answers_seek : x.colon ≡ true → (r : Result Position Refusal) → IfOk r (IsJoin run found.position failed)
+        answers_seek : x.colon ≡ true → (r : Result Position RefusalReason) → IfOk r (IsJoin run found.position failed)
             → IfOk (transfers.on (r >>= λ position. Ok (answered found failed position))) (SeeksWith output t)
         answers_seek b (Err why) j = tt
         answers_seek b (Ok position) j =
@@ -424,25 +424,25 @@ module _ (run : Run) (facts : Facts) (world : World) (pending : model.Arguments)
       abbrev Seek : Edges → Type 0
       Seek edges = FitsOn run.n edges → Seeks run seeking world pending x s edges t
 
-      abbrev SeekThen : Result Facts Refusal → Type 0
+      abbrev SeekThen : Result Facts RefusalReason → Type 0
       SeekThen r = IfOk (r >>= λ found. transfers.search_outcomes x.colon found
           (row.facts_failed s x.element.colons (facts_taken facts))) Seek
 
       held_seek : Counts t.first t.value → (least : ℕ) → IsMinimum x.element.text least
-          → (r : Result Polynomial Refusal) → let shift =
+          → (r : Result Polynomial RefusalReason) → let shift =
           row.shift_found s least (length x.element.second) facts.position.distances in
           IfOk r (λ held. value held run.n ≡ value facts.held run.n + value shift.growth run.n)
           → SeekThen (r >>= λ held. Ok (facts_behind shift held (facts_taken facts)))
       held_seek c least m (Err why) e = tt
       held_seek c least m (Ok held) e = rw failed_is (outcomes_seek least m held e output out t c x.colon refl)
 
-      found_seek : Counts t.first t.value → (r : Result ℕ Refusal) → IfOk r (IsMinimum x.element.text)
+      found_seek : Counts t.first t.value → (r : Result ℕ RefusalReason) → IfOk r (IsMinimum x.element.text)
           → SeekThen (r >>= λ least. shifted
           (row.shift_found s least (length x.element.second) facts.position.distances) (facts_taken facts))
       found_seek c (Err why) m = tt
       found_seek c (Ok least) m = held_seek c least m _ (value-sum_of run.n facts.held _)
 
-      counted_seek : (r : Result (Unit {0}) Refusal) → IfOk r (λ u. Counts t.first t.value)
+      counted_seek : (r : Result (Unit {0}) RefusalReason) → IfOk r (λ u. Counts t.first t.value)
           → IfOk ((r >>= λ u. Ok (facts_taken facts)) >>= λ taken. transfers.search_allowed x.inside x.colon
           >>= λ allowed. row.facts_found s x.element taken >>= λ found. transfers.search_outcomes x.colon found
           (row.facts_failed s x.element.colons taken)) Seek
@@ -466,7 +466,7 @@ page_searches_are_sound run facts world pending x s output whole d e b out =
 one_more : (run : Run) (facts : Facts) (u : ℕ) (kept : Kept) → Holds run facts u kept
     → IfOk (steps_of_search FindInPages facts) (λ most. u + 1 ≤ value most run.n)
 one_more run facts u kept h = by_sum _ (value-sum_of run.n facts.position.ahead (number 1)) where
-  by_sum : (r : Result Polynomial Refusal)
+  by_sum : (r : Result Polynomial RefusalReason)
       → IfOk r (λ most. value most run.n ≡ value facts.position.ahead run.n + value (number 1) run.n)
       → IfOk r (λ most. u + 1 ≤ value most run.n)
   by_sum (Err why) e = tt

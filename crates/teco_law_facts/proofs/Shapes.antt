@@ -4,13 +4,13 @@ use Rattle.teco_law_facts.proofs.Prelude.{None, Result, Ok, Err, IfSome, IfOk, o
 use Rattle.teco_law_facts.proofs.Prelude.{Code, Arguments, Effect, Kept, value_of_sum, values_of_constants, Polynomial}
 use Rattle.teco_law_facts.proofs.Prelude.{value, number, add, ◌>>=◌, Run, IsWhole, Holds, IsAt, IsOptional, HasFallen}
 use Rattle.teco_law_facts.proofs.Prelude.{ArePending, fore_of, back_of, AreEach, Facts, sum_of, Shift, Foreseen}
-use Rattle.teco_law_facts.proofs.Prelude.{shifted, facts_behind, fall_after, Succeeds, Leads, Fits, IsValue, Refusal}
-use Rattle.teco_law_facts.proofs.Prelude.{Value}
+use Rattle.teco_law_facts.proofs.Prelude.{shifted, facts_behind, fall_after, Succeeds, Leads, Fits, IsValue}
+use Rattle.teco_law_facts.proofs.Prelude.{Value, RefusalReason}
 use Rattle.teco_law_facts.proofs.Near.{distances}
 use Rattle.teco_law_facts.proofs.Pending.{settled_are}
 use Rattle.teco_law_facts.proofs.Saved.{Widens, saved_after_are}
 use Rattle.teco_verifier.specs.facts.Shifts.{ahead_after}
-use Rattle.teco_verifier.specs.declared.refusal.Refusal.TheVariants as refusal
+use Rattle.teco_verifier.specs.declared.refusal.RefusalReason.TheVariants as refusal
 
 -- ---- polynomials
 pub value-number : (k n : ℕ) → value (number k) n ≡ k
@@ -77,7 +77,7 @@ Moves n shift kept answer = Succeeds (λ (effect : Effect). Shifts n shift kept 
     × IsOptional (IsValue (fore_of effect.kept) (back_of effect.kept)) answer effect.answer)
 
 -- what is known of a command leads to what it does
-abbrev pub Foretells : Run → Facts → ℕ → Kept → Result Foreseen Refusal → Result Effect Code → Type 0
+abbrev pub Foretells : Run → Facts → ℕ → Kept → Result Foreseen RefusalReason → Result Effect Code → Type 0
 Foretells run facts unread kept = Leads (λ (known : Foreseen). Fits run.n known.facts) (IsDone run facts unread kept)
 
 module _ (run : Run) (facts : Facts) (unread : ℕ) (kept : Kept) (w : IsWhole kept)
@@ -127,7 +127,8 @@ module _ (run : Run) (facts : Facts) (unread : ℕ) (kept : Kept) (w : IsWhole k
   }
 
   -- A command that moves or edits: its state is one of the shift's.
-  lead_on : (shift : Shift) (answer : Option Value) (changed : Result Polynomial Refusal) (effect : Result Effect Code)
+  lead_on : (shift : Shift) (answer : Option Value) (changed : Result Polynomial RefusalReason)
+      (effect : Result Effect Code)
       → IfOk changed (λ held. value held run.n ≡ value facts.held run.n + value shift.growth run.n)
       → (value facts.held run.n + value shift.growth run.n ≤ LIMIT → Moves run.n shift kept answer effect)
       → Foretells run facts unread kept ((changed >>= λ held. Ok (facts_behind shift held facts)) >>= λ known.

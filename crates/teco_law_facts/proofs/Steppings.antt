@@ -2,8 +2,8 @@
 use Rattle.teco_law_facts.proofs.Prelude.{ℕ, arith, ℤ, pos, ◌≤ℤ◌, Option, Some, None, Result, Ok, Err, IfOk, w32}
 use Rattle.teco_law_facts.proofs.Prelude.{FitsSigned, unwrap_or, ints, Kept, Taken, Page, Polynomial, value, KnownTaken}
 use Rattle.teco_law_facts.proofs.Prelude.{Run, IsWhole, Describes, IsTaken, IsOptional, fore_of, back_of, Facts}
-use Rattle.teco_law_facts.proofs.Prelude.{steps_of_page, Tells, PagesAtMost, IsTurnOrWrite, IsValue, IsPlaceIf, Refusal}
-use Rattle.teco_law_facts.proofs.Prelude.{Value}
+use Rattle.teco_law_facts.proofs.Prelude.{steps_of_page, Tells, PagesAtMost, IsTurnOrWrite, IsValue, IsPlaceIf}
+use Rattle.teco_law_facts.proofs.Prelude.{Value, RefusalReason}
 use Rattle.teco_model.specs.Arguments as model
 use Rattle.teco_model.specs.declared.kind.Page.TheVariants as page
 use Rattle.teco_law_facts.proofs.Flowing.{tells_then, taking_is, bound_is}
@@ -45,7 +45,8 @@ module _ (run : Run) (facts : Facts) (unread : ℕ) (kept : Kept) (arguments : m
   pages_most (Some s) None (Some v) None i j = counted_steps None None tt
   pages_most f o m v i j = absurd (grind arith)
 
-  told : (r : Result Polynomial Refusal) (t : Taken) → IfOk r (λ most. PagesAtMost (value most run.n) t.first t.value)
+  told : (r : Result Polynomial RefusalReason) (t : Taken)
+      → IfOk r (λ most. PagesAtMost (value most run.n) t.first t.value)
       → Tells (λ most (taken : Taken). PagesAtMost (value most run.n) taken.first taken.value) r (Ok t)
   told (Ok most) t h = λ l. h
   told (Err why) t h = tt

@@ -7,7 +7,7 @@ use Rattle.teco_law_facts.proofs.Prelude.{KnownArguments, KnownTaken, ◌>>=◌,
 use Rattle.teco_law_facts.proofs.Prelude.{IsLevel, IsTaken, IsOptional, ArePending, fore_of, back_of, Facts, Pushed}
 use Rattle.teco_law_facts.proofs.Prelude.{with_arguments, Foreseen, facts_answered, facts_behind, Leads, Fits, Arrives}
 use Rattle.teco_law_facts.proofs.Prelude.{FitsOn, ArrivesOn, Placed, single, value_in, size, IsValue}
-use Rattle.teco_law_facts.proofs.Prelude.{any_number, Refusal, Value}
+use Rattle.teco_law_facts.proofs.Prelude.{any_number, RefusalReason, Value}
 use Rattle.teco_base.specs.declared.code.Code.TheVariants as code
 use Rattle.teco_model.specs.Arguments as model
 use Rattle.teco_model.specs.Registers.{registers_without_top}
@@ -19,8 +19,8 @@ use Rattle.teco_model.specs.declared.kind.Command.TheVariants as command
 use Rattle.teco_model.specs.declared.kind.Query.TheVariants as query
 use Rattle.teco_model.specs.declared.kind.Stack.{Stack}
 use Rattle.teco_model.specs.declared.kind.Stack.TheVariants as stack
-use Rattle.teco_model.specs.declared.kind.Value.{Value as Given}
-use Rattle.teco_model.specs.declared.kind.Value.TheVariants.{Begin, Size, Pointer, Whole, LastLength, LastText}
+use Rattle.teco_model.specs.declared.kind.MachineValue.{MachineValue as Given}
+use Rattle.teco_model.specs.declared.kind.MachineValue.TheVariants.{Begin, Size, Pointer, Whole, LastLength, LastText}
 use Rattle.teco_law_facts.proofs.Asking.{interval_value, query_foretold, number_is, length_is, mode_is, past}
 use Rattle.teco_model.proofs.Bytes.{number_fits}
 use Rattle.teco_law_facts.proofs.Deletion.{deletion_foretold}
@@ -42,17 +42,18 @@ use Rattle.teco_law_facts.specs.SoundElements.{ArgumentsAreSound, ValuesAreSound
 use Rattle.teco_law_facts.specs.SoundElements.{StacksAreSound}
 use Rattle.teco_verifier.specs.facts.Storages as storages
 use Rattle.teco_verifier.specs.facts.Transfer as transfers
-use Rattle.teco_verifier.specs.declared.refusal.Refusal.TheVariants as refusal
+use Rattle.teco_verifier.specs.declared.refusal.RefusalReason.TheVariants as refusal
 
 -- the edge that goes on
-on_leads : (run : Run) (facts : Facts) (unread : ℕ) (kept : Kept) (r : Result Facts Refusal) (c : Result After Code)
+on_leads : (run : Run) (facts : Facts) (unread : ℕ) (kept : Kept) (r : Result Facts RefusalReason)
+    (c : Result After Code)
     → Leads (Fits run.n) (Arrives run facts.held unread kept) r c
     → Leads (FitsOn run.n) (ArrivesOn run facts.held unread kept) (transfers.on r) c
 on_leads run facts unread kept (Ok next) c h = h
 on_leads run facts unread kept (Err why) c h = tt
 
 -- where more was read first
-keeps_on : (run : Run) (facts read : Facts) (unread : ℕ) (kept new : Kept) (x : Result Facts Refusal)
+keeps_on : (run : Run) (facts read : Facts) (unread : ℕ) (kept new : Kept) (x : Result Facts RefusalReason)
     (y : Result After Code) → value facts.held run.n ≤ value read.held run.n → length new.text ≤ length kept.text
     → Leads (Fits run.n) (Arrives run read.held unread new) x y
     → Leads (Fits run.n) (Arrives run facts.held unread kept) x y
@@ -86,7 +87,7 @@ module _ (run : Run) (facts : Facts) (unread : ℕ) (kept : Kept) (arguments : m
   now = distances run facts unread kept whole d.state
 
   -- ---- elements that change the arguments alone
-  keeps : (x : Result KnownArguments Refusal) (y : Result model.Arguments Code)
+  keeps : (x : Result KnownArguments RefusalReason) (y : Result model.Arguments Code)
       → Covers (ArePending (fore_of kept) (back_of kept)) x y
       → Leads (Fits run.n) (Arrives run facts.held unread kept) (transfers.facts_after_levels x facts)
       (y >>= λ levels. Ok (after kept levels))
@@ -101,7 +102,7 @@ module _ (run : Run) (facts : Facts) (unread : ℕ) (kept : Kept) (arguments : m
         grown = omega arith;
       })
 
-  levels_keep : (x : Result KnownLevel Refusal) (y : Result Level Code)
+  levels_keep : (x : Result KnownLevel RefusalReason) (y : Result Level Code)
       → Covers (IsLevel (fore_of kept) (back_of kept)) x y
       → Covers (ArePending (fore_of kept) (back_of kept)) (known.with_level facts.arguments x)
       (model.with_level arguments y)
@@ -197,7 +198,7 @@ module _ (run : Run) (facts : Facts) (unread : ℕ) (kept : Kept) (arguments : m
     grown = i.grown;
   }
 
-  pub takes_and_acts : (act : KnownTaken → Facts → Result Foreseen Refusal) (does : Taken → Result Effect Code)
+  pub takes_and_acts : (act : KnownTaken → Facts → Result Foreseen RefusalReason) (does : Taken → Result Effect Code)
       → ((known : KnownTaken) (taken : Taken) → IsTaken (fore_of kept) (back_of kept) known taken
       → Foretells run taking unread kept (act known taking) (does taken))
       → Leads (Fits run.n) (Arrives run facts.held unread kept) (transfers.after_taking act facts)
@@ -271,7 +272,7 @@ module _ (run : Run) (facts : Facts) (unread : ℕ) (kept : Kept) (arguments : m
         mode = whole.mode;
       }
 
-  read_on : (changed : Result Polynomial Refusal)
+  read_on : (changed : Result Polynomial RefusalReason)
       → IfOk changed (λ held. value held run.n ≡ value facts.held run.n + value
       (row.past_number facts.position.distances).growth run.n)
       → Leads (Fits run.n) (Arrives run facts.held unread kept)

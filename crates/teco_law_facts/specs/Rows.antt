@@ -14,8 +14,8 @@ use Rattle.teco_verifier.specs.facts.Bodies.{Choice, Changes, body_start, stands
 use Rattle.teco_verifier.specs.facts.Facts.{Iteration, Facts, entry_facts}
 use Rattle.teco_verifier.specs.facts.Flows.{Edges, turns}
 use Rattle.teco_verifier.specs.facts.Transfer.{Placed, transfer}
-use Rattle.teco_verifier.specs.declared.refusal.Refusal.{Refusal}
-use Rattle.teco_verifier.specs.declared.refusal.Refusal.TheVariants as refusal
+use Rattle.teco_verifier.specs.declared.refusal.RefusalReason.{RefusalReason}
+use Rattle.teco_verifier.specs.declared.refusal.RefusalReason.TheVariants as refusal
 use Rattle.teco_verifier.specs.declared.values.Distances.{Distances}
 
 -- an element of a text that is one of the library's, and whose register is A
@@ -33,10 +33,10 @@ placed library text iterations e = record {
 }
 
 -- the facts behind so many elements of a text from a place on, along the edges that go on
-abbrev pub on_edge : Edges → Result Facts Refusal
+abbrev pub on_edge : Edges → Result Facts RefusalReason
 on_edge edges = elim edges.on [ None ↦ Err refusal.Partner | Some facts ↦ Ok facts ]
 
-abbrev pub behind : ℕ → Bool → List ℕ → ℕ → Facts → Result Facts Refusal
+abbrev pub behind : ℕ → Bool → List ℕ → ℕ → Facts → Result Facts RefusalReason
 behind zero library text at facts = Ok facts
 behind (suc n) library text at facts = elim (element_at text at) [
   | Err c ↦ Err refusal.Fault
@@ -56,7 +56,7 @@ pub record Shown : Type 0 where
   pub held : List ℕ
   pub ahead : List ℕ
 
-abbrev pub shown : Result Facts Refusal → Result Shown Refusal
+abbrev pub shown : Result Facts RefusalReason → Result Shown RefusalReason
 shown found = do
   facts ← found
   Ok (record {
@@ -67,7 +67,7 @@ shown found = do
   })
 
 -- from the entry of a text that is not written to
-abbrev pub from_entry : ℕ → List ℕ → Result Facts Refusal
+abbrev pub from_entry : ℕ → List ℕ → Result Facts RefusalReason
 from_entry n commands = behind n false commands 0 entry_facts
 
 -- a body that changes nothing
@@ -75,18 +75,18 @@ abbrev pub unchanged : Changes
 unchanged = record { written = []; ends = false }
 
 -- the end of a body whose < is the element with so many before it, and whose first element is at a place
-abbrev pub start_of_body : Choice → ℕ → List ℕ → Result Facts Refusal
+abbrev pub start_of_body : Choice → ℕ → List ℕ → Result Facts RefusalReason
 start_of_body choice n commands = do
   entering ← from_entry n commands
   Ok (body_start choice unchanged entering)
 
-abbrev pub end_of_body : Choice → ℕ → ℕ → ℕ → List ℕ → Result Facts Refusal
+abbrev pub end_of_body : Choice → ℕ → ℕ → ℕ → List ℕ → Result Facts RefusalReason
 end_of_body choice before at n commands = do
   start ← start_of_body choice before commands
   behind n false commands at start
 
 -- does a choice stand, where a number or nothing is the count, for so many turns?
-abbrev pub stands_for : Choice → Bool → Polynomial → ℕ → ℕ → ℕ → List ℕ → Result Bool Refusal
+abbrev pub stands_for : Choice → Bool → Polynomial → ℕ → ℕ → ℕ → List ℕ → Result Bool RefusalReason
 stands_for choice counted most before at n commands = do
   entering ← from_entry before commands
   end ← end_of_body choice before at n commands

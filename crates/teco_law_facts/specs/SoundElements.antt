@@ -13,13 +13,13 @@ use Rattle.teco_model.specs.declared.kind.Stack.{Stack}
 use Rattle.teco_model.specs.declared.kind.Stack.TheVariants as stack
 use Rattle.teco_model.specs.declared.kind.Storage.{Storage}
 use Rattle.teco_model.specs.declared.kind.Storage.TheVariants as storage
-use Rattle.teco_model.specs.declared.kind.Value.{Value as Given}
+use Rattle.teco_model.specs.declared.kind.MachineValue.{MachineValue as Given}
 use Rattle.teco_model.specs.Arguments.{Arguments}
 use Rattle.teco_model.specs.State.{Kept}
 use Rattle.teco_model.specs.Going.{After}
 use Rattle.teco_model.specs.Step.{after_argument, after_value, after_query, after_stack, after_command}
 use Rattle.teco_poly.specs.Polynomial.{Polynomial, value}
-use Rattle.teco_verifier.specs.declared.refusal.Refusal.{Refusal}
+use Rattle.teco_verifier.specs.declared.refusal.RefusalReason.{RefusalReason}
 use Rattle.teco_law_facts.specs.Describes.{Run, IsWhole, Describes}
 use Rattle.teco_verifier.specs.facts.Facts.{Facts}
 use Rattle.teco_verifier.specs.facts.Flows.{Edges}
@@ -42,7 +42,7 @@ abbrev pub Succeeds : {Y : Type 0} → (Y → Type 0) → Result Y Code → Type
 Succeeds P (Ok y) = P y
 Succeeds P (Err c) = ⊥
 
-abbrev pub Leads : {X Y : Type 0} → (X → Type 0) → (X → Y → Type 0) → Result X Refusal
+abbrev pub Leads : {X Y : Type 0} → (X → Type 0) → (X → Y → Type 0) → Result X RefusalReason
     → Result Y Code → Type 0
 Leads Fit P (Ok x) y = Fit x → Succeeds (P x) y
 Leads Fit P (Err why) y = ⊤

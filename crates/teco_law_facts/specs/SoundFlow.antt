@@ -21,10 +21,10 @@ use Rattle.teco_verifier.specs.facts.Facts.{Facts, Iteration}
 use Rattle.teco_verifier.specs.facts.Flows.{Edges, turns}
 use Rattle.teco_law_facts.specs.SoundElements.{Leads}
 use Rattle.teco_verifier.specs.facts.Transfer.{Placed, transfer, transfer_return}
-use Rattle.teco_verifier.specs.declared.refusal.Refusal.{Refusal}
+use Rattle.teco_verifier.specs.declared.refusal.RefusalReason.{RefusalReason}
 
 -- what is known where nothing has to fit: no code comes
-abbrev pub Tells : {X Y : Type 0} → (X → Y → Type 0) → Result X Refusal → Result Y Code → Type 0
+abbrev pub Tells : {X Y : Type 0} → (X → Y → Type 0) → Result X RefusalReason → Result Y Code → Type 0
 Tells P known done = Leads (λ edges. ⊤) P known done
 
 -- an edge is reached, and its facts describe the state

@@ -8,7 +8,7 @@ use Rattle.teco_law_tables.proofs.Prelude.{outcome_at, reply_of, step, needs_in}
 use Rattle.teco_law_tables.proofs.Described as described
 use Rattle.teco_law_tables.proofs.Described.{at_first, reaches_later, reaches_none, ready_call}
 use Rattle.teco_law_tables.proofs.Ending as ending
-use Rattle.teco_law_tables.proofs.Ending.{Call, Course, course}
+use Rattle.teco_law_tables.proofs.Ending.{ClosedCall, Course, course}
 use Rattle.teco_law_tables.proofs.Keeping.{end_stays}
 use Rattle.teco_law_tables.proofs.Pending.{CallLaws, other_next}
 use Rattle.teco_law_tables.proofs.Stacking.{lies_below}
@@ -54,7 +54,7 @@ LeavesBelow first =
     (steps : ℕ) (new : World) → Ends first steps new
     → LiesBelow first.world.kept.registers.stack new.kept.registers.stack
 
-module _ (laws : ending.Laws) (sound : NodesAreSound) (call : Call)
+module _ (laws : ending.Laws) (sound : NodesAreSound) (call : ClosedCall)
     (go : ElementsGo call.library call.entry call.nodes call.table call.n call.world.kept.registers.stack
     (start_given call.entry call.given call.world)) (files : AreOpen (needs_in call.nodes call.table) call.world.files)
   where

@@ -1,12 +1,12 @@
 -- How many turns of an iteration a run begins.
 use Rattle.teco_law_tables.proofs.Prelude.{◌≡◌, ◌⊎◌, inl, inr, ℕ, zero, suc, ◌+◌, ◌≤◌, ◌<◌, ◌==◌, refl, sym, ap, ◌∙◌}
 use Rattle.teco_law_tables.proofs.Prelude.{subst, arith, eqb-true, List, [], ◌∷◌, length, nat_lt, Bool, true, false}
-use Rattle.teco_law_tables.proofs.Prelude.{◌&&◌, if◌then◌else◌, Option, Some, None, Result, Ok, Err, cases_order}
+use Rattle.teco_law_tables.proofs.Prelude.{◌&&◌, if◌then◌else◌, Option, Some, None, Result, Ok, Err, cases_order, Over}
 use Rattle.teco_law_tables.proofs.Prelude.{OpenTurn, loops_in, open_loops, loops_of, shown, OpenLoop, Shown, Move}
 use Rattle.teco_law_tables.proofs.Prelude.{Forward, Into, Back, still_open, reaches_more, Kind, Element, element_at}
 use Rattle.teco_law_tables.proofs.Prelude.{Reaches, Frames, State, Next, End, step, end_of, IsBegin, AreClosed}
 use Rattle.teco_law_tables.proofs.Prelude.{IterationsEnd, NodesAreSound, Node, over, Position, position_of, is_long}
-use Rattle.teco_law_tables.proofs.Prelude.{Polynomial, and_both, Refusal, start_given, IsLong, MovesOn, ComesOn, Over}
+use Rattle.teco_law_tables.proofs.Prelude.{Polynomial, and_both, RefusalReason, start_given, IsLong, MovesOn, ComesOn}
 use Rattle.teco_law_tables.proofs.Prelude.{On, turns_at, value_of, turning}
 use Rattle.teco_law_turns.specs.Moves.{Enters as EntersLoop}
 use Rattle.teco_law_turns.specs.Turns.{Repeats, TurnsAreBounded, turns_begun as turns_by}
@@ -352,7 +352,7 @@ module _ (laws : ending.Laws) (sound : NodesAreSound) (bounded : TurnsAreBounded
           in
           omega (arith, all, counted.enough)
 
-      few_turns : (r : Result Polynomial Refusal) → turns_at table number ≡ r
+      few_turns : (r : Result Polynomial RefusalReason) → turns_at table number ≡ r
           → TakesFewTurns library nodes table n below s t
       few_turns (Ok most) e = subst (λ (s : State). TakesFewTurns library nodes table n below s t) (alone j refl)
           (record {

@@ -4,8 +4,8 @@ use Rattle.teco_law_tables.proofs.Prelude.{Option, Some, None, Result, Ok, Err, 
 use Rattle.teco_law_tables.proofs.Prelude.{Page, Search, Element, element_at, Files, Reaches, Frames, State, Next, step}
 use Rattle.teco_law_tables.proofs.Prelude.{Library, IsLoaded, Needs, names_macro, position_of, position_of_frames}
 use Rattle.teco_law_tables.proofs.Prelude.{GoesTo, MovesFrom, Stayed, is_long, IsLeftAt, read_at, Polynomial, value}
-use Rattle.teco_law_tables.proofs.Prelude.{reaches_more, Refusal, KnownTaken, arguments_of, Run, IsWhole, Facts, Edges}
-use Rattle.teco_law_tables.proofs.Prelude.{steps, FitsOn, AreOpen, BeginsAt, KindEnds, Placed, answer_for}
+use Rattle.teco_law_tables.proofs.Prelude.{reaches_more, RefusalReason, KnownTaken, arguments_of, Run, IsWhole, Facts}
+use Rattle.teco_law_tables.proofs.Prelude.{steps, FitsOn, AreOpen, BeginsAt, KindEnds, Placed, answer_for, Edges}
 use Rattle.teco_law_tables.proofs.Prelude.{without_answer, edges_of, transfer, placed, edges_behind, edges_at, run_at}
 use Rattle.teco_law_tables.proofs.Prelude.{IsLong, IsLast, Alone, Again, steps_of, needs_in, is_of_files}
 use Rattle.teco_law_tables.proofs.Prelude.{NoFileCommands, AreAsOpen, FilesStayOpen, value_of}
@@ -24,7 +24,7 @@ use Rattle.teco_law_expansion.specs.Run.{Went, StepsGoAlongNodes}
 use Rattle.teco_law_facts.proofs.Library.{library_stays}
 use Rattle.teco_law_facts.proofs.Repeats.{Completed, IsKept, completed}
 use Rattle.teco_law_facts.specs.Repeats.{IsAt}
-use Rattle.teco_verifier.specs.declared.refusal.Refusal.TheVariants as refusal
+use Rattle.teco_verifier.specs.declared.refusal.RefusalReason.TheVariants as refusal
 use Rattle.teco_verifier.specs.facts.Attempt.{◌>>=◌}
 use Rattle.teco_verifier.specs.facts.Facts.{Answer}
 use Rattle.teco_law_facts.specs.Laws.{WritesText}
@@ -57,7 +57,7 @@ kind_writes library (kind.Stack (stack.Pop r)) h = one_named _ (λ e. h e tt)
 kind_writes library (kind.Command (command.Storage s)) h = storage_writes library s h
 kind_writes library k h = refl
 
-not_refused : (r : Result Edges Refusal) (edges : Edges) → r ≡ Ok edges → IsErr r → ⊥
+not_refused : (r : Result Edges RefusalReason) (edges : Edges) → r ≡ Ok edges → IsErr r → ⊥
 not_refused r edges h e = absurd (grind arith)
 
 pub writes_nothing : (library : Library) (x : Placed) (facts : Facts) (edges : Edges)
@@ -68,7 +68,7 @@ writes_nothing library x facts edges names h =
     (λ e writes. not_refused (transfer x facts) edges h (library_stays x facts (names ∙ e) writes))
 
 -- ---- no file is opened or closed
-never : (r : Result KnownTaken Refusal) (edges : Edges) → (r >>= (λ taken. Err refusal.Unverified)) ≡ Ok edges → ⊥
+never : (r : Result KnownTaken RefusalReason) (edges : Edges) → (r >>= (λ taken. Err refusal.Unverified)) ≡ Ok edges → ⊥
 never r edges h = absurd (grind arith)
 
 kind_no_file : (k : Kind) (x : Placed) (answer : Option Answer) (facts : Facts) (edges : Edges)

@@ -1,14 +1,14 @@
 -- The sum that is printed is the sum over the nodes.
 use Rattle.teco_law_tables.proofs.Prelude.{◌≡◌, ℕ, suc, ◌+◌, ◌*◌, refl, sym, ap, ◌∙◌, subst, arith, List, [], ◌∷◌}
 use Rattle.teco_law_tables.proofs.Prelude.{length, Option, Some, None, Result, Ok, Err, slice_get, option_map_or, Node}
-use Rattle.teco_law_tables.proofs.Prelude.{numbered, values_of_constants, Polynomial, value, number, Refusal, Facts}
-use Rattle.teco_law_tables.proofs.Prelude.{sum_of, at_node, turns_at, steps_of, weight, counted_with, count_from}
+use Rattle.teco_law_tables.proofs.Prelude.{numbered, values_of_constants, Polynomial, value, number, RefusalReason}
+use Rattle.teco_law_tables.proofs.Prelude.{sum_of, at_node, turns_at, steps_of, weight, counted_with, count_from, Facts}
 use Rattle.teco_law_tables.proofs.Prelude.{steps_before, commands, Table, facts_at, value_of, own_of, iterations_of}
 use Rattle.teco_law_tables.proofs.Prelude.{turning, bound, some_of}
 use Rattle.teco_law_turns.specs.Table.{sum_below, product_by, weight_of}
 use Rattle.teco_poly.proofs.Lawful.{value_of_sum, value_of_product}
 use Rattle.teco_poly.specs.Polynomial.{add, mul}
-use Rattle.teco_verifier.specs.declared.refusal.Refusal.TheVariants as refusal
+use Rattle.teco_verifier.specs.declared.refusal.RefusalReason.TheVariants as refusal
 use Rattle.teco_law_tables.specs.Laws.{CommandsAreSteps}
 use Rattle.teco_verifier.specs.table.Printed.{turns_round, product_of}
 
@@ -21,7 +21,7 @@ product_has p q r n h = value_of_product p q r n (some_of (mul p q) refusal.Over
 sum_has : (p q r : Polynomial) (n : ℕ) → sum_of p q ≡ Ok r → value r n ≡ value p n + value q n
 sum_has p q r n h = value_of_sum p q r n (some_of (add p q) refusal.Overflow r h)
 
-value_is : (n : ℕ) (r : Result Polynomial Refusal) (p : Polynomial) → r ≡ Ok p → value_of n r ≡ value p n
+value_is : (n : ℕ) (r : Result Polynomial RefusalReason) (p : Polynomial) → r ≡ Ok p → value_of n r ≡ value p n
 value_is n r p h = ap (value_of n) h
 
 module _ (table : Table) (n : ℕ) where
@@ -57,7 +57,7 @@ module _ (nodes : List Node) (table : Table) (n : ℕ) where
       ap (λ (o : Option Node). own_of n o (facts_at table k) * product_by (λ begin. value_of n (turns_at table begin))
       (option_map_or iterations_of o [])) h
 
-  further : (k : ℕ) (node : Node) (rest : List Node) (total p : Polynomial) (r : Result Polynomial Refusal)
+  further : (k : ℕ) (node : Node) (rest : List Node) (total p : Polynomial) (r : Result Polynomial RefusalReason)
       → numbered nodes k ≡ Some node → counted_with table k node total ≡ r
       → at_node k r (count_from table (suc k) rest) ≡ Ok p →
       ((next : Polynomial) → count_from table (suc k) rest next ≡ Ok p

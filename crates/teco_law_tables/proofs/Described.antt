@@ -7,7 +7,7 @@ use Rattle.teco_law_tables.proofs.Prelude.{Polynomial, reaches_more, AreOpen, El
 use Rattle.teco_law_tables.proofs.Prelude.{ComesOn, Over, On, Table, needs_in, IsPrinted, IsReady, left_by}
 use Rattle.teco_law_tables.specs.Bounded.{IsKnown, AtNode, BehindCall, RunsAreDescribed}
 use Rattle.teco_law_tables.proofs.Ending as ending
-use Rattle.teco_law_tables.proofs.Ending.{Course, Call, course}
+use Rattle.teco_law_tables.proofs.Ending.{Course, ClosedCall, course}
 use Rattle.teco_law_tables.proofs.Verifying as verifying
 use Rattle.teco_law_tables.proofs.Underway.{Goes, ElementsGo, elements_pass}
 use Rattle.teco_law_tables.proofs.Stacking.{below_along, lies_below}
@@ -136,7 +136,7 @@ module _ (laws : ending.Laws) (c : Course) (go : ElementsGo c.library c.entry c.
 abbrev pub ready_call : (library : Library) (entry : ℕ) (argument : Option ArgumentRange)
     (given : Option ℕ) (nodes : List Node) (table : Table) (commands most : Polynomial) (n : ℕ) (world : World) →
     AreLinked library entry nodes → IsPrinted argument nodes table commands most
-    → IsAsked argument given → IsReady library entry most n world → Call
+    → IsAsked argument given → IsReady library entry most n world → ClosedCall
 ready_call library entry argument given nodes table commands most n world are printed asked ready =
     record {
       library = library;
@@ -155,7 +155,7 @@ ready_call library entry argument given nodes table commands most n world are pr
       entering = ready.begins;
     }
 
-module _ (laws : ending.Laws) (call : Call)
+module _ (laws : ending.Laws) (call : ClosedCall)
     (go : ElementsGo call.library call.entry call.nodes call.table call.n call.world.kept.registers.stack
     (start_given call.entry call.given call.world)) (files : AreOpen (needs_in call.nodes call.table) call.world.files)
   where

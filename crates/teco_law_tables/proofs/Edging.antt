@@ -2,7 +2,7 @@
 use Rattle.teco_law_tables.proofs.Prelude.{◌≡◌, ℕ, zero, suc, refl, sym, ap, ◌∙◌, subst, arith, List, length, nat_lt}
 use Rattle.teco_law_tables.proofs.Prelude.{false, Option, Some, None, MatchOption, Result, Ok, slice_get, ⊤, ltb-false}
 use Rattle.teco_law_tables.proofs.Prelude.{Kind, Element, Library, AreLinked, Node, stands, numbered, base_of, ways_at}
-use Rattle.teco_law_tables.proofs.Prelude.{Refusal, arguments_of, Facts, Edges, Fits, FitsOn, edges_at, along}
+use Rattle.teco_law_tables.proofs.Prelude.{RefusalReason, arguments_of, Facts, Edges, Fits, FitsOn, edges_at, along}
 use Rattle.teco_law_tables.proofs.Prelude.{along_kind, turns_by_kind, begins_turn, check_nodes, Table, facts_at, bound}
 use Rattle.teco_model.specs.declared.kind.Flow.TheVariants as flow
 use Rattle.teco_model.specs.declared.kind.Kind.TheVariants as kind
@@ -13,11 +13,11 @@ use Rattle.teco_law_tables.proofs.Going.{way_covered, way_within}
 use Rattle.teco_law_tables.proofs.Leading.{on_way, way_there}
 use Rattle.teco_law_tables.proofs.Lookup.{node_of}
 
-on_of : (r : Result Edges Refusal) (edges other : Edges) → r ≡ Ok edges → r ≡ Ok other → edges.on ≡ other.on
+on_of : (r : Result Edges RefusalReason) (edges other : Edges) → r ≡ Ok edges → r ≡ Ok other → edges.on ≡ other.on
 on_of r edges other h g = let e : r ≡ Ok other = g in let f : edges ≡ other = same (sym h ∙ g) in
     ap (λ (edges : Edges). edges.on) f
   where
-    same : Path (Result Edges Refusal) (Ok edges) (Ok other) → edges ≡ other
+    same : Path (Result Edges RefusalReason) (Ok edges) (Ok other) → edges ≡ other
     same e = cc
 
 module _ (library : Library) (entry : ℕ) (nodes : List Node) (table : Table) (n : ℕ)

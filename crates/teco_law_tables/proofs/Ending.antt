@@ -174,7 +174,7 @@ unfolding run
 reached_first s = refl
 
 -- the call of a macro with a closed table, in a world where it may be called
-pub record Call : Type 0 where
+pub record ClosedCall : Type 0 where
   pub library : Library
   pub entry : ℕ
   pub argument : Option ArgumentRange
@@ -190,7 +190,7 @@ pub record Call : Type 0 where
   pub whole : IsWhole world.kept
   pub entering : IsEntry n (unread_of world) world.kept
 
-module _ (call : Call) where
+module _ (call : ClosedCall) where
   open call use {
     library,
     entry,
@@ -327,7 +327,7 @@ pub runs_end_in_time : Laws → RunsEndInTime
 unfolding at_first
 runs_end_in_time laws library entry argument given nodes table n world are passes asked loaded whole entering
     files pass =
-    let call : Call = record {
+    let call : ClosedCall = record {
       library = library;
       entry = entry;
       argument = argument;

@@ -7,13 +7,13 @@ use Rattle.teco_law_tables.proofs.Prelude.{LeadsByKind, place_at, Node, numbered
 use Rattle.teco_law_tables.proofs.Prelude.{StepWas, ElementWas, Turns, Polynomial, value, and_both, covers_are_sound}
 use Rattle.teco_law_tables.proofs.Prelude.{KnownTaken, arguments_of, Changes, Choice, body_start, begins, choice_stands}
 use Rattle.teco_law_tables.proofs.Prelude.{covers, each_covers, is_same_iteration, Describes, HasFallen, fore_of}
-use Rattle.teco_law_tables.proofs.Prelude.{Iteration, Facts, entered, unread_of, Refusal, Value, left_by, turns_by_flow}
+use Rattle.teco_law_tables.proofs.Prelude.{Iteration, Facts, entered, unread_of, RefusalReason, Value, left_by}
 use Rattle.teco_law_tables.proofs.Prelude.{turns_by_kind, begins_turn, say_same, is_counted, body_stands, is_entered}
 use Rattle.teco_law_tables.proofs.Prelude.{enters_by, enters_at, closed_behind, OpenTurn, begun_of, run_at, loops_in}
 use Rattle.teco_law_tables.proofs.Prelude.{open_loops, AreMore, IsOpened, AreOpened, held_of, loops_of, shown}
 use Rattle.teco_law_tables.proofs.Prelude.{run_by_kind, run_along, IsLong, IsLast, Alone, Again, MovesOn, Table}
 use Rattle.teco_law_tables.proofs.Prelude.{facts_at, choice_at, turns_at, value_of, is_reached, turning, changes_in}
-use Rattle.teco_law_tables.proofs.Prelude.{length-map}
+use Rattle.teco_law_tables.proofs.Prelude.{length-map, turns_by_flow}
 use Rattle.teco_law_turns.specs.Moves as moves
 use Rattle.teco_model.specs.declared.kind.Flow.TheVariants as flow
 use Rattle.teco_model.specs.declared.kind.Kind.TheVariants as kind
@@ -106,7 +106,8 @@ record Started (nodes : List Node) (table : Table) (begin : ℕ) (facts entering
   starts : IsTrue (begins choice entering)
 
 started_by : (nodes : List Node) (table : Table) (begin : ℕ) (facts entering : Facts) (o : Option Facts)
-    (c : Option Choice) (r : Result Polynomial Refusal) → facts_at table (suc begin) ≡ o → choice_at table begin ≡ c
+    (c : Option Choice) (r : Result Polynomial RefusalReason) → facts_at table (suc begin) ≡ o
+    → choice_at table begin ≡ c
     → turns_of facts ≡ r →
     IsTrue (body_stands (changes_in nodes begin) (facts_at table (end_of nodes begin)) entering o c r)
     → Started nodes table begin facts entering
@@ -153,7 +154,7 @@ first_turn table counted most ahead (Some v) left counts are f =
       few = omega (arith, ints, are, later_is v counts.0 counts.2);
     }
 
-taken_turns : (n a : ℕ) (r : Result Polynomial Refusal) (c : Result Taken Code) (p : Polynomial) (taken : Taken)
+taken_turns : (n a : ℕ) (r : Result Polynomial RefusalReason) (c : Result Taken Code) (p : Polynomial) (taken : Taken)
     → r ≡ Ok p → c ≡ Ok taken → Leads (λ edges. ⊤) (λ p (taken : Taken). AreTurns (value p n) a taken.value) r c
     → AreTurns (value p n) a taken.value
 taken_turns n a r c p taken e f h =
@@ -166,7 +167,7 @@ both_optional fore back None None h = refl
 both_optional fore back (Some k) (Some v) h = refl
 both_optional fore back known v h = absurd (grind arith)
 
-both_taken : (fore back : ℕ) (r : Result KnownTaken Refusal) (c : Result Taken Code) (known : KnownTaken)
+both_taken : (fore back : ℕ) (r : Result KnownTaken RefusalReason) (c : Result Taken Code) (known : KnownTaken)
     (taken : Taken) → r ≡ Ok known → c ≡ Ok taken → Covers (IsTaken fore back) r c
     → is_some known.value ≡ is_some taken.value
 both_taken fore back r c known taken e f h =

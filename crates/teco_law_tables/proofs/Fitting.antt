@@ -1,13 +1,13 @@
 -- What is known at a node that is reached fits, where the printed size does, and so do the edges behind it.
 use Rattle.teco_law_tables.proofs.Prelude.{◌≡◌, ℕ, zero, suc, ◌+◌, ◌≤◌, refl, sym, ap, ◌∙◌, subst, arith, List, [], ◌∷◌}
 use Rattle.teco_law_tables.proofs.Prelude.{Option, Some, None, Result, Ok, Err, slice_get, IsTrue, AllByRecursion}
-use Rattle.teco_law_tables.proofs.Prelude.{LIMIT, Node, numbered, values_compare, Polynomial, value, and_both}
-use Rattle.teco_law_tables.proofs.Prelude.{ArgumentRange, Refusal, each_covers, covers, Facts, join_of, Fits, at_node}
+use Rattle.teco_law_tables.proofs.Prelude.{LIMIT, Node, numbered, values_compare, Polynomial, value, and_both, at_node}
+use Rattle.teco_law_tables.proofs.Prelude.{ArgumentRange, RefusalReason, each_covers, covers, Facts, join_of, Fits}
 use Rattle.teco_law_tables.proofs.Prelude.{steps_of, weight, counted_with, count_from, commands, joined_with}
 use Rattle.teco_law_tables.proofs.Prelude.{sized_with, size_from, size, Table, facts_at, bound, some_of}
 use Rattle.teco_poly.proofs.Lawful.{value_of_join}
 use Rattle.teco_poly.specs.Polynomial.{join}
-use Rattle.teco_verifier.specs.declared.refusal.Refusal.TheVariants as refusal
+use Rattle.teco_verifier.specs.declared.refusal.RefusalReason.TheVariants as refusal
 use Rattle.teco_verifier.specs.facts.Covers.{covers_length}
 use Rattle.teco_law_tables.proofs.Closing.{held_covered}
 
@@ -18,7 +18,7 @@ module _ (table : Table) where
   weighed k j [] total p node h at = absurd (cc)
   weighed k zero (x ∷ rest) total p node h at = here _ refl h
     where
-      here : (r : Result Polynomial Refusal) → counted_with table k x total ≡ r
+      here : (r : Result Polynomial RefusalReason) → counted_with table k x total ≡ r
           → at_node k r (count_from table (suc k) rest) ≡ Ok p
           → (m : Polynomial) × (weight table node (facts_at table (k + 0)) ≡ Ok m)
       here (Err why) e h = absurd (cc)
@@ -32,7 +32,7 @@ module _ (table : Table) where
           )
   weighed k (suc j) (x ∷ rest) total p node h at = here _ refl h (λ next g. weighed (suc k) j rest next p node g at)
     where
-      here : (r : Result Polynomial Refusal) → counted_with table k x total ≡ r
+      here : (r : Result Polynomial RefusalReason) → counted_with table k x total ≡ r
           → at_node k r (count_from table (suc k) rest) ≡ Ok p
           → ((next : Polynomial) → count_from table (suc k) rest next ≡ Ok p
           → (m : Polynomial) × (weight table node (facts_at table (suc k + j)) ≡ Ok m))
@@ -75,7 +75,7 @@ module _ (table : Table) where
   sizes_grow k [] acc p n h = let e : acc ≡ p = cc in subst (λ p. value acc n ≤ value p n) e (omega arith)
   sizes_grow k (x ∷ rest) acc p n h = here _ refl h (λ next g. sizes_grow (suc k) rest next p n g)
     where
-      here : (r : Result Polynomial Refusal) → sized_with (facts_at table k) acc ≡ r
+      here : (r : Result Polynomial RefusalReason) → sized_with (facts_at table k) acc ≡ r
           → at_node k r (size_from table (suc k) rest) ≡ Ok p
           → ((next : Polynomial) → size_from table (suc k) rest next ≡ Ok p → value next n ≤ value p n)
           → value acc n ≤ value p n
@@ -93,7 +93,7 @@ module _ (table : Table) where
   sized k j [] acc p n node facts h at known = absurd (cc)
   sized k zero (x ∷ rest) acc p n node facts h at known = here _ refl h
     where
-      here : (r : Result Polynomial Refusal) → sized_with (facts_at table k) acc ≡ r
+      here : (r : Result Polynomial RefusalReason) → sized_with (facts_at table k) acc ≡ r
           → at_node k r (size_from table (suc k) rest) ≡ Ok p
           → AllByRecursion (λ q. value q n ≤ value p n) (facts.held ∷ facts.texts)
       here (Err why) e h = absurd (cc)
@@ -107,7 +107,7 @@ module _ (table : Table) where
       let z : suc k + j ≡ k + suc j = omega arith in
       here _ refl h (λ next g. sized (suc k) j rest next p n node facts g at (ap (facts_at table) z ∙ known))
     where
-      here : (r : Result Polynomial Refusal) → sized_with (facts_at table k) acc ≡ r
+      here : (r : Result Polynomial RefusalReason) → sized_with (facts_at table k) acc ≡ r
           → at_node k r (size_from table (suc k) rest) ≡ Ok p
           → ((next : Polynomial) → size_from table (suc k) rest next ≡ Ok p
           → AllByRecursion (λ q. value q n ≤ value p n) (facts.held ∷ facts.texts))

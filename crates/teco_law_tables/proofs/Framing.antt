@@ -10,7 +10,7 @@ use Rattle.teco_law_expansion.specs.Loaded.{KeepsBy, StepsKeep}
 use Rattle.teco_law_tables.proofs.Described as described
 use Rattle.teco_law_tables.proofs.Described.{at_first, reaches_later, reaches_none, ready_call}
 use Rattle.teco_law_tables.proofs.Ending as ending
-use Rattle.teco_law_tables.proofs.Ending.{Call, Course, course}
+use Rattle.teco_law_tables.proofs.Ending.{ClosedCall, Course, course}
 use Rattle.teco_law_tables.proofs.Pending.{CallLaws, other_next}
 use Rattle.teco_law_tables.proofs.Underway.{ElementsGo}
 use Rattle.teco_law_tables.proofs.Verifying as verifying
@@ -92,7 +92,7 @@ module _ (laws : ending.Laws) (c : Course)
       read_here number turns begun u at (g.amid (suc k) u (omega arith) l came).frames
   reads_in u (described.Behind o above) = OfNone (ap read_at (sym o) ∙ over_reads entry)
 
-module _ (laws : ending.Laws) (keep : StepsKeep) (call : Call)
+module _ (laws : ending.Laws) (keep : StepsKeep) (call : ClosedCall)
     (go : ElementsGo call.library call.entry call.nodes call.table call.n call.world.kept.registers.stack
     (start_given call.entry call.given call.world)) (files : AreOpen (needs_in call.nodes call.table) call.world.files)
   where

@@ -86,7 +86,7 @@ pub use Rattle.teco_model.specs.declared.kind.Search.{Search}
 pub use Rattle.teco_model.specs.declared.stop.Stop.{Stop}
 pub use Rattle.teco_poly.proofs.Lawful.{values_compare, values_of_constants}
 pub use Rattle.teco_poly.specs.Polynomial.{Polynomial, number, value}
-pub use Rattle.teco_verifier.specs.declared.refusal.Refusal.{Refusal}
+pub use Rattle.teco_verifier.specs.declared.refusal.RefusalReason.{RefusalReason}
 pub use Rattle.teco_verifier.specs.declared.values.Value.{Value}
 pub use Rattle.teco_verifier.specs.expansion.Ends.{end_of, ends, ends_by, ends_by_kind, is_innermost}
 pub use Rattle.teco_verifier.specs.expansion.Expansion.{MOST_ELEMENTS, Walk, first_visit}

@@ -2,7 +2,8 @@
 use Rattle.teco_law_tables.proofs.Prelude.{◌≡◌, ℕ, zero, suc, ◌+◌, refl, sym, ap, ◌∙◌, subst, arith, List, [], ◌∷◌}
 use Rattle.teco_law_tables.proofs.Prelude.{Bool, true, false, ◌||◌, if◌then◌else◌, Option, Some, None, Result, Ok, Err}
 use Rattle.teco_law_tables.proofs.Prelude.{slice_get, IsTrue, Facts, Element, end_of, Node, numbered, Polynomial}
-use Rattle.teco_law_tables.proofs.Prelude.{and_both, Refusal, Choice, body_start, Edges, edges_at, say_same, is_entry}
+use Rattle.teco_law_tables.proofs.Prelude.{and_both, RefusalReason, Choice, body_start, Edges, edges_at, say_same}
+use Rattle.teco_law_tables.proofs.Prelude.{is_entry}
 use Rattle.teco_law_tables.proofs.Prelude.{is_counted, body_stands, is_entered, enters_by, enters_at, closed_behind}
 use Rattle.teco_law_tables.proofs.Prelude.{begins_by_kind, begins_iteration, closed_where, closed_at, check_from}
 use Rattle.teco_law_tables.proofs.Prelude.{check_nodes, check, Table, facts_at, choice_at, changes_in, ArgumentRange}
@@ -78,7 +79,7 @@ module _ (nodes : List Node) (table : Table) where
   module _ (begin : ℕ) (node : Node) (start : Facts) (there : facts_at table (suc begin) ≡ Some start) where
     stand_of_body : (facts : Facts) (edges : Edges) (entering : Facts) → facts_at table begin ≡ Some facts
         → edges_at nodes node facts ≡ Ok edges → edges.on ≡ Some entering →
-        (c : Option Choice) → choice_at table begin ≡ c → (r : Result Polynomial Refusal) → turns facts ≡ r
+        (c : Option Choice) → choice_at table begin ≡ c → (r : Result Polynomial RefusalReason) → turns facts ≡ r
         → body_stands (changes_in nodes begin) (facts_at table (end_of nodes begin)) entering
         (Some start) c r ≡ true → Body begin node start
     stand_of_body facts edges entering known leads on (Some choice) chosen (Ok most) t h =
@@ -109,7 +110,7 @@ module _ (nodes : List Node) (table : Table) where
         (choice_at table begin) (turns facts)) (sym there) ∙ h)
 
     module _ (e : Element) (reads : node.element ≡ Some e) (is : e.kind ≡ kind.Flow flow.Iterate) where
-      behind_body : (facts : Facts) → facts_at table begin ≡ Some facts → (r : Result Edges Refusal)
+      behind_body : (facts : Facts) → facts_at table begin ≡ Some facts → (r : Result Edges RefusalReason)
           → edges_at nodes node facts ≡ r → closed_behind nodes table begin node facts r ≡ true → Body begin node start
       behind_body facts known (Err why) leads h = absurd (cc)
       behind_body facts known (Ok edges) leads h =

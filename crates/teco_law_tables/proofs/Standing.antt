@@ -6,7 +6,7 @@ use Rattle.teco_law_tables.proofs.Prelude.{ends_by_kind, ends_by, ends, end_of, 
 use Rattle.teco_law_tables.proofs.Prelude.{Library, AreLinked, Stand, Node, beginning, numbered, Spot, Position}
 use Rattle.teco_law_tables.proofs.Prelude.{end_ways, flow_ways, element_ways, ways_at, Table, begins_by_kind}
 use Rattle.teco_law_tables.proofs.Prelude.{begins_iteration, iterations_of, iterations_at, begins_of, turning}
-use Rattle.teco_law_turns.specs.Nests.{Mark, End, Plain, EndsInnermost, IsPassed}
+use Rattle.teco_law_turns.specs.Nests.{LoopMark, End, Plain, EndsInnermost, IsPassed}
 use Rattle.teco_model.specs.declared.kind.Flow.TheVariants as flow
 use Rattle.teco_model.specs.declared.kind.Kind.TheVariants as kind
 use Rattle.teco_law_expansion.specs.Iterations.{AreOpen}
@@ -14,23 +14,23 @@ use Rattle.teco_verifier.specs.expansion.Order.{stand_behind_kind, stand_behind}
 use Rattle.teco_law_tables.proofs.Lookup.{node_of, same_stand, same_number}
 
 -- ---- what a node is
-abbrev pub mark_of_flow : Flow → Mark
+abbrev pub mark_of_flow : Flow → LoopMark
 mark_of_flow flow.Iterate = Begin
 mark_of_flow flow.EndTurn = End
 mark_of_flow f = Plain
 
-abbrev pub mark_of_kind : Kind → Mark
+abbrev pub mark_of_kind : Kind → LoopMark
 mark_of_kind (kind.Flow f) = mark_of_flow f
 mark_of_kind k = Plain
 
-abbrev pub mark_of : Option Element → Mark
+abbrev pub mark_of : Option Element → LoopMark
 mark_of None = Plain
 mark_of (Some e) = mark_of_kind e.kind
 
-abbrev pub mark_in : Node → Mark
+abbrev pub mark_in : Node → LoopMark
 mark_in node = mark_of node.element
 
-abbrev pub mark_at : List Node → ℕ → Mark
+abbrev pub mark_at : List Node → ℕ → LoopMark
 mark_at nodes k = option_map_or mark_in (numbered nodes k) Plain
 
 begin_kind : (k : Kind) → begins_by_kind k ≡ true → mark_of_kind k ≡ Begin

@@ -7,13 +7,13 @@ use Rattle.teco_law_tables.proofs.Prelude.{Frame, State, Outcome, Next, End, sta
 use Rattle.teco_law_tables.proofs.Prelude.{outcome_at, step, AreClosed, IterationsEnd, Library, ArgumentRange, IsAsked}
 use Rattle.teco_law_tables.proofs.Prelude.{Needs, AreLinked, NodesAreSound, Node, stands, numbered, Spot, Position}
 use Rattle.teco_law_tables.proofs.Prelude.{start_of, GoesTo, MovesFrom, Stayed, IsLeftAt, ways_at, values_of_constants}
-use Rattle.teco_law_tables.proofs.Prelude.{unread_of, Alone, run_along, value_of, turning, Polynomial, value, Refusal}
+use Rattle.teco_law_tables.proofs.Prelude.{unread_of, Alone, run_along, value_of, turning, Polynomial, value}
 use Rattle.teco_law_tables.proofs.Prelude.{LIMIT, REGISTERS, Arguments, steps_in, call_given, arguments_given, Run}
 use Rattle.teco_law_tables.proofs.Prelude.{Describes, without_answer, Facts, Edges, no_needs, needs, AreOpen, BeginsAt}
 use Rattle.teco_law_tables.proofs.Prelude.{left_by, placed, edges_behind, edges_at, along, closed_behind, EndsWithin}
 use Rattle.teco_law_tables.proofs.Prelude.{start_given, RunsEndInTime, run_at, steps_before, steps_of, needs_from}
 use Rattle.teco_law_tables.proofs.Prelude.{needs_in, IsPrinted, changes_files, ReadsNoFileCommand, Table, facts_at}
-use Rattle.teco_law_tables.proofs.Prelude.{IsReady}
+use Rattle.teco_law_tables.proofs.Prelude.{IsReady, RefusalReason}
 use Rattle.std.proofs.Common.{IfOk}
 use Rattle.teco_model.specs.Macros.{call_of}
 use Rattle.teco_law_expansion.specs.Run.{Went}
@@ -87,14 +87,16 @@ needs_in_all nodes table zero node facts at known = absurd (cc)
 needs_in_all nodes table (suc k) node facts at known = let z : 1 + k ≡ suc k = omega arith in
     needs_among table 1 k nodes node facts at (ap (facts_at table) z ∙ known)
 
-open_for : (r : Result Needs Refusal) (all : Needs) (files : Files) → Among (known_needs r) all → AreOpen all files
+open_for : (r : Result Needs RefusalReason) (all : Needs) (files : Files) → Among (known_needs r) all
+    → AreOpen all files
     → IfOk r (λ need. AreOpen need files)
 open_for (Ok need) all files among open_all =
     record { input = λ h. open_all.input (among.0 h); output = λ h. open_all.output (among.1 h) }
 open_for (Err why) all files among open_all = tt
 
 -- ---- the edges of a node that is reached
-edges_there : (nodes : List Node) (table : Table) (number : ℕ) (node : Node) (facts : Facts) (r : Result Edges Refusal)
+edges_there : (nodes : List Node) (table : Table) (number : ℕ) (node : Node) (facts : Facts)
+    (r : Result Edges RefusalReason)
     → IsTrue (closed_behind nodes table number node facts r) → (edges : Edges) × (r ≡ Ok edges)
 edges_there nodes table number node facts (Ok edges) h = (edges, refl)
 edges_there nodes table number node facts (Err why) h = absurd (cc)

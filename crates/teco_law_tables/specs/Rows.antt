@@ -8,8 +8,8 @@ use Rattle.teco_verifier.specs.expansion.Refusal.{Refusal as NotExpanded}
 use Rattle.teco_law_expansion.specs.Rows.{only, then, mark_foo}
 use Rattle.teco_poly.specs.Polynomial.{Polynomial, first}
 use Rattle.teco_poly.specs.Text.{text}
-use Rattle.teco_verifier.specs.declared.refusal.Refusal.{Refusal}
-use Rattle.teco_verifier.specs.declared.refusal.Refusal.TheVariants as refusal
+use Rattle.teco_verifier.specs.declared.refusal.RefusalReason.{RefusalReason}
+use Rattle.teco_verifier.specs.declared.refusal.RefusalReason.TheVariants as refusal
 use Rattle.teco_verifier.specs.table.Closed.{check}
 use Rattle.teco_verifier.specs.table.Choices.{Chosen}
 use Rattle.teco_verifier.specs.table.Deriving.{derive}
@@ -21,7 +21,7 @@ pub data Verdict : Type 0 where
   Printed : List ℕ → List ℕ → List ℕ → Verdict
   NotClosed : ℕ → Verdict
   Overflows : ℕ → Verdict
-  NotDerived : Refusal → Verdict
+  NotDerived : RefusalReason → Verdict
   Unexpanded : NotExpanded → Verdict
 
 abbrev pub letters_of : Bool → Bool → List ℕ
@@ -40,7 +40,7 @@ verdict_checked argument nodes table (Ok closed) =
     printed (commands argument nodes table) (size nodes table) (needs_in nodes table)
 verdict_checked argument nodes table (Err node) = NotClosed node
 
-abbrev pub verdict_derived : Option ArgumentRange → List Node → Result Table Refusal → Verdict
+abbrev pub verdict_derived : Option ArgumentRange → List Node → Result Table RefusalReason → Verdict
 verdict_derived argument nodes (Ok table) = verdict_checked argument nodes table (check argument nodes table)
 verdict_derived argument nodes (Err why) = NotDerived why
 

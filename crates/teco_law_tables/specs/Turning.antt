@@ -6,7 +6,7 @@ use Rattle.teco_law_turns.specs.Table.{Table as Numbers}
 use Rattle.teco_verifier.specs.expansion.Ends.{end_of}
 use Rattle.teco_verifier.specs.expansion.Node.{Node, numbered}
 use Rattle.teco_poly.specs.Polynomial.{Polynomial, value}
-use Rattle.teco_verifier.specs.declared.refusal.Refusal.{Refusal}
+use Rattle.teco_verifier.specs.declared.refusal.RefusalReason.{RefusalReason}
 use Rattle.teco_verifier.specs.facts.Facts.{Facts}
 use Rattle.teco_verifier.specs.table.Closed.{begins_iteration}
 use Rattle.teco_verifier.specs.table.Printed.{turns_at, steps_of}
@@ -18,7 +18,7 @@ is_reached table zero = true
 is_reached table (suc k) = is_some (facts_at table (suc k))
 
 -- the value of a polynomial that does not overflow
-abbrev pub value_of : ℕ → Result Polynomial Refusal → ℕ
+abbrev pub value_of : ℕ → Result Polynomial RefusalReason → ℕ
 value_of n (Ok p) = value p n
 value_of n (Err why) = 0
 

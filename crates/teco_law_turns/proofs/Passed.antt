@@ -3,21 +3,21 @@ use Rattle.std.proofs.Common.{◌≡◌, ℕ, zero, suc, ◌<◌, ◌≤◌, ⊎
 use Rattle.std.proofs.lemmas.Bool.{cases_lt}
 use Rattle.std.specs.List.{AllByRecursion}
 use Rattle.teco_law_turns.specs.Table.{Table, behind}
-use Rattle.teco_law_turns.specs.Nests.{Mark, Begin, End, Plain, onward, EndsInnermost, IsPassed, NodesNest}
+use Rattle.teco_law_turns.specs.Nests.{LoopMark, Begin, End, Plain, onward, EndsInnermost, IsPassed, NodesNest}
 
-module _ (t : Table) (mark : ℕ → Mark) (nested : IsPassed t mark) where
+module _ (t : Table) (mark : ℕ → LoopMark) (nested : IsPassed t mark) where
   pub first : (l : ℕ) → l < t.end l → t.loops (suc l) ≡ l ∷ t.loops l
   first l some = search arith
 
   -- one node further
-  further : (l j : ℕ) (m : Mark) (inner : List ℕ) → mark j ≡ m → suc j ≤ t.end l → t.end l < t.size
+  further : (l j : ℕ) (m : LoopMark) (inner : List ℕ) → mark j ≡ m → suc j ≤ t.end l → t.end l < t.size
       → t.loops j ≡ inner ++ l ∷ t.loops l → (deeper : List ℕ) × (t.loops (suc j) ≡ deeper ++ l ∷ t.loops l)
   further l j m inner is to within at =
       on m inner (nested.next j (omega arith) ∙ ap (λ m. onward m j (t.loops j)) is ∙ ap (onward m j) at)
       (subst (λ ls. EndsInnermost t m j ls) at
       (subst (λ m. EndsInnermost t m j (t.loops j)) is (nested.ends j (omega arith))))
     where
-      on : (m : Mark) (inner : List ℕ) → t.loops (suc j) ≡ onward m j (inner ++ l ∷ t.loops l)
+      on : (m : LoopMark) (inner : List ℕ) → t.loops (suc j) ≡ onward m j (inner ++ l ∷ t.loops l)
           → EndsInnermost t m j (inner ++ l ∷ t.loops l)
           → (deeper : List ℕ) × (t.loops (suc j) ≡ deeper ++ l ∷ t.loops l)
       on Begin inner e ends = (j ∷ inner, e)

@@ -8,8 +8,8 @@ ghost use Rattle.teco_lex.specs.Reading.{SecondByte};
 use teco_base::Code;
 use teco_base::bytes::{ESC, QUOTE, TAB, control, is_digit, to_upper};
 use teco_model::kind::{
-    Argument, Command, File, Flow, Goal, Insertion, Kind, Motion, Page, Query, Radix, Search, Test,
-    Typing, Unit, Value,
+    Argument, Command, File, Flow, Goal, Insertion, Kind, MachineValue, Motion, Page, Query, Radix,
+    Search, Test, Typing, Unit,
 };
 use teco_model::{Head, OnRegister, Operator};
 
@@ -27,7 +27,7 @@ fn argument_sign(b: u8) -> Option<Kind>
         b'(' => Argument::Open,
         b')' => Argument::Close,
         b',' => Argument::Comma,
-        b'.' => return Some(Kind::Value(Value::Pointer)),
+        b'.' => return Some(Kind::Value(MachineValue::Pointer)),
         _ => return None,
     };
     Some(Kind::Argument(argument))
@@ -59,11 +59,11 @@ fn letter_to_m(letter: u8) -> Option<Head>
 {
     let head = match letter {
         b'A' => Head::Kind(Kind::Page(Page::Append)),
-        b'B' => Head::Kind(Kind::Value(Value::Begin)),
+        b'B' => Head::Kind(Kind::Value(MachineValue::Begin)),
         b'C' => Head::Kind(Kind::Command(Command::Motion(Motion::Forward))),
         b'D' => Head::Kind(Kind::Command(Command::Deletion(Unit::Characters))),
         b'G' => Head::OnRegister(OnRegister::Get),
-        b'H' => Head::Kind(Kind::Value(Value::Whole)),
+        b'H' => Head::Kind(Kind::Value(MachineValue::Whole)),
         b'I' => Head::Kind(Kind::Command(Command::Insertion(Insertion::Text))),
         b'J' => Head::Kind(Kind::Command(Command::Motion(Motion::To))),
         b'K' => Head::Kind(Kind::Command(Command::Deletion(Unit::Lines))),
@@ -89,7 +89,7 @@ fn letter_from_n(letter: u8) -> Option<Head>
         b'V' => Head::Kind(Kind::Command(Command::Typing(Typing::View))),
         b'X' => Head::OnRegister(OnRegister::Copy),
         b'Y' => Head::Kind(Kind::Page(Page::Yank)),
-        b'Z' => Head::Kind(Kind::Value(Value::Size)),
+        b'Z' => Head::Kind(Kind::Value(MachineValue::Size)),
         _ => return None,
     };
     Some(head)
@@ -102,11 +102,11 @@ fn control_command(b: u8) -> Option<Head>
     let head = match b {
         0x01 => Head::Kind(Kind::Command(Command::Typing(Typing::Message))),
         TAB => Head::Kind(Kind::Command(Command::Insertion(Insertion::Tab))),
-        0x13 => Head::Kind(Kind::Value(Value::LastLength)),
+        0x13 => Head::Kind(Kind::Value(MachineValue::LastLength)),
         0x14 => Head::Kind(Kind::Command(Command::Typing(Typing::Byte))),
         0x15 => Head::OnRegister(OnRegister::SetText),
         0x18 => Head::Kind(Kind::Query(Query::Mode)),
-        0x19 => Head::Kind(Kind::Value(Value::LastText)),
+        0x19 => Head::Kind(Kind::Value(MachineValue::LastText)),
         ESC => Head::Kind(Kind::Argument(Argument::DropAll)),
         _ => return None,
     };

@@ -81,7 +81,7 @@ impl Form {
         Form::term(once, alloc)
     }
 
-    /// The same form once more.
+    /// A copy of the form.
     pub fn copied(&self, alloc: Global) -> Result<Form, LinearFault>
         ensures { IfOk result (λ copy. copy ≡ self.now) }
     {

@@ -8,7 +8,7 @@ pub enum Kind {
     /// Changes the pending arguments, and nothing else.
     Argument(Argument),
     /// Gives a value of the machine's.
-    Value(Value),
+    Value(MachineValue),
     /// Gives a value; where one stands, takes that instead.
     Query(Query),
     /// `[` and `]`: it leaves the arguments.
@@ -103,7 +103,7 @@ pub enum Argument {
 
 /// A value that the machine has.
 #[derive(Clone, Copy)]
-pub enum Value {
+pub enum MachineValue {
     /// `B`, the place before the first character.
     Begin,
     /// `Z`, the length of the buffer.

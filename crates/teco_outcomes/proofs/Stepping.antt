@@ -16,7 +16,7 @@ use Rattle.teco_model.specs.declared.kind.Flow.{Flow}
 use Rattle.teco_model.specs.declared.kind.Kind.TheVariants as kind
 use Rattle.teco_model.specs.declared.kind.Query.{Query}
 use Rattle.teco_model.specs.declared.kind.Stack.{Stack}
-use Rattle.teco_model.specs.declared.kind.Value.{Value}
+use Rattle.teco_model.specs.declared.kind.MachineValue.{MachineValue}
 use Rattle.teco_rows.specs.Commands.{taken_by}
 use Rattle.teco_rows.specs.Foretold.{Rearranges}
 use Rattle.teco_flow_outcomes.specs.Flow.{IsTurnOf, Turns}
@@ -53,7 +53,7 @@ argument_law e case all a is arranges =
       passed s n (Ok levels) d = d
       passed s n (Err c) d = d
 
-pub value_law : (e : Element) (case : Case) (all : Outcomes) (v : Value) → e.kind ≡ kind.Value v
+pub value_law : (e : Element) (case : Case) (all : Outcomes) (v : MachineValue) → e.kind ≡ kind.Value v
     → Foretells (λ s. after_value v s.kept s.arguments) case all → Law e case all
 unfolding reply_of
 value_law e case all v is foretells =

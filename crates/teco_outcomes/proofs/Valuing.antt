@@ -7,12 +7,12 @@ use Rattle.std.proofs.lemmas.Int.{int_wrap_fits}
 use Rattle.teco_base.specs.Arithmetic.{add}
 use Rattle.teco_model.specs.Arguments.{level_with_pair}
 use Rattle.teco_model.specs.Step.{level_with_value}
-use Rattle.teco_model.specs.declared.kind.Value.{Value}
-use Rattle.teco_model.specs.declared.kind.Value.TheVariants.{Begin, Size, Pointer, Whole, LastLength, LastText}
+use Rattle.teco_model.specs.declared.kind.MachineValue.{MachineValue}
+use Rattle.teco_model.specs.declared.kind.MachineValue.TheVariants.{Begin, Size, Pointer, Whole, LastLength, LastText}
 use Rattle.teco_rows.specs.Levels.{GivesPair}
 
 -- a form is the number that a value gives
-pub record IsValue (kind : Value) (form : List Term) (case : Case) : Type 0 where
+pub record IsValue (kind : MachineValue) (form : List Term) (case : Case) : Type 0 where
   pub number : Point → ℤ
   pub gives : (s : Point) → level_with_value kind s.kept s.arguments.level ≡ level_with (number s) s.arguments.level
   pub same : (n : ℕ) (v : Valuation) (s : Point) → IsTrueOf n v case s → value form n v ≡ number s
@@ -24,7 +24,7 @@ pub levels_succeed : (n : ℕ) (all : Outcomes) (s : Point) (r : Result Level Co
 levels_succeed n all s (Ok level) d = d
 levels_succeed n all s (Err c) d = d
 
-pub value_foretold : (kind : Value) (form : List Term) (case : Case) (all : Outcomes) → IsValue kind form case
+pub value_foretold : (kind : MachineValue) (form : List Term) (case : Case) (all : Outcomes) → IsValue kind form case
     → Gives form case all → Foretells (λ s. after_value kind s.kept s.arguments) case all
 value_foretold kind form case all is gives n v s begins =
     levels_succeed n all s (level_with_value kind s.kept s.arguments.level)
@@ -68,7 +68,7 @@ last_value case zero length minus e h f = record {
 
 -- ---- pairs
 -- two forms are the numbers that a value gives
-pub record IsPairValue (kind : Value) (first second : List Term) (case : Case) : Type 0 where
+pub record IsPairValue (kind : MachineValue) (first second : List Term) (case : Case) : Type 0 where
   pub one : Point → ℤ
   pub other : Point → ℤ
   pub gives :
@@ -77,7 +77,7 @@ pub record IsPairValue (kind : Value) (first second : List Term) (case : Case) :
   pub same_one : (n : ℕ) (v : Valuation) (s : Point) → IsTrueOf n v case s → IsWhole s.kept → value first n v ≡ one s
   pub same_other : (n : ℕ) (v : Valuation) (s : Point) → IsTrueOf n v case s → value second n v ≡ other s
 
-pub pair_foretold : (kind : Value) (first second : List Term) (case : Case) (all : Outcomes)
+pub pair_foretold : (kind : MachineValue) (first second : List Term) (case : Case) (all : Outcomes)
     → IsPairValue kind first second case → GivesPair first second case all
     → Foretells (λ s. after_value kind s.kept s.arguments) case all
 pair_foretold kind first second case all is gives n v s begins =

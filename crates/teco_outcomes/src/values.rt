@@ -6,7 +6,7 @@ ghost use Rattle.teco_rows.specs.Foretold.{Foretells};
 use std::alloc::Global;
 use teco_flow_outcomes::pairs::give_pair;
 use teco_linear::Form;
-use teco_model::kind::Value;
+use teco_model::kind::MachineValue;
 use teco_rows::case::Case;
 use teco_rows::fault::RowFault;
 use teco_rows::forms::single;
@@ -17,27 +17,27 @@ use teco_rows::outcomes::Outcomes;
 /// `B`, `Z`, `.` and `^S` give a number, and `H` and `^Y` a pair of them.
 pub fn give_value(
     case: &Case,
-    value: Value,
+    value: MachineValue,
     may_wrap: bool,
     alloc: Global,
 ) -> Result<Outcomes, RowFault>
     ensures { IfOk result (λ all. Foretells (λ s. after_value value s.kept s.arguments) case.now all) }
 {
     match value {
-        Value::Begin => give(case, Form::zero(alloc), may_wrap, alloc),
-        Value::Size => give(case, single(case, Single::Size, alloc)?, may_wrap, alloc),
-        Value::Pointer => give(case, single(case, Single::Pointer, alloc)?, may_wrap, alloc),
-        Value::LastLength => {
+        MachineValue::Begin => give(case, Form::zero(alloc), may_wrap, alloc),
+        MachineValue::Size => give(case, single(case, Single::Size, alloc)?, may_wrap, alloc),
+        MachineValue::Pointer => give(case, single(case, Single::Pointer, alloc)?, may_wrap, alloc),
+        MachineValue::LastLength => {
             let length = single(case, Single::LastLength, alloc)?;
             let minus = Form::zero(alloc).sub(&length, alloc)?;
             give(case, minus, may_wrap, alloc)
         }
-        Value::Whole => {
+        MachineValue::Whole => {
             let begin = Form::zero(alloc);
             let size = single(case, Single::Size, alloc)?;
             give_pair(case, &begin, size, alloc)
         }
-        Value::LastText => {
+        MachineValue::LastText => {
             let pointer = single(case, Single::Pointer, alloc)?;
             let length = single(case, Single::LastLength, alloc)?;
             let begin = pointer.sub(&length, alloc)?;

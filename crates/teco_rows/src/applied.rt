@@ -18,14 +18,14 @@ use teco_linear::{Form, LinearFault, Scale, Term};
 /// The most places that the forms of a case may have.
 pub const MAX_PLACES: usize = 65_536;
 
-/// The same form once more.
+/// A copy of the form.
 pub fn copied(form: &Form, alloc: Global) -> Result<Form, LinearFault>
     ensures { IfOk result (λ copy. (n : ℕ) (v : Valuation) → value copy n v ≡ value form.now n v) }
 {
     form.copied(alloc)
 }
 
-// The same form, or none, once more.
+// A copy of the form, if there is one.
 fn copied_if(form: &Option<Form>, alloc: Global) -> Result<Option<Form>, LinearFault>
     ensures { IfOk result (λ copy. (n : ℕ) (v : Valuation)
         → value_if copy n v ≡ value_if form.now n v) }
@@ -207,7 +207,7 @@ pub fn put(forms: &mut Vec<Option<Form>>, place: usize, form: Option<Form>) -> R
     Ok(())
 }
 
-/// The same forms once more.
+/// Copies of the forms.
 pub fn copied_forms(forms: &[Option<Form>], alloc: Global) -> Result<Vec<Option<Form>>, RowFault>
     ensures { IfOk result (λ copies. (n : ℕ) (v : Valuation) (k : ℕ)
         → value_if (slice_index_or copies.items k None) n v
@@ -220,7 +220,7 @@ pub fn copied_forms(forms: &[Option<Form>], alloc: Global) -> Result<Vec<Option<
     Ok(copies)
 }
 
-/// The same constraints once more.
+/// Copies of the constraints.
 pub fn copied_constraints(forms: &[Form], alloc: Global) -> Result<Vec<Form>, RowFault>
     ensures { IfOk result (λ copies. (n : ℕ) (v : Valuation)
         → All (Holds n v) forms.now → All (Holds n v) copies.items) }

@@ -74,7 +74,7 @@ pub fn at_level(case: &Case) -> Result<Places, RowFault>
     }
 }
 
-/// The same shape once more, with this operator at the innermost level.
+/// A copy of the shape, with this operator at the innermost level.
 pub fn with_operator(
     shape: &Shape,
     operator: Option<Operator>,

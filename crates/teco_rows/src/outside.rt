@@ -11,7 +11,7 @@ use std::alloc::Global;
 use teco_linear::Form;
 use teco_model::Operator;
 
-// The same case once more.
+// A copy of the case.
 fn copied(case: &Case, alloc: Global) -> Result<Case, RowFault>
     ensures { IfOk result (λ copy. IsCopyOf case.now copy) }
 {

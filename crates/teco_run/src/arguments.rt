@@ -10,7 +10,7 @@ ghost use Rattle.teco_run.specs.Performs.{Argues, level_given};
 use teco_base::arithmetic;
 use teco_editor::{Editor, Stuck};
 use teco_expr::Args;
-use teco_model::kind::{Argument, Value};
+use teco_model::kind::{Argument, MachineValue};
 use teco_text::TextStore;
 
 /// Changes the arguments as an element of this kind does, or leaves them as they are.
@@ -78,7 +78,7 @@ pub enum Given {
 
 /// A value that the machine has.
 #[inline(always)]
-pub fn value_of<T: TextStore>(editor: &Editor<T>, value: Value) -> Given
+pub fn value_of<T: TextStore>(editor: &Editor<T>, value: MachineValue) -> Given
     ensures { (level : Level) → level_given result level
         ≡ model.level_with_value value editor.now level }
 {
@@ -86,12 +86,12 @@ pub fn value_of<T: TextStore>(editor: &Editor<T>, value: Value) -> Given
     let dot = number(editor.dot());
     let last = minus(editor.last_length());
     match value {
-        Value::Begin => Given::One(0),
-        Value::Size => Given::One(size),
-        Value::Pointer => Given::One(dot),
-        Value::Whole => Given::Two(0, size),
-        Value::LastLength => Given::One(last),
-        Value::LastText => Given::Two(arithmetic::add(dot, last), dot),
+        MachineValue::Begin => Given::One(0),
+        MachineValue::Size => Given::One(size),
+        MachineValue::Pointer => Given::One(dot),
+        MachineValue::Whole => Given::Two(0, size),
+        MachineValue::LastLength => Given::One(last),
+        MachineValue::LastText => Given::Two(arithmetic::add(dot, last), dot),
     }
 }
 
@@ -99,7 +99,7 @@ pub fn value_of<T: TextStore>(editor: &Editor<T>, value: Value) -> Given
 #[inline(always)]
 pub fn give_value<T: TextStore>(
     editor: &Editor<T>,
-    value: Value,
+    value: MachineValue,
     arguments: &mut Args,
 ) -> Result<(), Stuck>
     ensures { Argues false arguments.new

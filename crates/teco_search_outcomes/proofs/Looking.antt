@@ -19,7 +19,7 @@ use Rattle.teco_search_outcomes.proofs.Prelude.{Outcomes, Places, Agree, value_i
 use Rattle.teco_search_outcomes.proofs.Prelude.{Succeeds, changed, Origin, Point, IsTrueOf, Describes, single}
 use Rattle.teco_search_outcomes.proofs.Prelude.{with_codes, among, line_begin, line_end, IsChangedFrom, read_given}
 use Rattle.teco_search_outcomes.proofs.Prelude.{with_kept, Goes, StepsTo, loops_in, place_away, point_of, unread_in}
-use Rattle.teco_search_outcomes.proofs.Prelude.{Ahead, Ends, HasRoom, IsAsked, IsFoundBy, IsOf, IsReplacedBy, warned}
+use Rattle.teco_search_outcomes.proofs.Prelude.{Ahead, Ends, IsAsked, IsFoundBy, IsOf, IsReplacedBy, warned}
 use Rattle.std.specs.Prelude.{MatchOption, IfSome}
 use Rattle.teco_base.specs.declared.code.Code.TheVariants as code
 use Rattle.teco_linear.specs.Implied as linear
@@ -44,8 +44,10 @@ use Rattle.teco_command_outcomes.specs.Changes.{DescribesFrom, with_steps}
 use Rattle.teco_command_outcomes.proofs.Changing.{changes_later}
 use Rattle.teco_flow_outcomes.specs.Flow.{turned as turned_point}
 use Rattle.teco_search_outcomes.specs.declared.page_searches.TheConstants.{LATER_PAGE, THROUGH}
-use Rattle.teco_search_outcomes.specs.PageSearches.{Comes, HasMore, IsLaterPage, IsPositive}
-use Rattle.teco_search_outcomes.specs.PageSearches.{IsThrough, LongLaw}
+use Rattle.teco_search_outcomes.specs.PageSearches.{Comes, HasMore, HasPageRoom, IsBegunInPages}
+use Rattle.teco_search_outcomes.specs.PageSearches.{IsLaterPage, IsPositive, IsThrough, LongLaw}
+use Rattle.teco_search_outcomes.specs.Searches.{HaveRoom}
+use Rattle.teco_search_outcomes.specs.declared.page_searches.BegunInPages.{BegunInPages}
 use Rattle.teco_search_outcomes.proofs.Matching.{match_lies}
 use Rattle.teco_search_outcomes.proofs.Paging.{behind_there, fits, got, split, unread_there}
 use Rattle.teco_search_outcomes.proofs.Seeking.{Keeps, left_by, nonempty, own_text}
@@ -256,12 +258,10 @@ keeps_found_later e case on later ps guarded by n v t span d whole holds of =
           (record { text = refl; pointer = refl; registers = refl; last = refl; typed = refl }),
     )
 
-pub keeps_replaced_later : (e : Element) (case on later : Case) (ps : List Part) (guard : Guarded)
-    (guarded : List Guarded) → case.symbols ≤ on.symbols
-    → ((n : ℕ) (v : Valuation) → All (IsGuarded n v) guarded → IsGuarded n v guard)
-    → IsReplacedBy ps Ahead e.second on later → HasRoom case later guard
+pub keeps_replaced_later : (e : Element) (case on later : Case) (ps : List Part) (guarded : List Guarded)
+    → case.symbols ≤ on.symbols → IsReplacedBy ps Ahead e.second on later → HaveRoom case later guarded
     → KeepsLater ReplaceInPages e ps case on later guarded
-keeps_replaced_later e case on later ps guard guarded more one by room n v t span d whole holds of =
+keeps_replaced_later e case on later ps guarded more by room n v t span d whole holds of =
     let new = text_after_replacement t.kept.text span.start span.end e.second in
     let kept = record t.kept {
       text = new;
@@ -272,7 +272,7 @@ keeps_replaced_later e case on later ps guard guarded more one by room n v t spa
     (record { text = refl; pointer = refl; registers = refl; last = refl; typed = refl })
     in
     let agree : Agree case.symbols v made.0 = λ symbol less. d.1 symbol less ∙ made.1 symbol (omega arith) in
-    let short : length new ≤ LIMIT = room n v (with_kept t kept) (made.0, agree, made.2) (one n v holds) in
+    let short : length new ≤ LIMIT = room n v (with_kept t kept) (made.0, agree, made.2) holds in
     let few : nat_le (length new) LIMIT ≡ true = grind (arith, nat_tests) in (
       kept,
       ap (λ b. if b then Ok kept else Err code.Ful) few,
@@ -673,19 +673,20 @@ module _ (x : Search) (answering : Bool) (e : Element) (taken : TakenForms) (cas
               (subst (Comes q.0 (Goes n all e (steps + q.1) origin s) s) (sym (begins_is count.0 count.1)) q.3),
         )
 
-pub pages_law : (x : Search) (answering : Bool) (e : Element) (taken : TakenForms) (case on here later gone : Case)
-    (all : Outcomes) (ps : List Part)
+-- the law of a search over pages that begins so and finds these
+pub pages_law : (x : Search) (answering : Bool) (e : Element) (case : Case) (begun : BegunInPages) (here later : Case)
+    (guarded : List Guarded) (all : Outcomes)
     → ((m : Miss) (left : Option ℕ) (arguments : Arguments) (world : World)
     → search_reply x e m left arguments world ≡ found_in_pages x e m left arguments world)
-    → e.kind ≡ kind.Search x → IsTaken case taken → is_some taken.first ≡ false → 1 ≤ length e.text
-    → parts e.text ≡ Ok ps → IsPositive taken.value all.conditions.items
-    → ((n : ℕ) (v : Valuation) (s : Point) → IsTrueOf n v case s → All (linear.Holds n v) all.conditions.items
-    → s.unread ≤ LIMIT)
-    → IsLaterPage case on → IsThrough case gone → Keeps x e ps Ahead case here all.guarded.items
-    → KeepsLater x e ps case on later all.guarded.items → Ends answering here gone all → Ends answering later gone all
-    → LongLaw answering e case all
-pages_law x answering e taken case on here later gone all ps replies is takes first some read positive room later_page
-    passes meets meets_later ends ends_later n v s steps origin reads asked starts open' whole begins =
-    searched x answering e taken case on here later gone all ps replies is takes first some read positive room
-    later_page passes meets meets_later ends ends_later n v s steps origin reads asked starts begins
-    (input_bytes s.world.files.input whole.files.input) open'
+    → e.kind ≡ kind.Search x → IsBegunInPages e case begun → Keeps x e begun.parts.items Ahead case here guarded
+    → KeepsLater x e begun.parts.items case begun.on later guarded
+    → all.conditions.items ≡ begun.conditions.items → all.guarded.items ≡ guarded → Ends answering here begun.gone all
+    → Ends answering later begun.gone all → LongLaw answering e case all
+pages_law x answering e case begun here later guarded all replies is b meets meets_later conditions same ends ends_later
+    n v s steps origin reads asked starts open' whole begins =
+    searched x answering e (record { first = None; value = b.number }) case begun.on here later begun.gone all
+    begun.parts.items replies is b.takes refl b.some b.read (subst (IsPositive b.number) (sym conditions) b.positive)
+    (subst (HasPageRoom case) (sym conditions) b.room) b.later b.passes
+    (subst (Keeps x e begun.parts.items Ahead case here) (sym same) meets)
+    (subst (KeepsLater x e begun.parts.items case begun.on later) (sym same) meets_later) ends ends_later n v s steps
+    origin reads asked starts begins (input_bytes s.world.files.input whole.files.input) open'

@@ -13,7 +13,7 @@ use Rattle.teco_search_outcomes.proofs.Prelude.{outcome_at, reply_of, step, IsWh
 use Rattle.teco_search_outcomes.proofs.Prelude.{Steps, Pointer, Size, Held, LineEnd, LineStart, LastLength, CodeHere}
 use Rattle.teco_search_outcomes.proofs.Prelude.{CodeBefore, Typed, Outcomes, Places, value_if, IsTaken, taken_by}
 use Rattle.teco_search_outcomes.proofs.Prelude.{Describe, Succeeds, changed, Origin, Point, IsTrueOf, Describes, single}
-use Rattle.teco_search_outcomes.proofs.Prelude.{code_here, code_before, with_codes, among, IsEnd, above_or, ends}
+use Rattle.teco_search_outcomes.proofs.Prelude.{code_here, code_before, with_codes, IsEnd, above_or, ends}
 use Rattle.teco_search_outcomes.proofs.Prelude.{line_begin, line_end, one_begin, IsChangedFrom, IsTold, read_given}
 use Rattle.teco_search_outcomes.proofs.Prelude.{with_page, Goes, StepsTo, point_of, unread_in, PageLaw, Writes}
 use Rattle.teco_search_outcomes.proofs.Prelude.{changes_plainly, changes_singles}
@@ -38,7 +38,7 @@ use Rattle.teco_rows.proofs.Lines.{end_least}
 use Rattle.teco_search_outcomes.specs.declared.pages.TheConstants.{APPENDED, EMPTIED, STAYS, TURNED}
 use Rattle.teco_command_outcomes.specs.Changes.{IsChanged}
 use Rattle.teco_command_outcomes.specs.Motions.{IsPlace}
-use Rattle.teco_search_outcomes.specs.Pages.{IsDoneAtOnce, IsOnce, IsOpenFor, IsPaged, Reads, TurnsPage}
+use Rattle.teco_search_outcomes.specs.Pages.{AreTold, IsDoneAtOnce, IsOnce, IsOpenFor, IsPaged, Reads, TurnsPage}
 use Rattle.teco_search_outcomes.specs.Pages.{with_next_page}
 use Rattle.teco_command_outcomes.proofs.Moving.{place_there}
 
@@ -173,23 +173,31 @@ module _ (s : Point) (bytes : List ℕ) (same : s.unread ≡ length bytes) where
         singles here CodeBefore = ap Some (omega (arith, ints))
         singles here Typed = refl
 
-pub turns_page : (case emptied turned none some : Case) (cases : List Case) → IsChangedFrom case EMPTIED [] emptied
-    → IsChangedFrom case TURNED [] turned → IsTold emptied None none → IsTold turned None some
-    → cases ≡ none ∷ some ∷ [] → TurnsPage case cases
-turns_page case emptied turned none some cases empties turns told_none told_some is n v s bytes true_of same =
-    subst (Any (λ made. Describes n made (commanded (with_next_page s bytes) (with_next_page s bytes).kept None)))
-    (sym is) (by (length bytes) refl) where
-      by : (k : ℕ) → length bytes ≡ k
-          → Any (λ made. Describes n made (commanded (with_next_page s bytes) (with_next_page s bytes).kept None))
-          (none ∷ some ∷ [])
-      by zero e =
-          let d = emptied_describes s bytes same n v case emptied e
-          (changes_plainly case emptied EMPTIED [] empties) true_of in
-          (0, none, omega arith, refl, told_none n d.0 (with_next_page s bytes) d.1)
-      by (suc k) e =
-          let d = turned_describes s bytes same n v case turned (omega arith)
-          (changes_plainly case turned TURNED [] turns) true_of in
-          (1, some, omega arith, refl, told_some n d.0 (with_next_page s bytes) d.1)
+-- of two cases, what is told of either is among them
+pub tells_both : (one other first second : Case) (cases : List Case) → IsTold one None first → IsTold other None second
+    → cases ≡ first ∷ second ∷ [] → AreTold one other cases
+tells_both one other first second cases tells_one tells_other is = record {
+  first = λ n s d.
+      subst (Any (λ made. Describes n made (commanded s s.kept None))) (sym is)
+      (0, first, omega arith, refl, tells_one n d.0 s d.1);
+  second = λ n s d.
+      subst (Any (λ made. Describes n made (commanded s s.kept None))) (sym is)
+      (1, second, omega arith, refl, tells_other n d.0 s d.1);
+}
+
+pub turns_page : (case emptied turned : Case) (cases : List Case) → IsChangedFrom case EMPTIED [] emptied
+    → IsChangedFrom case TURNED [] turned → AreTold emptied turned cases → TurnsPage case cases
+turns_page case emptied turned cases empties turns told n v s bytes true_of same = by (length bytes) refl where
+  by : (k : ℕ) → length bytes ≡ k
+      → Any (λ made. Describes n made (commanded (with_next_page s bytes) (with_next_page s bytes).kept None)) cases
+  by zero e =
+      let d = emptied_describes s bytes same n v case emptied e
+      (changes_plainly case emptied EMPTIED [] empties) true_of in
+      told.first n (with_next_page s bytes) d
+  by (suc k) e =
+      let d = turned_describes s bytes same n v case turned (omega arith)
+      (changes_plainly case turned TURNED [] turns) true_of in
+      told.second n (with_next_page s bytes) d
 
 -- ---- P
 pub got : {X : Type 0} (o : Option X) → is_some o ≡ true → (x : X) × (o ≡ Some x)
@@ -471,13 +479,12 @@ append_is : (o : Option Input) (world : World) → is_some o ≡ true
 append_is None world h = absurd cc
 append_is (Some input) world h = refl
 
-pub appends_page : (case stays longer none some : Case) (all : Outcomes) → IsChangedFrom case STAYS [] stays
-    → IsChangedFrom case APPENDED [] longer → IsTold stays None none → IsTold longer None some
-    → all.cases.items ≡ none ∷ some ∷ []
+pub appends_page : (case stays longer : Case) (all : Outcomes) → IsChangedFrom case STAYS [] stays
+    → IsChangedFrom case APPENDED [] longer → AreTold stays longer all.cases.items
     → ((n : ℕ) (v : Valuation) (s : Point) → IsTrueOf n v case s → All (linear.Holds n v) all.conditions.items
     → length s.kept.text + s.unread ≤ LIMIT)
     → Reads append case all
-appends_page case stays longer none some all stay add told_none told_some is room n v s steps origin open' begins =
+appends_page case stays longer all stay add told room n v s steps origin open' begins =
     subst P (sym (append_is s.world.files.input s.world open')) (by (unread s.world.files) refl) where
       point : Point
       point = point_of steps origin s
@@ -495,7 +502,7 @@ appends_page case stays longer none some all stay add told_none told_some is roo
       by [] e =
           let d = stays_describes (point_of steps origin s) n v case stays (same ∙ ap length e)
           (changes_plainly case stays STAYS [] stay) begins.true_of in
-          among n all none [] (some ∷ []) _ is (told_none n d.0 (point_of steps origin s) d.1)
+          told.first n (point_of steps origin s) d
       by (c ∷ rest) e =
           let p = point_of steps origin s in
           let u : p.unread ≡ suc (length rest) = same ∙ ap length e in
@@ -512,8 +519,7 @@ appends_page case stays longer none some all stay add told_none told_some is roo
           }))) (fits (s.world.kept.text ++ added) short)))
           (subst (λ k. Describe n all (commanded (with_page p kept k) kept None))
           (sym (behind_there s.world.files.input ∙ ap (λ bytes. length (behind_first_page bytes)) e))
-          (among n all some (none ∷ []) [] _ is
-          (told_some n d.0 (with_page p kept (length (behind_first_page (c ∷ rest)))) d.1)))
+          (told.second n (with_page p kept (length (behind_first_page (c ∷ rest)))) d))
 
 -- ---- Y
 yank_is : (o : Option Input) (text : List ℕ) (output : Option Output) (world : World) → is_some o ≡ true

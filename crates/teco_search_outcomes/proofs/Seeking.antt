@@ -11,9 +11,9 @@ use Rattle.teco_search_outcomes.proofs.Prelude.{text_after_replacement, LIMIT, S
 use Rattle.teco_search_outcomes.proofs.Prelude.{Case, TakenForms, Guarded, Outcomes, value_if, IsTaken, taken_by}
 use Rattle.teco_search_outcomes.proofs.Prelude.{IsGuarded, Succeeds, Point, IsTrueOf, Describes, among, Aim, Direction}
 use Rattle.teco_search_outcomes.proofs.Prelude.{IsTold, with_kept, Goes, StepsTo, loops_in, place_away, point_of, Aims}
-use Rattle.teco_search_outcomes.proofs.Prelude.{Ends, IsAsked, HasRoom, IsFoundBy, IsMissed, IsOf, IsReplacedBy}
+use Rattle.teco_search_outcomes.proofs.Prelude.{Ends, IsAsked, IsFoundBy, IsMissed, IsOf, IsReplacedBy}
 use Rattle.teco_search_outcomes.proofs.Prelude.{IsWarned, warned}
-use Rattle.std.specs.Prelude.{if◌then◌else◌, nat_le, nat_lt, not, ◌||◌}
+use Rattle.std.specs.Prelude.{IfOk, if◌then◌else◌, nat_le, nat_lt, not, ◌||◌}
 use Rattle.teco_base.specs.declared.code.Code.TheVariants as code
 use Rattle.teco_linear.specs.Implied as linear
 use Rattle.teco_model.specs.Ahead.{Whole, readings}
@@ -39,9 +39,10 @@ use Rattle.teco_model.proofs.Searches.{backward_finds, forward_finds, here_finds
 use Rattle.teco_flow_outcomes.specs.declared.ranges.NumberRange.TheVariants as range
 use Rattle.teco_flow_outcomes.specs.Flow.{IsLeft, turned}
 use Rattle.teco_flow_outcomes.specs.Law.{Law}
-use Rattle.teco_search_outcomes.specs.Searches.{Answers, HasMissed, IsForeseen}
+use Rattle.teco_search_outcomes.specs.Searches.{Answers, HasMissed, HaveRoom, IsBegun, IsForeseen}
 use Rattle.teco_search_outcomes.specs.Searches.{Leaves, Looks}
 use Rattle.teco_search_outcomes.specs.Searches.{SearchLaw, Searches, aimed}
+use Rattle.teco_search_outcomes.specs.declared.searches.BegunSearch.{BegunSearch}
 use Rattle.teco_search_outcomes.proofs.Matching.{match_lies}
 
 -- ---- where a search looks
@@ -237,12 +238,11 @@ keeps_found x e case behind ps direction guarded same by n v s span text true_of
     )
 
 pub keeps_replaced : (x : Search) (e : Element) (case behind : Case) (ps : List Part) (direction : Direction)
-    (guard : Guarded) (guarded : List Guarded)
+    (guarded : List Guarded)
     → ((span : Span) (kept : Kept) → kept_after x e span kept ≡ replacement span e.second kept)
-    → ((n : ℕ) (v : Valuation) → All (IsGuarded n v) guarded → IsGuarded n v guard)
-    → IsReplacedBy ps direction e.second case behind → HasRoom case behind guard
+    → IsReplacedBy ps direction e.second case behind → HaveRoom case behind guarded
     → Keeps x e ps direction case behind guarded
-keeps_replaced x e case behind ps direction guard guarded same one by room n v s span text true_of whole holds of =
+keeps_replaced x e case behind ps direction guarded same by room n v s span text true_of whole holds of =
     let new = text_after_replacement s.kept.text span.start span.end e.second in
     let kept = record s.kept {
       search_text = text;
@@ -253,7 +253,7 @@ keeps_replaced x e case behind ps direction guard guarded same one by room n v s
     let d = by n v s span kept true_of whole of
     (record { text = refl; pointer = refl; registers = refl; last = refl; typed = refl })
     in
-    let short : length new ≤ LIMIT = room n v (with_kept s kept) d (one n v holds) in
+    let short : length new ≤ LIMIT = room n v (with_kept s kept) d holds in
     let fits : nat_le (length new) LIMIT ≡ true = grind (arith, nat_tests) in (
       kept,
       same span (record s.kept { search_text = text }) ∙ ap (λ b. if b then Ok kept else Err code.Ful) fits,
@@ -346,3 +346,25 @@ colon_law e case all h law n v s steps origin stands begins =
     let colon : nat_lt 0 e.colons ≡ true = grind (arith, nat_tests) in
     law n v s steps origin stands.reads
     (ap (λ b. b || miss.is_leave (element_at s.frames.running.text e.next)) colon) begins
+
+-- the law of a search that begins so and finds this
+pub begun_law : (x : Search) (answering : Bool) (e : Element) (case : Case) (begun : BegunSearch) (behind : Case)
+    (guarded : List Guarded) (all : Outcomes)
+    → ((m : Miss) (left : Option ℕ) (arguments : Arguments) (world : World)
+    → search_reply x e m left arguments world ≡ found_in_buffer x e m left arguments world)
+    → e.kind ≡ kind.Search x → IsBegun e case begun
+    → Keeps x e begun.parts.items begun.aim.direction case behind guarded
+    → all.conditions.items ≡ begun.aim.conditions.items → all.guarded.items ≡ guarded
+    → Ends answering behind begun.start all → SearchLaw answering e case all
+begun_law x answering e case begun behind guarded all replies is b keeps conditions same ends =
+    let taken : TakenForms = record { first = None; value = b.number } in
+    search_law x answering e case taken all replies is b.takes
+    (searches x answering e taken case behind begun.start all begun.parts.items begun.aim refl b.some b.read b.aims
+    b.misses (subst (Keeps x e begun.parts.items begun.aim.direction case behind) (sym same) keeps)
+    (λ n v h. subst (All (linear.Holds n v)) conditions h) ends)
+
+-- what three clauses say of what a call gives
+pub if_three : {X Y : Type 0} (r : Result X Y) (P Q R S : X → Type 0) → ((x : X) → P x → Q x → R x → S x)
+    → IfOk r P → IfOk r Q → IfOk r R → IfOk r S
+if_three (Ok x) P Q R S f a b c = f x a b c
+if_three (Err y) P Q R S f a b c = tt

@@ -7,10 +7,12 @@ use Rattle.std.specs.Prelude.{◌≡◌, ℕ, zero, suc, ◌+◌, ◌≤◌, ℤ
 use Rattle.std.specs.Prelude.{true}
 use Rattle.std.specs.Prelude.{is_some, if◌then◌else◌, unwrap_or, Option, Some, None, Ok}
 use Rattle.std.specs.List.{All}
+use Rattle.teco_base.specs.declared.TheConstants.{LIMIT}
 use Rattle.teco_linear.specs.declared.term.Term.{Term}
 use Rattle.teco_linear.specs.Form.{Valuation}
 use Rattle.teco_linear.specs.Implied.{Holds}
 use Rattle.teco_model.specs.Element.{Element, element_at}
+use Rattle.teco_model.specs.Pattern.{parts}
 use Rattle.teco_model.specs.State.{Kept, Outcome, State}
 use Rattle.teco_model.specs.Step.{step}
 use Rattle.teco_model.specs.laws.Whole.{IsWholeWorld}
@@ -21,7 +23,9 @@ use Rattle.teco_rows.specs.Foretold.{Begins}
 use Rattle.teco_rows.specs.States.{Origin, Point, IsTrueOf, Describes}
 use Rattle.teco_command_outcomes.specs.Changes.{DescribesFrom, IsTold, with_steps}
 use Rattle.teco_flow_outcomes.specs.Law.{Goes, StepsTo, point_of, unread_in}
-use Rattle.teco_search_outcomes.specs.Searches.{IsAsked}
+use Rattle.teco_search_outcomes.specs.Searches.{Ends, IsAsked, TakesNumber}
+use Rattle.teco_search_outcomes.specs.declared.page_searches.BegunInPages.{BegunInPages}
+use Rattle.teco_search_outcomes.specs.declared.page_searches.PageMatches.{PageMatches}
 
 -- ---- the law
 -- how much is held, in the buffer and unread
@@ -84,6 +88,23 @@ abbrev pub IsPositive : Option (List Term) → List (List Term) → Type 0
 IsPositive number conditions =
     (n : ℕ) (v : Valuation) → All (Holds n v) conditions → pos 1 ≤ℤ unwrap_or (value_if number n v) (pos 1)
 
+-- under the conditions what is unread has room in a buffer
+abbrev pub HasPageRoom : Case → List (List Term) → Type 0
+HasPageRoom case conditions =
+    (n : ℕ) (v : Valuation) (s : Point) → IsTrueOf n v case s → All (Holds n v) conditions → s.unread ≤ LIMIT
+
+-- What a search over pages begins with. It takes one number or none, and has a text.
+pub record IsBegunInPages (e : Element) (case : Case) (begun : BegunInPages) : Type 0 where
+  pub number : Option (List Term)
+  pub takes : TakesNumber case number
+  pub some : 1 ≤ length e.text
+  pub read : parts e.text ≡ Ok begun.parts.items
+  pub positive : IsPositive number begun.conditions.items
+  pub room : HasPageRoom case begun.conditions.items
+  pub later : IsLaterPage case begun.on
+  pub symbols : case.symbols ≤ begun.on.symbols
+  pub passes : IsThrough case begun.gone
+
 -- what is answered where a match is found
 abbrev pub answer_of : Bool → Option ℤ
 answer_of answers = if answers then Some (negsuc 0) else None
@@ -96,3 +117,10 @@ pub record HasMore (answers : Bool) (later : Case) (old new : Outcomes) : Type 0
   pub case : Case
   pub told : IsTold later (answer_of answers) case
   pub cases : new.cases.items ≡ old.cases.items ++ case ∷ []
+
+-- a search over pages that finds these matches ends so
+pub record EndsInPages (answers : Bool) (begun : BegunInPages) (found : PageMatches) (all : Outcomes) : Type 0 where
+  pub conditions : all.conditions.items ≡ begun.conditions.items
+  pub guarded : all.guarded.items ≡ found.guarded.items
+  pub here : Ends answers found.here begun.gone all
+  pub later : Ends answers found.later begun.gone all

@@ -22,6 +22,12 @@ use Rattle.teco_rows.specs.States.{Origin, Point, IsTrueOf, Describes}
 use Rattle.teco_command_outcomes.specs.Changes.{with_page}
 use Rattle.teco_flow_outcomes.specs.Law.{Goes, StandsAt, StepsTo, point_of, unread_in}
 
+-- where one of two cases describes a state, one of these describes that behind it, and nothing is answered
+pub record AreTold (one other : Case) (cases : List Case) : Type 0 where
+  pub first : (n : ℕ) (s : Point) → Describes n one s → Any (λ made. Describes n made (commanded s s.kept None)) cases
+  pub second : (n : ℕ) (s : Point) → Describes n other s
+      → Any (λ made. Describes n made (commanded s s.kept None)) cases
+
 -- the next page of unread bytes is in the place of the buffer
 abbrev pub with_next_page : Point → List ℕ → Point
 with_next_page s bytes =

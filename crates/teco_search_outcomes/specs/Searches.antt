@@ -10,7 +10,7 @@ use Rattle.teco_linear.specs.Implied.{Holds}
 use Rattle.teco_model.specs.Ahead.{Whole}
 use Rattle.teco_model.specs.Arguments.{no_arguments}
 use Rattle.teco_model.specs.Element.{Element, element_at}
-use Rattle.teco_model.specs.Pattern.{Pattern, items_of}
+use Rattle.teco_model.specs.Pattern.{Pattern, items_of, parts}
 use Rattle.teco_model.specs.Search.{Finding, Found, Missed, count_of, match_of, search}
 use Rattle.teco_model.specs.Searching.{has_colon, kept_by_miss, search_message}
 use Rattle.teco_model.specs.Skip.{skip_of}
@@ -29,10 +29,11 @@ use Rattle.teco_rows.specs.declared.outcomes.Guarded.{Guarded}
 use Rattle.teco_rows.specs.declared.outcomes.Outcomes.{Outcomes}
 use Rattle.teco_rows.specs.declared.row.Clause.{Clause}
 use Rattle.teco_rows.specs.Cases.{value_if}
-use Rattle.teco_rows.specs.Commands.{commanded, taken_by}
+use Rattle.teco_rows.specs.Commands.{IsTaken, commanded, taken_by}
 use Rattle.teco_rows.specs.Foretold.{Begins, Describe, IsGuarded, Succeeds}
 use Rattle.teco_rows.specs.States.{Origin, Point, IsTrueOf, Describes}
 use Rattle.teco_search_outcomes.specs.declared.searches.Aim.{Aim}
+use Rattle.teco_search_outcomes.specs.declared.searches.BegunSearch.{BegunSearch}
 use Rattle.teco_search_outcomes.specs.declared.searches.Direction.{Direction}
 use Rattle.teco_search_outcomes.specs.declared.searches.Direction.TheVariants.{Ahead, Back, Here}
 use Rattle.teco_search_outcomes.specs.declared.searches.KnownMatch.{KnownMatch}
@@ -68,6 +69,10 @@ Aims number colons aim =
     (n : ℕ) (v : Valuation)
     → All (Holds n v) aim.conditions.items
     → (count : ℤ) × (count_of None (value_if number n v) ≡ Ok count) × Looks aim.direction colons count
+
+-- a command takes no pair of arguments, but the number that a form is, or none
+abbrev pub TakesNumber : Case → Option (List Term) → Type 0
+TakesNumber case number = IsTaken case (record { first = None; value = number })
 
 -- ---- what is known of a match
 -- what is said to be known of a match of parts is so
@@ -153,6 +158,22 @@ abbrev pub HasRoom : Case → Case → Guarded → Type 0
 HasRoom case made guarded =
     (n : ℕ) (v : Valuation) (s : Point)
     → DescribesFrom n case v made s → IsGuarded n v guarded → length s.kept.text ≤ LIMIT
+
+-- where the guarded conditions hold, and a case made of another describes a state, the buffer of that is not too long
+abbrev pub HaveRoom : Case → Case → List Guarded → Type 0
+HaveRoom case made guarded =
+    (n : ℕ) (v : Valuation) (s : Point)
+    → DescribesFrom n case v made s → All (IsGuarded n v) guarded → length s.kept.text ≤ LIMIT
+
+-- ---- what a search begins with
+-- it takes one number or none, and has a text; with these it looks for the parts of that
+pub record IsBegun (e : Element) (case : Case) (begun : BegunSearch) : Type 0 where
+  pub number : Option (List Term)
+  pub takes : TakesNumber case number
+  pub some : 1 ≤ length e.text
+  pub read : parts e.text ≡ Ok begun.parts.items
+  pub aims : Aims number e.colons begun.aim
+  pub misses : IsMissed e.colons case begun.start
 
 -- ---- what is answered
 -- what is found and what is missed is answered

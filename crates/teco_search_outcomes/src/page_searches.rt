@@ -1,15 +1,17 @@
 //! What comes of searches over pages, where an output is open. Such a search takes a step for each
 //! page that it turns.
-ghost use Rattle.std.specs.Prelude.{◌≡◌, IfOk};
+ghost use Rattle.std.specs.Prelude.{◌≡◌, ◌≤◌, ◌∷◌, [], IfOk};
 ghost use Rattle.teco_model.specs.Element.{seen};
 ghost use Rattle.teco_model.specs.declared.kind.Kind.TheVariants as kinds;
 ghost use Rattle.teco_command_outcomes.specs.Changes.{IsTold};
-ghost use Rattle.teco_search_outcomes.specs.PageSearches.{HasMore, IsLaterPage, IsPositive, IsThrough, LongLaw};
-ghost use Rattle.teco_search_outcomes.specs.PageSearches.{answer_of};
+ghost use Rattle.teco_search_outcomes.specs.PageSearches.{EndsInPages, HasMore, HasPageRoom, IsBegunInPages};
+ghost use Rattle.teco_search_outcomes.specs.PageSearches.{IsLaterPage, IsPositive, IsThrough, LongLaw, answer_of};
+ghost use Rattle.teco_search_outcomes.specs.Searches.{HaveRoom, IsFoundBy, IsReplacedBy};
+ghost use Rattle.teco_search_outcomes.specs.declared.searches.Direction.TheVariants.{Ahead};
 
 use crate::pages::room;
 use crate::patterns::parts;
-use crate::searches::{AskedSearch, Direction, YES, ended, find, fitted, replace};
+use crate::searches::{AskedSearch, Direction, YES, ended, find, fitted, number_sought, replace};
 use std::alloc::Global;
 use teco_command_outcomes::changes::{changed, told};
 use teco_command_outcomes::deletions::HELD;
@@ -17,12 +19,13 @@ use teco_command_outcomes::motions::{ANY_BEFORE, ANY_HERE, LINE_END, LINE_START,
 use teco_linear::Form;
 use teco_model::Element;
 use teco_model::kind::Search;
+use teco_model::pattern::Part;
 use teco_rows::case::Case;
-use teco_rows::commands::{TakenForms, argument, take_arguments};
+use teco_rows::commands::argument;
 use teco_rows::fault::RowFault;
 use teco_rows::levels::NO;
 use teco_rows::measure::Single;
-use teco_rows::outcomes::Outcomes;
+use teco_rows::outcomes::{Guarded, Outcomes};
 use teco_rows::row::{Clause, Mark, Of};
 
 // How long the page is, what is unread behind it, where its first line ends, and how many pages were
@@ -42,6 +45,24 @@ const LATER: Clause = Clause::Sets(STEPS, 0, [(1, Of::Was(STEPS)), (1, PAGES), N
 const AT_START: Clause = Clause::Sets(POINTER, 0, [NO, NO, NO, NO]);
 
 const STARTS: Clause = Clause::Sets(LINE_START, 0, [NO, NO, NO, NO]);
+
+// What a search over pages begins with: the parts that it looks for, its conditions, and the cases
+// where a later page is in the place of the buffer and where none is left.
+#[derive(Drop)]
+struct BegunInPages {
+    parts: Vec<Part>,
+    conditions: Vec<Form>,
+    on: Case,
+    gone: Case,
+}
+
+// The cases behind a match in the buffer and on a later page, and what is asked of them.
+#[derive(Drop)]
+struct PageMatches {
+    here: Case,
+    later: Case,
+    guarded: Vec<Guarded>,
+}
 
 // Some pages later one is in the place of the buffer. Each of them takes a character of what is
 // unread at least.
@@ -98,9 +119,14 @@ const THROUGH: [Clause; 10] = [
 
 // The case where a later page is in the place of the buffer.
 fn later_page(case: &Case, alloc: Global) -> Result<Case, RowFault>
-    ensures { IfOk result (λ made. IsLaterPage case.now made) }
+    ensures later { IfOk result (λ made. IsLaterPage case.now made) }
+    ensures symbols { IfOk result (λ made. case.now.symbols ≤ made.symbols) }
 {
-    changed(case, &LATER_PAGE, &[], alloc)
+    let on = changed(case, &LATER_PAGE, &[], alloc)?;
+    if on.symbols < case.symbols {
+        return Err(RowFault::TooMany);
+    }
+    Ok(on)
 }
 
 // The case where no page is left.
@@ -111,15 +137,96 @@ fn through(case: &Case, alloc: Global) -> Result<Case, RowFault>
 }
 
 // The condition that one match is wanted at least.
-fn positive(number: Option<Form>, alloc: Global) -> Result<Vec<Form>, RowFault>
-    ensures { IfOk result (λ conditions. IsPositive number conditions.items) }
+fn positive(number: Option<Form>, alloc: Global) -> Result<Form, RowFault>
+    ensures { IfOk result (λ condition. IsPositive number (condition ∷ [])) }
 {
     let count = argument(number, 1, alloc)?;
     let least = Form::constant(1, alloc)?;
     let more = count.sub(&least, alloc)?;
+    Ok(more)
+}
+
+// That condition, and that what is unread has room.
+fn conditions(case: &Case, number: Option<Form>, alloc: Global) -> Result<Vec<Form>, RowFault>
+    ensures positive { IfOk result (λ conditions. IsPositive number conditions.items) }
+    ensures room { IfOk result (λ conditions. HasPageRoom case.now conditions.items) }
+{
     let mut conditions = Vec::new(alloc);
-    conditions.push(more)?;
+    conditions.push(positive(number, alloc)?)?;
+    conditions.push(room(case, alloc)?)?;
     Ok(conditions)
+}
+
+// What a search over pages begins with.
+fn begun_in_pages(case: &Case, element: &Element, alloc: Global) -> Result<BegunInPages, RowFault>
+    ensures { IfOk result (λ begun. IsBegunInPages (seen element.now) case.now begun) }
+{
+    let number = number_sought(case, element, alloc)?;
+    let parts = parts(element.text, alloc)?;
+    let conditions = conditions(case, number, alloc)?;
+    let on = later_page(case, alloc)?;
+    let gone = through(case, alloc)?;
+    Ok(BegunInPages {
+        parts,
+        conditions,
+        on,
+        gone,
+    })
+}
+
+// The cases behind a match.
+fn found_matches(case: &Case, begun: &BegunInPages, alloc: Global) -> Result<PageMatches, RowFault>
+    ensures here { IfOk result (λ found. IsFoundBy begun.now.parts.items Ahead case.now found.here) }
+    ensures later { IfOk result (λ found.
+        IsFoundBy begun.now.parts.items Ahead begun.now.on found.later) }
+{
+    let here = find(case, &begun.parts, Direction::Ahead, alloc)?;
+    let later = find(&begun.on, &begun.parts, Direction::Ahead, alloc)?;
+    Ok(PageMatches {
+        here,
+        later,
+        guarded: Vec::new(alloc),
+    })
+}
+
+// The conditions that the buffers of two cases that are made of another are not too long.
+fn both_fitted(
+    case: &Case,
+    one: &Case,
+    other: &Case,
+    alloc: Global,
+) -> Result<Vec<Guarded>, RowFault>
+    ensures one { IfOk result (λ guarded. HaveRoom case.now one.now guarded.items) }
+    ensures other { IfOk result (λ guarded. HaveRoom case.now other.now guarded.items) }
+{
+    let mut guarded = Vec::new(alloc);
+    guarded.push(fitted(case, one, alloc)?)?;
+    guarded.push(fitted(case, other, alloc)?)?;
+    Ok(guarded)
+}
+
+// The cases behind a text that is put in the stead of a match.
+fn replaced_matches(
+    case: &Case,
+    text: &[u8],
+    begun: &BegunInPages,
+    alloc: Global,
+) -> Result<PageMatches, RowFault>
+    ensures here { IfOk result (λ found.
+        IsReplacedBy begun.now.parts.items Ahead text.now case.now found.here) }
+    ensures later { IfOk result (λ found.
+        IsReplacedBy begun.now.parts.items Ahead text.now begun.now.on found.later) }
+    ensures room { IfOk result (λ found. HaveRoom case.now found.here found.guarded.items) }
+    ensures later_room { IfOk result (λ found. HaveRoom case.now found.later found.guarded.items) }
+{
+    let here = replace(case, &begun.parts, Direction::Ahead, text, alloc)?;
+    let later = replace(&begun.on, &begun.parts, Direction::Ahead, text, alloc)?;
+    let guarded = both_fitted(case, &here, &later, alloc)?;
+    Ok(PageMatches {
+        here,
+        later,
+        guarded,
+    })
 }
 
 // The case behind a match, which is answered or not.
@@ -158,6 +265,34 @@ fn with_later(
     })
 }
 
+// The outcomes of a search over pages that finds these matches.
+fn page_outcomes(
+    begun: BegunInPages,
+    found: PageMatches,
+    answers: bool,
+    alloc: Global,
+) -> Result<Outcomes, RowFault>
+    ensures { IfOk result (λ all. EndsInPages answers begun found all) }
+{
+    let BegunInPages {
+        parts: _parts,
+        conditions,
+        on: _on,
+        gone,
+    } = begun;
+    let PageMatches {
+        here,
+        later,
+        guarded,
+    } = found;
+    let asked = AskedSearch {
+        conditions,
+        guarded,
+    };
+    let all = ended(&here, &gone, asked, answers, alloc)?;
+    with_later(all, &later, answers, alloc)
+}
+
 /// What comes of `N` and `FN`, where an output is open, and they answer or do not. How many matches
 /// are wanted is to be 1 at least.
 pub fn search_pages(
@@ -170,47 +305,15 @@ pub fn search_pages(
     ensures { IfOk result (λ all. element.now.kind ≡ kinds.Search kind
         → LongLaw answers (seen element.now) case.now all) }
 {
-    let taken = take_arguments(case, alloc)?;
-    let TakenForms { first, value } = taken;
-    if first.is_some() {
-        return Err(RowFault::Argument);
-    }
-    if element.text.is_empty() {
-        return Err(RowFault::NotTold);
-    }
-    let parts = parts(element.text, alloc)?;
-    let mut conditions = positive(value, alloc)?;
-    conditions.push(room(case, alloc)?)?;
-    let on = later_page(case, alloc)?;
-    if on.symbols < case.symbols {
-        return Err(RowFault::TooMany);
-    }
-    let gone = through(case, alloc)?;
-    let mut guarded = Vec::new(alloc);
+    let begun = begun_in_pages(case, element, alloc)?;
     match kind {
         Search::FindInPages => {
-            let here = find(case, &parts, Direction::Ahead, alloc)?;
-            let later = find(&on, &parts, Direction::Ahead, alloc)?;
-            let asked = AskedSearch {
-                conditions,
-                guarded,
-            };
-            let all = ended(&here, &gone, asked, answers, alloc)?;
-            let more = with_later(all, &later, answers, alloc)?;
-            Ok(more)
+            let found = found_matches(case, &begun, alloc)?;
+            page_outcomes(begun, found, answers, alloc)
         }
         Search::ReplaceInPages => {
-            let here = replace(case, &parts, Direction::Ahead, element.second, alloc)?;
-            let later = replace(&on, &parts, Direction::Ahead, element.second, alloc)?;
-            guarded.push(fitted(case, &here, alloc)?)?;
-            guarded.push(fitted(case, &later, alloc)?)?;
-            let asked = AskedSearch {
-                conditions,
-                guarded,
-            };
-            let all = ended(&here, &gone, asked, answers, alloc)?;
-            let more = with_later(all, &later, answers, alloc)?;
-            Ok(more)
+            let found = replaced_matches(case, element.second, &begun, alloc)?;
+            page_outcomes(begun, found, answers, alloc)
         }
         _ => Err(RowFault::NotTold),
     }

@@ -6,7 +6,8 @@ ghost use Rattle.teco_linear.specs.Implied.{Holds};
 ghost use Rattle.teco_model.specs.Element as model;
 ghost use Rattle.teco_model.specs.declared.kind.Kind.TheVariants as kinds;
 ghost use Rattle.teco_model.specs.Paging.{append, page_turned, page_written, yank};
-ghost use Rattle.teco_search_outcomes.specs.Pages.{IsOnce, PageLaw, Reads, TurnsPage, Writes, WritesRange};
+ghost use Rattle.teco_search_outcomes.specs.Pages.{AreTold, IsOnce, PageLaw, Reads, TurnsPage};
+ghost use Rattle.teco_search_outcomes.specs.Pages.{Writes, WritesRange};
 ghost use Rattle.teco_rows.specs.declared.commands.TakenForms.{TakenForms};
 ghost use Rattle.teco_rows.specs.States.{Point, IsTrueOf};
 
@@ -123,18 +124,25 @@ const APPENDED: [Clause; 12] = [
 
 const STAYS: [Clause; 1] = [ALL_READ];
 
+// The cases behind two, where nothing is answered.
+fn told_both(one: &Case, other: &Case, alloc: Global) -> Result<Vec<Case>, RowFault>
+    ensures { IfOk result (λ cases. AreTold one.now other.now cases.items) }
+{
+    let first = told(one, &[], alloc)?;
+    let second = told(other, &[], alloc)?;
+    let mut cases = Vec::new(alloc);
+    cases.push(first)?;
+    cases.push(second)?;
+    Ok(cases)
+}
+
 // The cases where the next page is in the place of the buffer.
 fn next_page(case: &Case, alloc: Global) -> Result<Vec<Case>, RowFault>
     ensures { IfOk result (λ cases. TurnsPage case.now cases.items) }
 {
     let emptied = changed(case, &EMPTIED, &[], alloc)?;
     let turned = changed(case, &TURNED, &[], alloc)?;
-    let none = told(&emptied, &[], alloc)?;
-    let some = told(&turned, &[], alloc)?;
-    let mut cases = Vec::new(alloc);
-    cases.push(none)?;
-    cases.push(some)?;
-    Ok(cases)
+    told_both(&emptied, &turned, alloc)
 }
 
 /// The condition that the next page is no longer than a buffer may be.
@@ -244,11 +252,7 @@ fn append_page(case: &Case, alloc: Global) -> Result<Outcomes, RowFault>
     conditions.push(left)?;
     let stays = changed(case, &STAYS, &[], alloc)?;
     let longer = changed(case, &APPENDED, &[], alloc)?;
-    let none = told(&stays, &[], alloc)?;
-    let some = told(&longer, &[], alloc)?;
-    let mut cases = Vec::new(alloc);
-    cases.push(none)?;
-    cases.push(some)?;
+    let cases = told_both(&stays, &longer, alloc)?;
     Ok(Outcomes {
         conditions,
         guarded: Vec::new(alloc),

@@ -1,5 +1,6 @@
 //! What comes of searches in the buffer.
 ghost use Rattle.std.specs.Prelude.{◌≡◌, ◌≢◌, ◌≤◌, ◌≤ℤ◌, ◌+ℤ◌, ℕ, pos, true, IfOk, OnOk, if◌then◌else◌, [], ◌++◌};
+ghost use Rattle.std.specs.Prelude.{length};
 ghost use Rattle.std.specs.List.{All};
 ghost use Rattle.teco_linear.specs.Form.{Valuation, value};
 ghost use Rattle.teco_linear.specs.Implied.{Holds};
@@ -9,8 +10,8 @@ ghost use Rattle.teco_model.specs.declared.pattern.Span.{Span};
 ghost use Rattle.teco_search_outcomes.specs.Patterns.{IsIn};
 ghost use Rattle.teco_search_outcomes.specs.Searches.{Aims, Answers, BeginsLater, Ends, IsFoundBy, IsKnown};
 ghost use Rattle.teco_search_outcomes.specs.Searches.{IsMissed, IsWarned};
-ghost use Rattle.teco_search_outcomes.specs.Searches.{HasRoom, IsReplacedBy, Leaves, LiesTo, SearchLaw};
-ghost use Rattle.teco_search_outcomes.specs.Searches.{aimed, direction_clauses, extra_clauses};
+ghost use Rattle.teco_search_outcomes.specs.Searches.{HasRoom, IsBegun, IsReplacedBy, Leaves, LiesTo, SearchLaw};
+ghost use Rattle.teco_search_outcomes.specs.Searches.{TakesNumber, aimed, direction_clauses, extra_clauses};
 
 use crate::patterns::{
     Codes, are_single, end_line, first_codes, last_codes, least, parts, stay_in_line,
@@ -52,6 +53,15 @@ pub enum Direction {
 pub struct Aim {
     pub direction: Direction,
     pub conditions: Vec<Form>,
+}
+
+/// What a search in the buffer begins with: the parts that it looks for, where, and the case where
+/// it finds nothing.
+#[derive(Drop)]
+struct BegunSearch {
+    parts: Vec<Part>,
+    aim: Aim,
+    start: Case,
 }
 
 /// What is asked where a search begins.
@@ -559,6 +569,65 @@ pub fn ended(
     }
 }
 
+/// How many matches are sought, if that is said. A search takes no pair of arguments, and has a text.
+pub(crate) fn number_sought(
+    case: &Case,
+    element: &Element,
+    alloc: Global,
+) -> Result<Option<Form>, RowFault>
+    ensures takes { IfOk result (λ number. TakesNumber case.now number) }
+    ensures some { OnOk result (1 ≤ length (seen element.now).text) }
+{
+    let taken = take_arguments(case, alloc)?;
+    let TakenForms { first, value } = taken;
+    if first.is_some() {
+        return Err(RowFault::Argument);
+    }
+    if element.text.is_empty() {
+        return Err(RowFault::NotTold);
+    }
+    Ok(value)
+}
+
+// What a search in the buffer begins with.
+fn begun_search(case: &Case, element: &Element, alloc: Global) -> Result<BegunSearch, RowFault>
+    ensures { IfOk result (λ begun. IsBegun (seen element.now) case.now begun) }
+{
+    let number = number_sought(case, element, alloc)?;
+    let parts = parts(element.text, alloc)?;
+    let aim = sought(&number, element.colons, alloc)?;
+    let start = missed(case, element.colons, alloc)?;
+    Ok(BegunSearch { parts, aim, start })
+}
+
+// The outcomes of a search that finds this, where so much is asked of that.
+fn ended_search(
+    begun: BegunSearch,
+    found: &Case,
+    guarded: Vec<Guarded>,
+    answers: bool,
+    alloc: Global,
+) -> Result<Outcomes, RowFault>
+    ensures conditions { IfOk result (λ all. all.conditions.items ≡ begun.aim.conditions.items) }
+    ensures guarded { IfOk result (λ all. all.guarded.items ≡ guarded.items) }
+    ensures ends { IfOk result (λ all. Ends answers found.now begun.start all) }
+{
+    let BegunSearch {
+        parts: _parts,
+        aim,
+        start,
+    } = begun;
+    let Aim {
+        direction: _direction,
+        conditions,
+    } = aim;
+    let asked = AskedSearch {
+        conditions,
+        guarded,
+    };
+    ended(found, &start, asked, answers, alloc)
+}
+
 /// What comes of `S` and `FS`, where they answer, as with a colon or before `;`, or do not.
 pub fn search(
     case: &Case,
@@ -570,41 +639,23 @@ pub fn search(
     ensures { IfOk result (λ all. element.now.kind ≡ kinds.Search kind
         → SearchLaw answers (seen element.now) case.now all) }
 {
-    let taken = take_arguments(case, alloc)?;
-    let TakenForms { first, value } = taken;
-    if first.is_some() {
-        return Err(RowFault::Argument);
-    }
-    if element.text.is_empty() {
-        return Err(RowFault::NotTold);
-    }
-    let parts = parts(element.text, alloc)?;
-    let aim = sought(&value, element.colons, alloc)?;
-    let start = missed(case, element.colons, alloc)?;
-    let Aim {
-        direction,
-        conditions,
-    } = aim;
-    let mut guarded = Vec::new(alloc);
+    let begun = begun_search(case, element, alloc)?;
     match kind {
         Search::Find => {
-            let behind = find(case, &parts, direction, alloc)?;
-            let asked = AskedSearch {
-                conditions,
-                guarded,
-            };
-            let all = ended(&behind, &start, asked, answers, alloc)?;
-            Ok(all)
+            let behind = find(case, &begun.parts, begun.aim.direction, alloc)?;
+            ended_search(begun, &behind, Vec::new(alloc), answers, alloc)
         }
         Search::Replace => {
-            let behind = replace(case, &parts, direction, element.second, alloc)?;
+            let behind = replace(
+                case,
+                &begun.parts,
+                begun.aim.direction,
+                element.second,
+                alloc,
+            )?;
+            let mut guarded = Vec::new(alloc);
             guarded.push(fitted(case, &behind, alloc)?)?;
-            let asked = AskedSearch {
-                conditions,
-                guarded,
-            };
-            let all = ended(&behind, &start, asked, answers, alloc)?;
-            Ok(all)
+            ended_search(begun, &behind, guarded, answers, alloc)
         }
         _ => Err(RowFault::NotTold),
     }

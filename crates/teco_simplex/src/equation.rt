@@ -12,16 +12,16 @@ pub struct Equation {
     pub terms: Vec<Summand>,
     pub constant: i128,
     // The marks of its variables, and maybe of others: one that has no mark is in no term.
-    pub marks: u128,
+    pub marks: u64,
 }
 
 // The mark of a variable, which some others have too.
-fn mark_of(variable: usize) -> u128 {
-    1 << (variable % 128)
+fn mark_of(variable: usize) -> u64 {
+    1 << (variable % 64)
 }
 
 // The marks of the variables of terms.
-fn marks_of(terms: &[Summand]) -> u128 {
+fn marks_of(terms: &[Summand]) -> u64 {
     let mut marks = 0;
     for term in terms {
         marks |= mark_of(term.variable);

@@ -44,26 +44,38 @@ impl LinearProgram {
         ensures { IfOk result (λ answer. IsSatisfying self.now answer) }
     {
         let mut tableau = Tableau::of(self, alloc, limits)?;
-        tableau.define_free()?;
-        tableau.bar_zeros();
-        tableau.choose_slacks()?;
-        tableau.settle()?;
-        if !tableau.make_feasible()? {
+        tableau.answer(self)
+    }
+}
+
+impl Tableau {
+    // The answer of the program that it is the tableau of.
+    fn answer(&mut self, program: &LinearProgram) -> Result<SolverAnswer, SimplexFault>
+        ensures { IfOk result (λ answer. IsSatisfying program.now answer) }
+    {
+        self.prepare()?;
+        if !self.make_feasible()? {
             return Ok(SolverAnswer::Infeasible);
         }
-        if tableau.minimise_all()? == End::Unbounded {
+        if self.minimise_all()? == End::Unbounded {
             return Ok(SolverAnswer::Unbounded);
         }
-        let values = tableau.values(self.signs.len())?;
-        if self.is_satisfied_by(&values) {
+        let values = self.values(program.signs.len())?;
+        if program.is_satisfied_by(&values) {
             Ok(SolverAnswer::Found(values))
         } else {
             Err(SimplexFault::TooLarge)
         }
     }
-}
 
-impl Tableau {
+    // Takes the free variables out, and gives equations basic variables as far as that is free.
+    fn prepare(&mut self) -> Result<(), SimplexFault> {
+        self.define_free()?;
+        self.bar_zeros();
+        self.choose_slacks()?;
+        self.settle()
+    }
+
     // Takes each free variable that is in an equation out, by the shortest one.
     fn define_free(&mut self) -> Result<(), SimplexFault> {
         for variable in 0..self.columns.len() {
@@ -157,17 +169,23 @@ impl Tableau {
         if self.is_feasible() {
             return Ok(true);
         }
-        let infeasibility = self.infeasibility()?;
         let objectives = std::mem::replace(&mut self.objectives, Vec::new(self.alloc));
-        self.objectives.push(infeasibility)?;
-        let _ = self.minimise(0)?;
+        let is_feasible = self.lower_infeasibility();
         self.objectives = objectives;
-        if !self.is_feasible() {
+        if !is_feasible? {
             return Ok(false);
         }
         self.free_objectives()?;
         self.settle()?;
         Ok(true)
+    }
+
+    // Brings what is missing to its least value, in the place of the objectives. Says whether nothing is missing then.
+    fn lower_infeasibility(&mut self) -> Result<bool, SimplexFault> {
+        let infeasibility = self.infeasibility()?;
+        self.objectives.push(infeasibility)?;
+        let _ = self.minimise(0)?;
+        Ok(self.is_feasible())
     }
 
     // Takes the basic variables out of the objectives.

@@ -2,7 +2,7 @@
 use crate::equation::{Equation, Pivot};
 use crate::exact::sum;
 use crate::fault::SimplexFault;
-use crate::program::{LinearProgram, Relation, Sign, Summand};
+use crate::program::{Condition, LinearProgram, Relation, Sign, Summand};
 use std::alloc::Global;
 
 // What a variable may do while it is at 0: only a usable one may become basic.
@@ -54,13 +54,19 @@ impl Tableau {
             spare: Vec::new(alloc),
             counts: Vec::new(alloc),
         };
-        tableau.add_columns(program)?;
-        tableau.add_equations(program)?;
-        for objective in &program.objectives {
-            let terms = ordered(alloc, objective, program.signs.len())?;
-            tableau.objectives.push(Equation::new(terms, 0))?;
-        }
+        tableau.add(program)?;
         Ok(tableau)
+    }
+
+    // Takes in a program.
+    fn add(&mut self, program: &LinearProgram) -> Result<(), SimplexFault> {
+        self.add_columns(program)?;
+        self.add_equations(program)?;
+        for objective in &program.objectives {
+            let terms = ordered(self.alloc, objective, program.signs.len())?;
+            self.objectives.push(Equation::new(terms, 0))?;
+        }
+        Ok(())
     }
 
     fn add_columns(&mut self, program: &LinearProgram) -> Result<(), SimplexFault> {
@@ -77,25 +83,34 @@ impl Tableau {
     // A row that is no equation gets a slack, with the coefficient 1 or -1.
     fn add_equations(&mut self, program: &LinearProgram) -> Result<(), SimplexFault> {
         for row in &program.rows {
-            let mut terms = ordered(self.alloc, &row.terms, program.signs.len())?;
-            let slack = match row.relation {
-                Relation::Equal => 0,
-                Relation::AtLeast => -1,
-                Relation::AtMost => 1,
-            };
-            if slack != 0 {
-                let variable = self.columns.len();
-                self.columns.push(Column::Usable)?;
-                terms.push(Summand {
-                    variable,
-                    coefficient: slack,
-                })?;
-            }
+            let terms = self.terms_of(row, program.signs.len())?;
             let mut equation = Equation::new(terms, row.bound);
             equation.reduce()?;
             self.equations.push(equation)?;
         }
         Ok(())
+    }
+
+    // The terms of a row with those of its slack.
+    fn terms_of(
+        &mut self,
+        row: &Condition,
+        variables: usize,
+    ) -> Result<Vec<Summand>, SimplexFault> {
+        let mut terms = ordered(self.alloc, &row.terms, variables)?;
+        let slack = match row.relation {
+            Relation::Equal => 0,
+            Relation::AtLeast => -1,
+            Relation::AtMost => 1,
+        };
+        if slack != 0 {
+            terms.push(Summand {
+                variable: self.columns.len(),
+                coefficient: slack,
+            })?;
+            self.columns.push(Column::Usable)?;
+        }
+        Ok(terms)
     }
 
     pub fn column(&self, variable: usize) -> Column {
@@ -138,14 +153,19 @@ impl Tableau {
         let mut pivot = self.take(place).ok_or(SimplexFault::GivenUp)?;
         pivot.orient(variable)?;
         pivot.basic = Some(variable);
-        let by = Pivot::of(&pivot, variable);
+        self.eliminate(&Pivot::of(&pivot, variable))?;
+        Ok(pivot)
+    }
+
+    // Takes the pivot's variable out of the equations and the objectives.
+    fn eliminate(&mut self, pivot: &Pivot<'_>) -> Result<(), SimplexFault> {
         for equation in self.equations.iter_mut() {
-            equation.eliminate(&by, &mut self.spare, &mut self.counts)?;
+            equation.eliminate(pivot, &mut self.spare, &mut self.counts)?;
         }
         for objective in self.objectives.iter_mut() {
-            objective.eliminate(&by, &mut self.spare, &mut self.counts)?;
+            objective.eliminate(pivot, &mut self.spare, &mut self.counts)?;
         }
-        Ok(pivot)
+        Ok(())
     }
 }
 

@@ -3,4 +3,4 @@
 
 mod stack;
 
-pub use stack::{Chain, Stack};
+pub use stack::{Chain, SharedStack};

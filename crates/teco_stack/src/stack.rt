@@ -122,12 +122,12 @@ fn unwind<T: Drop>(mut chain: Chain<T>) {
 
 /// Items, the last of which stands on top. Copies share them, so that each takes as little time and
 /// memory as an empty one.
-pub struct Stack<T> {
+pub struct SharedStack<T> {
     alloc: Global,
     chain: Chain<T>,
 }
 
-impl<T> Model for Stack<T> {
+impl<T> Model for SharedStack<T> {
     ghost use Rattle.std.specs.Prelude.{List};
 
     ghost Value = { List T };
@@ -135,19 +135,19 @@ impl<T> Model for Stack<T> {
     ghost view = { λ s. s.chain };
 }
 
-impl<T: Drop> Drop for Stack<T> {
+impl<T: Drop> Drop for SharedStack<T> {
     fn drop(self) {
-        let Stack { alloc: _, chain } = self;
+        let SharedStack { alloc: _, chain } = self;
         unwind(chain);
     }
 }
 
-impl<T: Copy> Stack<T> {
+impl<T: Copy> SharedStack<T> {
     /// A stack without items.
-    pub fn new(alloc: Global) -> Stack<T>
+    pub fn new(alloc: Global) -> SharedStack<T>
         ensures { result ≡ [] }
     {
-        Stack {
+        SharedStack {
             alloc,
             chain: Chain {
                 height: 0,
@@ -171,18 +171,18 @@ impl<T: Copy> Stack<T> {
     }
 
     /// The stack of a chain's items, unless there are too many copies to be counted.
-    pub fn of(alloc: Global, chain: &Chain<T>) -> Result<Stack<T>, AllocError>
+    pub fn of(alloc: Global, chain: &Chain<T>) -> Result<SharedStack<T>, AllocError>
         ensures { IfOk result (λ stack. stack ≡ chain.now) }
     {
         let chain = chain.copied()?;
-        Ok(Stack { alloc, chain })
+        Ok(SharedStack { alloc, chain })
     }
 
     /// A stack that shares these items, unless there are too many copies to be counted.
-    pub fn copied(&self) -> Result<Stack<T>, AllocError>
+    pub fn copied(&self) -> Result<SharedStack<T>, AllocError>
         ensures { IfOk result (λ copy. copy ≡ self.now) }
     {
-        Stack::of(self.alloc, &self.chain)
+        SharedStack::of(self.alloc, &self.chain)
     }
 
     /// Takes the item on top off, if there is one, unless there are too many copies to be counted.
@@ -193,18 +193,18 @@ impl<T: Copy> Stack<T> {
             return Ok(None);
         };
         let item = *item;
-        let below = Stack::of(self.alloc, below)?;
+        let below = SharedStack::of(self.alloc, below)?;
         *self = below;
         Ok(Some(item))
     }
 
     /// A copy whose items lie side by side in memory of their own, so that going through them takes
     /// less time.
-    pub fn packed(&self) -> Result<Stack<T>, AllocError>
+    pub fn packed(&self) -> Result<SharedStack<T>, AllocError>
         ensures { IfOk result (λ stack. stack ≡ self.now) }
     {
         let items = self.chain.items(self.alloc)?;
-        let mut stack = Stack::new(self.alloc);
+        let mut stack = SharedStack::new(self.alloc);
         for at in (0..items.len()).rev() {
             stack = stack.with(items[at])?;
         }
@@ -215,14 +215,14 @@ impl<T: Copy> Stack<T> {
     pub fn clear(&mut self)
         ensures { self.new ≡ [] }
     {
-        *self = Stack::new(self.alloc);
+        *self = SharedStack::new(self.alloc);
     }
 
     /// The stack with one item more on top, if there is memory.
-    pub fn with(self, item: T) -> Result<Stack<T>, AllocError>
+    pub fn with(self, item: T) -> Result<SharedStack<T>, AllocError>
         ensures { IfOk result (λ stack. stack ≡ item ∷ self) }
     {
-        let Stack { alloc, chain } = self;
+        let SharedStack { alloc, chain } = self;
         let Some(height) = chain.height.checked_add(1) else {
             unwind(chain);
             return Err(AllocError);
@@ -231,7 +231,7 @@ impl<T: Copy> Stack<T> {
             Ok(link) => {
                 let top = Some(link);
                 let chain = Chain { height, top };
-                Ok(Stack { alloc, chain })
+                Ok(SharedStack { alloc, chain })
             }
             Err(refused) => {
                 unwind(refused.value.below);

@@ -1,4 +1,5 @@
 //! Sessions that are heard, and that the first code ends. One in which an allocation may have failed runs once more.
+use crate::trial::machine_over;
 use std::alloc::Global;
 use teco_base::{Code, LIMIT};
 use teco_pages::{Host, MemHost};
@@ -37,14 +38,13 @@ impl<H: Host> Listener<H> for Notes {
 
 // What comes of a session of an input, which a code ends, or none.
 fn hear(alloc: Global, input: &[u8], until: bool, to: &mut Vec<u8>, notes: &mut Notes) -> HeardRow {
-    let (mut machine, mut host) = (
-        Machine::new(alloc, VecText::new(alloc)),
-        MemHost::new(alloc),
-    );
+    let Some(mut machine) = machine_over(alloc, VecText::new(alloc)) else {
+        return Err(SessionFault::Memory);
+    };
     let (mut reader, until_code, steps, length) = (input, until, 100, LIMIT);
     let limits = Limits { steps, length };
     let conduct = Conduct { limits, until_code };
-    let (on, from, files) = (&mut machine, &mut reader, &mut host);
+    let (on, from, files) = (machine.as_mut(), &mut reader, &mut MemHost::new(alloc));
     session_heard(alloc, on, from, to, files, conduct, notes)
 }
 

@@ -1,6 +1,6 @@
 //! Sessions whose reads, writes or growths fail.
 use super::trial::{
-    BufferLeft, STEPS, STORES, SessionRan, TrialStore, expect, has, run_over, word,
+    BufferLeft, STEPS, STORES, SessionRan, TrialStore, expect, has, machine_over, run_over, word,
 };
 use std::alloc::Global;
 use std::io;
@@ -94,10 +94,14 @@ const FAILED: &[TransferRow] = &[
 /// How the read and the write that fail do so. Without a kind a write takes nothing.
 type Kinds = (ErrorKind, Option<ErrorKind>);
 
-// Does a session in which these fail come to an outcome, and write and leave what its row says?
-fn is_slow(alloc: Global, row: &TransferRow, kinds: Kinds) -> bool {
+// Does a session on a machine, in which these fail, come to an outcome, and write and leave what its row says?
+fn is_slow_on(
+    machine: &mut Machine<VecText>,
+    alloc: Global,
+    row: &TransferRow,
+    kinds: Kinds,
+) -> bool {
     let (reads, writes, outcome, input, (written, text, pointer)) = *row;
-    let mut machine = Machine::new(alloc, VecText::new(alloc));
     let mut reader = SlowReader {
         bytes: input.as_bytes(),
         before: Some(reads),
@@ -108,11 +112,17 @@ fn is_slow(alloc: Global, row: &TransferRow, kinds: Kinds) -> bool {
         before: Some(writes),
         kind: kinds.1,
     };
-    let mut host = MemHost::new(alloc);
-    let (from, to) = (&mut reader, &mut writer);
-    let done = session(alloc, &mut machine, from, to, &mut host, STEPS);
+    let (from, to, host) = (&mut reader, &mut writer, &mut MemHost::new(alloc));
+    let done = session(alloc, machine, from, to, host, STEPS);
     let is_written = word(done) == outcome && writer.bytes.as_slice() == written;
-    is_written && has(&machine, text, pointer)
+    is_written && has(machine, text, pointer)
+}
+
+fn is_slow(alloc: Global, row: &TransferRow, kinds: Kinds) -> bool {
+    match machine_over(alloc, VecText::new(alloc)) {
+        Some(mut machine) => is_slow_on(machine.as_mut(), alloc, row, kinds),
+        None => false,
+    }
 }
 
 // A session comes out as its row says, the second time at the latest: a growth may be refused the first time.

@@ -72,6 +72,24 @@ impl SessionRan {
     }
 }
 
+/// A machine with this text. None where memory for it is refused.
+pub fn machine_over<T: TextStore + Drop>(alloc: Global, text: T) -> Option<Box<Machine<T>>> {
+    Box::new(alloc, Machine::new(alloc, text)).ok()
+}
+
+// The outcome of a session on a machine, and what is written.
+fn run_on<T: TextStore, H: Host>(
+    alloc: Global,
+    machine: &mut Machine<T>,
+    host: &mut H,
+    given: SessionInput<'_>,
+    written: &mut Vec<u8>,
+) -> &'static str {
+    let mut reader = given.0;
+    let (from, max) = (&mut reader, given.1.min(LIMIT));
+    word(session_max(alloc, machine, from, written, host, STEPS, max))
+}
+
 fn run_with<T: TextStore + Drop, H: Host>(
     alloc: Global,
     store: T,
@@ -79,14 +97,18 @@ fn run_with<T: TextStore + Drop, H: Host>(
     given: SessionInput<'_>,
     left: (&[u8], usize),
 ) -> SessionRan {
-    let mut machine = Machine::new(alloc, store);
-    let (mut reader, mut written) = (given.0, Vec::new(alloc));
-    let (from, to, max) = (&mut reader, &mut written, given.1.min(LIMIT));
-    let done = session_max(alloc, &mut machine, from, to, host, STEPS, max);
+    let mut written = Vec::new(alloc);
+    let (outcome, is_left) = match machine_over(alloc, store) {
+        Some(mut machine) => (
+            run_on(alloc, machine.as_mut(), host, given, &mut written),
+            has(machine.as_ref(), left.0, left.1),
+        ),
+        None => ("memory", false),
+    };
     SessionRan {
-        outcome: word(done),
+        outcome,
         written,
-        is_left: has(&machine, left.0, left.1),
+        is_left,
     }
 }
 

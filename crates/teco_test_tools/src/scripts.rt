@@ -1,10 +1,20 @@
 //! Words that are run as scripts.
 use crate::trial::{expect_text, kept};
 use std::io;
-use teco_console::Escape;
+use teco_console::{Console, Escape, Outcome};
 use teco_pages::FileHost;
 use teco_tools::Script::Word;
-use teco_tools::{Run, Script, Start, run_scripts};
+use teco_tools::{Run, Script, Start, ToolFault, run_scripts};
+
+// Runs scripts over the files of the system, with no input.
+fn run_on_system(
+    rt: &HostRuntime,
+    console: &mut Console<Vec<u8>, Vec<u8>>,
+    run: &Run<'_, '_>,
+) -> Result<Outcome, ToolFault> {
+    let mut host = FileHost::new(rt.alloc(), *rt);
+    run_scripts(rt, console, run, &mut io::empty(), &mut host)
+}
 
 // What scripts type, and what is said of them. None where they can't be run.
 fn ran<'a>(rt: &HostRuntime, scripts: &'a [Script<'a>], until_code: bool) -> Option<[Vec<u8>; 2]> {
@@ -17,8 +27,7 @@ fn ran<'a>(rt: &HostRuntime, scripts: &'a [Script<'a>], until_code: bool) -> Opt
         start: Start::new(),
     };
     let mut console = kept(rt);
-    let mut host = FileHost::new(rt.alloc(), *rt);
-    let _outcome = run_scripts(rt, &mut console, &run, &mut io::empty(), &mut host).ok()?;
+    let _outcome = run_on_system(rt, &mut console, &run).ok()?;
     let (typed, said) = console.into_parts();
     Some([typed, said])
 }

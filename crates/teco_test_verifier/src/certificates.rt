@@ -5,7 +5,7 @@ use std::test::*;
 use teco_base::LIMIT;
 use teco_certificate::{Certificate, CertificateFault};
 use teco_library::Library;
-use teco_verifier::Refusal as Why;
+use teco_verifier::RefusalReason as Why;
 use teco_verify::{Refusal, check_certificate};
 
 // Marks are put behind each occurrence of a word: one iteration.

@@ -87,6 +87,11 @@ fn failing_host(alloc: Global, input: &[u8], (call, nth): Failing) -> Option<Tes
 // Did a code end an edit, or a guard or neither, behind how many pages and in how many steps?
 type EndedEdit = (bool, bool, u64, u64);
 
+// A machine with no text. None where memory for it is refused.
+fn new_machine(alloc: Global) -> Option<Box<Machine<VecText>>> {
+    Box::new(alloc, Machine::new(alloc, VecText::new(alloc))).ok()
+}
+
 // Edits pages of the file `in` of a host into the file `out`. None where there is no end, or an output is left open.
 fn edited_by(
     alloc: Global,
@@ -122,10 +127,10 @@ fn edited_first_alone(
     host: &mut TestHost,
     written: &mut Vec<u8>,
 ) -> Option<(EndedEdit, GuardCounts)> {
-    let mut machine = Machine::new(alloc, VecText::new(alloc));
-    let on = &mut machine;
+    let mut machine = new_machine(alloc)?;
+    let on = machine.as_mut();
     match apply(alloc, on, verified, None, b"in", b"out", host, written) {
-        Ok(done) if !done.exit && !machine.has_output() => {
+        Ok(done) if !done.exit && !machine.as_ref().has_output() => {
             Some(((done.coded, false, 0, 0), GuardCounts::default()))
         }
         _ => None,
@@ -248,11 +253,11 @@ fn files_are_edited_or_outputs_dropped(rt: HostRuntime) {
 
 // What the run of a macro on an empty machine comes to, with an argument where one is given.
 fn stop_of(alloc: Global, verified: &Verified<'_>, given: Option<i32>) -> Result<Stop, NotReady> {
-    let mut machine = Machine::new(alloc, VecText::new(alloc));
-    let mut host = MemHost::new(alloc);
+    let mut machine = new_machine(alloc).ok_or(NotReady::Memory)?;
+    let (on, host) = (machine.as_mut(), &mut MemHost::new(alloc));
     match given {
-        Some(n) => run_verified_with(&mut machine, verified, n, &mut host),
-        None => run_verified(&mut machine, verified, &mut host),
+        Some(n) => run_verified_with(on, verified, n, host),
+        None => run_verified(on, verified, host),
     }
 }
 

@@ -6,7 +6,7 @@ use teco_base::{Code, Reg};
 use teco_explain::*;
 use teco_lex::element;
 use teco_source::{EscapeForm, Source};
-use teco_verifier::Refusal;
+use teco_verifier::RefusalReason;
 
 // The number of the refusal of a name.
 fn number_named(name: &str) -> Option<usize> {
@@ -70,7 +70,11 @@ fn codes_have_names_and_notes(rt: HostRuntime) {
 fn notes_are_printed(rt: HostRuntime) {
     let is_so = is_text(rt.alloc(), &note_of_code(Code::Pes), CODE);
     expect(&rt, is_so == Some(true), CODE);
-    let is_so = is_text(rt.alloc(), &note_of_refusal(Refusal::Certificate), REFUSAL);
+    let is_so = is_text(
+        rt.alloc(),
+        &note_of_refusal(RefusalReason::Certificate),
+        REFUSAL,
+    );
     expect(&rt, is_so == Some(true), REFUSAL);
 }
 
@@ -170,12 +174,18 @@ fn texts_are_laid_out_and_indented_to_an_end(rt: HostRuntime) {
 }
 
 // A library, a reason, the name of a register, or none, a place, and what is said.
-struct Said(&'static str, Refusal, &'static str, usize, &'static str);
+struct Said(
+    &'static str,
+    RefusalReason,
+    &'static str,
+    usize,
+    &'static str,
+);
 
 const EXPLAINED: &[Said] = &[
-    Said("5C", Refusal::Library, "", 0, LIBRARY),
-    Said("@^UA/?/", Refusal::Fault, "A", 0, FAULT),
-    Said("@^UA//", Refusal::Missing, "B", 0, MISSING),
+    Said("5C", RefusalReason::Library, "", 0, LIBRARY),
+    Said("@^UA/?/", RefusalReason::Fault, "A", 0, FAULT),
+    Said("@^UA//", RefusalReason::Missing, "B", 0, MISSING),
 ];
 
 const LIBRARY: &str = "lib.tec:1:1: refused X1: this is no macro library\n\

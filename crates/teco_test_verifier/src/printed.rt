@@ -8,7 +8,7 @@ use teco_console::*;
 use teco_library::LibraryFault;
 use teco_poly::Poly;
 use teco_verdicts::*;
-use teco_verifier::Refusal as Why;
+use teco_verifier::RefusalReason as Why;
 
 // The library.
 const NAME: &str = "somleut_tools_library";

@@ -3,7 +3,7 @@ use crate::subjects::{TableRow, expect_all};
 use std::alloc::{AllocError, Global};
 use std::test::*;
 use teco_poly::Poly;
-use teco_stack::Stack;
+use teco_stack::SharedStack;
 
 // A polynomial, what is done with it, another one or a number, and what comes of it, if anything does.
 struct Worked(&'static str, &'static str, &'static str, &'static str);
@@ -110,8 +110,8 @@ struct Height(u32);
 const HEIGHTS: &[Height] = &[Height(0), Height(1), Height(100), Height(50_000)];
 
 // A stack of the numbers below one. Where a growth is refused, a copy that shares the numbers goes on with them.
-fn numbers(alloc: Global, count: u32) -> Result<Stack<u32>, AllocError> {
-    let mut stack = Stack::new(alloc);
+fn numbers(alloc: Global, count: u32) -> Result<SharedStack<u32>, AllocError> {
+    let mut stack = SharedStack::new(alloc);
     for number in 0..count {
         let copy = stack.copied()?;
         stack = match stack.with(number) {
@@ -123,7 +123,7 @@ fn numbers(alloc: Global, count: u32) -> Result<Stack<u32>, AllocError> {
 }
 
 // Are all numbers taken off a copy, from the top down, each with as many below it?
-fn are_taken(stack: &Stack<u32>) -> Result<bool, AllocError> {
+fn are_taken(stack: &SharedStack<u32>) -> Result<bool, AllocError> {
     let mut rest = stack.copied()?;
     for _ in 0..stack.len() {
         match rest.pop()? {
@@ -135,13 +135,13 @@ fn are_taken(stack: &Stack<u32>) -> Result<bool, AllocError> {
 }
 
 // How many numbers are below the one on top, which is as great, if there is one.
-fn below_top(stack: &Stack<u32>) -> Option<usize> {
+fn below_top(stack: &SharedStack<u32>) -> Option<usize> {
     let (number, below) = stack.chain().parts()?;
     (*number as usize == below.len()).then_some(below.len())
 }
 
 // Has a stack the numbers below one, also when they were taken off a copy?
-fn has_all(stack: &Stack<u32>, count: u32) -> bool {
+fn has_all(stack: &SharedStack<u32>, count: u32) -> bool {
     let count = count as usize;
     matches!(are_taken(stack), Ok(true))
         && stack.len() == count

@@ -8,7 +8,7 @@ use Rattle.teco_library.specs.Reads.{Reads}
 use Rattle.teco_library.specs.declared.fault.LibraryFault.TheVariants.{NotALibrary}
 use Rattle.teco_model.specs.Element.{Element}
 use Rattle.teco_verifier.specs.certificate.Fields.{Fields, Finding}
-use Rattle.teco_verifier.specs.declared.refusal.Refusal.TheVariants as why
+use Rattle.teco_verifier.specs.declared.refusal.RefusalReason.TheVariants as why
 use Rattle.teco_verify.specs.Again.{AreMadeAgain}
 use Rattle.teco_verify.specs.Refusing.{IsJudged, RefusedIsExpansions, refusal_of_certificate}
 use Rattle.teco_verify.specs.Straight.{StraightIsVerified, straight_fields}

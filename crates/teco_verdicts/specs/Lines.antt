@@ -5,8 +5,8 @@ use Rattle.std.specs.Fmt.{decimal}
 use Rattle.teco_base.specs.Register.{register_name}
 use Rattle.teco_base.specs.declared.bytes.TheConstants.{LF}
 use Rattle.teco_explain.specs.Numbers.{number_of}
-use Rattle.teco_verifier.specs.declared.refusal.Refusal.{Refusal as Why}
-use Rattle.teco_verifier.specs.declared.refusal.Refusal.TheVariants.{Certificate}
+use Rattle.teco_verifier.specs.declared.refusal.RefusalReason.{RefusalReason as Why}
+use Rattle.teco_verifier.specs.declared.refusal.RefusalReason.TheVariants.{Certificate}
 use Rattle.teco_verify.specs.declared.refusal.Refusal.{Refusal}
 use Rattle.teco_verify.specs.declared.refusal.Refusal.TheVariants.{No, Memory}
 use Rattle.teco_verdicts.specs.declared.verdict.Verdict.{Verdict}

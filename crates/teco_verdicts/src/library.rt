@@ -17,7 +17,7 @@ use teco_console::{
 use teco_explain::Explained;
 use teco_library::{Library, LibraryFault};
 use teco_source::Source;
-use teco_verifier::Refusal as Why;
+use teco_verifier::RefusalReason as Why;
 use teco_verify::Refusal;
 
 /// The library that a source says.

@@ -24,7 +24,7 @@ use teco_expansion::ExpandFault;
 use teco_infer::SearchRefusal as Unfound;
 use teco_library::Library;
 use teco_source::{Shown, Source};
-use teco_verifier::Refusal as Why;
+use teco_verifier::RefusalReason as Why;
 use teco_verify::{Refusal, verify};
 
 /// The register at a place, if there is one.

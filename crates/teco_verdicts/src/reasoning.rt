@@ -13,7 +13,7 @@ use teco_explain::place_in;
 use teco_infer::Shortfall;
 use teco_library::Library;
 use teco_source::{Shown, Source};
-use teco_verifier::Refusal as Why;
+use teco_verifier::RefusalReason as Why;
 use teco_verify::Refusal;
 
 // Claims in words, one after the other.

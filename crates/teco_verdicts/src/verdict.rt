@@ -5,7 +5,7 @@ ghost use Rattle.teco_verdicts.specs.Lines.{verdict_of, verdict_text};
 use std::fmt;
 use teco_base::Reg;
 use teco_explain::number_of;
-use teco_verifier::Refusal as Why;
+use teco_verifier::RefusalReason as Why;
 use teco_verify::Refusal;
 
 /// Why a library or a certificate is refused, and where: in the text of a register, or in the

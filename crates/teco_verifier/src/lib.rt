@@ -7,5 +7,5 @@ pub mod refusal;
 pub mod values;
 
 pub use choices::{LongerText, LoopLine};
-pub use refusal::Refusal;
+pub use refusal::RefusalReason;
 pub use values::{Distances, Interval, Value};

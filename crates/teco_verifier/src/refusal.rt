@@ -2,7 +2,7 @@
 
 /// The reasons, as they are printed.
 #[derive(Clone, Copy)]
-pub enum Refusal {
+pub enum RefusalReason {
     /// X1: it is no library file.
     Library,
     /// X2: a fault in a text, or in a search text.

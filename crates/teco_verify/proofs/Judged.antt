@@ -7,8 +7,8 @@ use Rattle.teco_verify.proofs.Prelude.{CertificateFlaw, Refusal, IsJudged, IsPla
 use Rattle.teco_verify.proofs.Prelude.{unfit_by, unfit_of}
 use Rattle.teco_check.specs.declared.derivation.NotDerived.TheVariants as fault
 use Rattle.teco_check.specs.Derived.{IsNotLarge, IsRefusedAt}
-use Rattle.teco_verifier.specs.declared.refusal.Refusal as rules
-use Rattle.teco_verifier.specs.declared.refusal.Refusal.TheVariants as why
+use Rattle.teco_verifier.specs.declared.refusal.RefusalReason as rules
+use Rattle.teco_verifier.specs.declared.refusal.RefusalReason.TheVariants as why
 use Rattle.teco_verifier.specs.table.Printed.{IsPrinted}
 use Rattle.teco_verify.proofs.Again.{fields_are}
 use Rattle.teco_verify.specs.Certifying.{Overflows}
@@ -37,7 +37,7 @@ module _ (library : LibraryFile) (entry : ℕ) where
 
     -- of these nodes
     record IsJudgedHere (argument : Option ArgumentRange) (result : Result Finding Refusal) : Type 0 where
-      derived : list_any begins nodes ≡ false → (reason : rules.Refusal) → derive argument nodes [] ≡ Err reason
+      derived : list_any begins nodes ≡ false → (reason : rules.RefusalReason) → derive argument nodes [] ≡ Err reason
           → IsToldByRules argument nodes reason result
       unclosed : list_any begins nodes ≡ false → (table : Table) (number : ℕ) → derive argument nodes [] ≡ Ok table
           → check argument nodes table ≡ Err number → IsRefused (refusal_at why.Bound (node_at nodes number)) result
@@ -101,7 +101,7 @@ module _ (library : LibraryFile) (entry : ℕ) where
       same_table : (other : Table) → derive argument nodes [] ≡ Ok other → other ≡ table
       same_table other e = let same : Ok other ≡ Ok table = sym e ∙ derived_is in cc
 
-      not_refused : (reason : rules.Refusal) → derive argument nodes [] ≡ Err reason → ⊥
+      not_refused : (reason : rules.RefusalReason) → derive argument nodes [] ≡ Err reason → ⊥
       not_refused reason e = let no : Err reason ≡ Ok table = sym e ∙ derived_is in cc
 
       same_overflow : (one other : ℕ) → Overflows argument nodes table one → Overflows argument nodes table other

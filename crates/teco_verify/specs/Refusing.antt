@@ -20,8 +20,8 @@ use Rattle.teco_expansion.specs.declared.refusal.ExpandFault.TheVariants as faul
 use Rattle.teco_expansion.specs.Refused.{refusal_seen}
 use Rattle.teco_poly.specs.Polynomial.{Polynomial}
 use Rattle.teco_model.specs.Macros.{ArgumentRange}
-use Rattle.teco_verifier.specs.declared.refusal.Refusal as rules
-use Rattle.teco_verifier.specs.declared.refusal.Refusal.TheVariants as why
+use Rattle.teco_verifier.specs.declared.refusal.RefusalReason as rules
+use Rattle.teco_verifier.specs.declared.refusal.RefusalReason.TheVariants as why
 use Rattle.teco_verifier.specs.table.Closed.{check}
 use Rattle.teco_verifier.specs.table.Deriving.{derive}
 use Rattle.teco_verifier.specs.table.Printed.{needs_in, IsPrinted}
@@ -34,7 +34,7 @@ use Rattle.teco_verify.specs.declared.refusal.Refusal.TheVariants as refusal
 use Rattle.teco_verify.specs.Straight.{IsFound}
 
 -- which refusal each reason of an expansion is
-abbrev pub why_of : expanding.Reason → rules.Refusal
+abbrev pub why_of : expanding.Reason → rules.RefusalReason
 why_of expanding.Fault = why.Fault
 why_of expanding.Unpaired = why.Partner
 why_of expanding.NoMacro = why.Missing
@@ -50,7 +50,7 @@ abbrev pub refusal_of : expanding.Refusal → Refusal
 refusal_of refused = refusal.No (why_of refused.reason) (register_of refused.register) refused.place
 
 -- a refusal at a node: in the register whose text that is, at the place of its element
-abbrev pub refusal_at : rules.Refusal → Node → Refusal
+abbrev pub refusal_at : rules.RefusalReason → Node → Refusal
 refusal_at reason node = refusal.No reason (register_of node.register) (place_of node)
 
 -- the refusal of a certificate: it has no place
@@ -71,12 +71,13 @@ RefusedIsExpansions library entry result =
 
 -- a refusal by the rules, at the node at which they refuse where nothing is chosen
 pub record IsRefusedByRules
-    (argument : Option ArgumentRange) (nodes : List Node) (reason : rules.Refusal) (refused : Refusal) : Type 0 where
+    (argument : Option ArgumentRange) (nodes : List Node) (reason : rules.RefusalReason) (refused : Refusal) :
+    Type 0 where
   pub number : ℕ
   pub first : IsRefusedAt argument nodes [] number reason
   pub told : refused ≡ refusal_at reason (node_at nodes number)
 
-abbrev pub IsToldByRules : Option ArgumentRange → List Node → rules.Refusal → Result Finding Refusal → Type 0
+abbrev pub IsToldByRules : Option ArgumentRange → List Node → rules.RefusalReason → Result Finding Refusal → Type 0
 IsToldByRules argument nodes reason (Ok found) = ⊥
 IsToldByRules argument nodes reason (Err refusal.Memory) = ⊤
 IsToldByRules argument nodes reason (Err (refusal.No other register place)) =
@@ -96,7 +97,7 @@ pub record IsPlainTable (library : LibraryFile) (entry : ℕ) (nodes : List Node
 -- Where nothing has to be chosen and the rules refuse, the refusal is theirs, at the node at which they refuse.
 abbrev pub RefusedIsDerived : LibraryFile → ℕ → Result Finding Refusal → Type 0
 RefusedIsDerived library entry result =
-    (nodes : List Node) (reason : rules.Refusal)
+    (nodes : List Node) (reason : rules.RefusalReason)
     → IsPlain library entry nodes → derive (argument_of library entry) nodes [] ≡ Err reason
     → IsToldByRules (argument_of library entry) nodes reason result
 

@@ -5,7 +5,7 @@ use std::alloc::{AllocError, Global};
 use teco_check::{choice_for, line_of};
 use teco_facts::{Changes, Choice, Facts, body_start, growth_of, held_last, joined_lengths};
 use teco_poly::Poly;
-use teco_verifier::{LoopLine, Refusal};
+use teco_verifier::{LoopLine, RefusalReason};
 
 // How often a choice is tried.
 const TRIES: u8 = 3;
@@ -92,7 +92,7 @@ impl Attempt {
     }
 
     // The choice for the next try, from what is known at the `>`.
-    fn next_choice(&self, end: &Facts) -> Result<Choice, Refusal> {
+    fn next_choice(&self, end: &Facts) -> Result<Choice, RefusalReason> {
         let growth = growth_of(&self.choice.held, &end.held())?;
         Ok(Choice {
             held: held_last(&self.entering.held(), &self.turns, &growth)?,
@@ -102,11 +102,11 @@ impl Attempt {
     }
 
     // What is wrong for any choice.
-    fn fault(&self, end: &Facts) -> Option<Refusal> {
+    fn fault(&self, end: &Facts) -> Option<RefusalReason> {
         if !self.entering.is_counted() && !end.has_fallen(1) {
-            Some(Refusal::Fall)
+            Some(RefusalReason::Fall)
         } else if end.pushed() != self.entering.pushed() {
-            Some(Refusal::Pop)
+            Some(RefusalReason::Pop)
         } else {
             None
         }
@@ -133,7 +133,7 @@ impl Attempt {
     }
 
     /// What the facts at the `>` say of this try. Where another choice is to be tried, it is made.
-    pub fn judged(&mut self, end: &mut Facts) -> Result<Judgement, Refusal> {
+    pub fn judged(&mut self, end: &mut Facts) -> Result<Judgement, RefusalReason> {
         if let Some(why) = self.fault(end) {
             return Err(why);
         }
@@ -141,7 +141,7 @@ impl Attempt {
             return Ok(Judgement::Stands);
         }
         if self.tries >= TRIES {
-            return Err(Refusal::Bound);
+            return Err(RefusalReason::Bound);
         }
         self.tries += 1;
         self.choice = self.next_choice(end)?;

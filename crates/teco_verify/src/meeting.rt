@@ -7,8 +7,8 @@
 
 use std::alloc::{AllocError, Global};
 use teco_facts::{FactFault, Facts, Pushed, joined_pair};
-use teco_stack::{Chain, Stack};
-use teco_verifier::Refusal;
+use teco_stack::{Chain, SharedStack};
+use teco_verifier::RefusalReason;
 
 // Whether two pairs are the same.
 fn are_same(one: &Pushed, two: &Pushed) -> bool {
@@ -20,8 +20,8 @@ fn stacked(
     alloc: Global,
     pairs: &[Pushed],
     below: &Chain<Pushed>,
-) -> Result<Stack<Pushed>, AllocError> {
-    let mut stack = Stack::of(alloc, below)?;
+) -> Result<SharedStack<Pushed>, AllocError> {
+    let mut stack = SharedStack::of(alloc, below)?;
     for pair in pairs.iter().rev() {
         stack = stack.with(*pair)?;
     }
@@ -33,7 +33,7 @@ fn met_pairs(
     alloc: Global,
     first: &Chain<Pushed>,
     second: &Chain<Pushed>,
-) -> Result<Stack<Pushed>, FactFault> {
+) -> Result<SharedStack<Pushed>, FactFault> {
     let mut pairs = Vec::new(alloc);
     let mut changed = 0;
     let (mut one, mut two, mut shared) = (first, second, first);
@@ -42,10 +42,10 @@ fn met_pairs(
             break;
         }
         let Some((of_one, one_below)) = one.parts() else {
-            return Err(FactFault::Refused(Refusal::Pop));
+            return Err(FactFault::Refused(RefusalReason::Pop));
         };
         let Some((of_two, two_below)) = two.parts() else {
-            return Err(FactFault::Refused(Refusal::Pop));
+            return Err(FactFault::Refused(RefusalReason::Pop));
         };
         let pair = joined_pair(of_one, of_two)?;
         push_pair(&mut pairs, pair)?;

@@ -12,7 +12,7 @@ use std::alloc::AllocError;
 use teco_base::{REGISTERS, Reg};
 use teco_check::NotDerived;
 use teco_expansion::{ExpandFault, ExpandReason, Nodes};
-use teco_verifier::Refusal as Why;
+use teco_verifier::RefusalReason as Why;
 
 /// Why a macro or a certificate is refused.
 #[derive(Clone, Copy)]

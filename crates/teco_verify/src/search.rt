@@ -16,7 +16,7 @@ use teco_expansion::Nodes;
 use teco_facts::Facts;
 use teco_model::ArgumentRange;
 use teco_poly::Poly;
-use teco_verifier::{LoopLine, Refusal};
+use teco_verifier::{LoopLine, RefusalReason};
 
 // How often the body of the innermost of six iterations may be passed: three times for each of
 // them.
@@ -267,7 +267,7 @@ impl NodePass {
         }
         if let Some(facts) = known {
             if !are_kept(&facts) {
-                return Err(Unfit::at(Refusal::Bound, number));
+                return Err(Unfit::at(RefusalReason::Bound, number));
             }
             self.go_on(course, number, facts)?;
         }

@@ -5,13 +5,13 @@ ghost use Rattle.teco_verify.specs.declared.unfit.Unfit.TheVariants.{Memory};
 
 use std::alloc::{AllocError, AllocFailed, Global};
 use teco_facts::FactFault;
-use teco_verifier::{LoopLine, Refusal};
+use teco_verifier::{LoopLine, RefusalReason};
 
 /// Why no choices are found.
 #[derive(Clone, Copy)]
 pub enum Unfit {
     /// The rules refuse at the node of this number.
-    Refused { why: Refusal, number: usize },
+    Refused { why: RefusalReason, number: usize },
     /// The search passed as many nodes as it may, and came to the node of this number.
     GivenUp { number: usize },
     /// A growth was refused.
@@ -20,7 +20,7 @@ pub enum Unfit {
 
 impl Unfit {
     // A refusal at a node.
-    pub fn at(why: Refusal, number: usize) -> Unfit
+    pub fn at(why: RefusalReason, number: usize) -> Unfit
         ensures { IsAt number result }
     {
         Unfit::Refused { why, number }

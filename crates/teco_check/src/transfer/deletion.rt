@@ -8,7 +8,7 @@ use crate::transfer::count_of;
 use crate::transfer::motion::shift_by_lines;
 use teco_facts::{Facts, Foreseen, Margins, Number, Range, Shift, TakenFacts};
 use teco_model::kind::Unit;
-use teco_verifier::Refusal;
+use teco_verifier::RefusalReason;
 
 /// The number, and 0 for a negative one.
 pub fn positive(n: i64) -> u64
@@ -19,19 +19,19 @@ pub fn positive(n: i64) -> u64
 }
 
 // The characters that a count names are known to be there, on either side.
-fn character_deletion(margins: Margins, n: Range) -> Result<Shift, Refusal>
+fn character_deletion(margins: Margins, n: Range) -> Result<Shift, RefusalReason>
     ensures { result ≡ deletions.character_deletion margins n }
 {
     let (ahead, behind) = (positive(n.hi), positive(-n.lo));
     if ahead > margins.fore || behind > margins.back {
-        return Err(Refusal::Deletion);
+        return Err(RefusalReason::Deletion);
     }
     let fall = Some(positive(n.lo) as i64);
     Ok(Shift::moving(margins.back - behind, margins.fore - ahead, fall))
 }
 
 // A part between two places that are known to lie in the buffer.
-fn range_deletion(m: Number, n: Number, margins: Margins) -> Result<Shift, Refusal>
+fn range_deletion(m: Number, n: Number, margins: Margins) -> Result<Shift, RefusalReason>
     ensures { result ≡ deletions.range_deletion m n margins }
 {
     let from = Shift::to(m.place(), margins)?;
@@ -40,7 +40,7 @@ fn range_deletion(m: Number, n: Number, margins: Margins) -> Result<Shift, Refus
 }
 
 // Such a part, or so many characters or lines.
-fn shift_of(unit: Unit, taken: TakenFacts, margins: Margins) -> Result<Shift, Refusal>
+fn shift_of(unit: Unit, taken: TakenFacts, margins: Margins) -> Result<Shift, RefusalReason>
     ensures { result ≡ shifts.deleting unit taken.first taken.value margins }
 {
     match (taken.first, taken.value, unit) {
@@ -51,7 +51,7 @@ fn shift_of(unit: Unit, taken: TakenFacts, margins: Margins) -> Result<Shift, Re
 }
 
 /// A deletion of a number of characters, or of a part.
-pub fn deletion(unit: Unit, taken: TakenFacts, facts: Facts) -> Result<Foreseen, Refusal>
+pub fn deletion(unit: Unit, taken: TakenFacts, facts: Facts) -> Result<Foreseen, RefusalReason>
     requires { AreSmall facts.position.falls }
     ensures { result ≡ deletions.deletion unit taken facts }
 {

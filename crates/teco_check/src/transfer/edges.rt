@@ -18,9 +18,9 @@ use teco_facts::{
     Answer, FactFault, Facts, Foreseen, LevelFacts, Margins, Number, Range, TakenFacts, run_value,
     stack,
 };
-use teco_model::kind::{Argument, Command, Flow, Kind, Page, Search, Stack, Value};
+use teco_model::kind::{Argument, Command, Flow, Kind, MachineValue, Page, Search, Stack};
 use teco_model::{Element, Operator};
-use teco_verifier::Refusal;
+use teco_verifier::RefusalReason;
 
 /// An element where it stands: whether the register that it names is one of the library's, whether
 /// it stands in an iteration of its own text, whether a search counts as having a colon, and how
@@ -44,28 +44,28 @@ fn last_length() -> Number
 
 // The level with a value that the machine has.
 fn level_with_value(
-    value: Value,
+    value: MachineValue,
     level: LevelFacts,
     margins: Margins,
-) -> Result<LevelFacts, Refusal>
+) -> Result<LevelFacts, RefusalReason>
     ensures { result ≡ rules.level_with_value value margins level }
 {
     let given = match value {
-        Value::Begin => Number::single(0),
-        Value::Size => Number::size(),
-        Value::Pointer => Number::pointer(),
-        Value::LastLength => last_length(),
-        Value::Whole => {
+        MachineValue::Begin => Number::single(0),
+        MachineValue::Size => Number::size(),
+        MachineValue::Pointer => Number::pointer(),
+        MachineValue::LastLength => last_length(),
+        MachineValue::Whole => {
             let parted = level.given(Number::single(0), margins)?.parted(margins)?;
             return parted.given(Number::size(), margins);
         }
-        Value::LastText => return Err(Refusal::Unverified),
+        MachineValue::LastText => return Err(RefusalReason::Unverified),
     };
     level.given(given, margins)
 }
 
 // The facts behind a value that the machine has.
-fn facts_after_value(value: Value, facts: Facts) -> Result<Facts, Refusal>
+fn facts_after_value(value: MachineValue, facts: Facts) -> Result<Facts, RefusalReason>
     ensures { result ≡ rules.facts_after_value value facts }
 {
     let level = level_with_value(value, facts.level(), facts.margins())?;
@@ -96,7 +96,7 @@ fn execution(
 }
 
 // The facts behind digits, which give their value.
-fn facts_after_digits(text: &[u8], facts: Facts) -> Result<Facts, Refusal>
+fn facts_after_digits(text: &[u8], facts: Facts) -> Result<Facts, RefusalReason>
     ensures { result ≡ rules.facts_after_argument argument.Digits text.now facts }
 {
     let value = Number::single(run_value(text));
@@ -105,7 +105,7 @@ fn facts_after_digits(text: &[u8], facts: Facts) -> Result<Facts, Refusal>
 }
 
 // The facts behind an operator.
-fn facts_operating(operator: Operator, facts: Facts) -> Result<Facts, Refusal>
+fn facts_operating(operator: Operator, facts: Facts) -> Result<Facts, RefusalReason>
     ensures { result ≡ rules.facts_after_argument (argument.Operate operator) [] facts }
 {
     let level = facts.level().operating(operator)?;
@@ -113,7 +113,7 @@ fn facts_operating(operator: Operator, facts: Facts) -> Result<Facts, Refusal>
 }
 
 // The facts behind a comma.
-fn facts_parted(facts: Facts) -> Result<Facts, Refusal>
+fn facts_parted(facts: Facts) -> Result<Facts, RefusalReason>
     ensures { result ≡ rules.facts_after_argument argument.Comma [] facts }
 {
     let level = facts.level().parted(facts.margins())?;
@@ -136,13 +136,13 @@ fn facts_after_argument(argument: Argument, text: &[u8], facts: Facts) -> Result
 }
 
 // Whether a search is verified where it stands.
-fn search_allowed(inside: bool, colon: bool) -> Result<(), Refusal>
+fn search_allowed(inside: bool, colon: bool) -> Result<(), RefusalReason>
     ensures { result ≡ rules.search_allowed inside colon }
 {
     if inside || colon {
         Ok(())
     } else {
-        Err(Refusal::Unverified)
+        Err(RefusalReason::Unverified)
     }
 }
 
@@ -218,7 +218,7 @@ fn facts_after_command(
 }
 
 // The facts behind a command of pages, which takes its arguments.
-fn facts_after_page(page: Page, facts: Facts) -> Result<Facts, Refusal>
+fn facts_after_page(page: Page, facts: Facts) -> Result<Facts, RefusalReason>
     requires { AreSmall facts.position.falls }
     ensures { result ≡ rules.facts_after_page page facts }
 {
@@ -228,12 +228,12 @@ fn facts_after_page(page: Page, facts: Facts) -> Result<Facts, Refusal>
 }
 
 // Why an element of files is refused: its arguments, or that it is not verified.
-fn refusal_of_file(facts: &Facts) -> Refusal
+fn refusal_of_file(facts: &Facts) -> RefusalReason
     ensures { Err result ≡ rules.file_edges facts.now }
 {
     match facts.level().taken() {
         Err(why) => why,
-        Ok(_) => Refusal::Unverified,
+        Ok(_) => RefusalReason::Unverified,
     }
 }
 

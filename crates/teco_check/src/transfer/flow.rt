@@ -15,7 +15,7 @@ use std::marker::Model;
 use teco_facts::{Answer, FactFault, Facts, Number, sum_of};
 use teco_model::kind::Test;
 use teco_poly::Poly;
-use teco_verifier::Refusal;
+use teco_verifier::RefusalReason;
 
 /// The edges behind an element, where they are reached: on, to what stands behind it, and away, to
 /// where it leads else.
@@ -63,7 +63,13 @@ fn is(one: i64, two: i64) -> bool
 }
 
 // The most that a value is, told by how often each distance counts.
-fn bound_by(ahead: i64, behind: i64, k: u64, most: u64, facts: &Facts) -> Result<Poly, Refusal>
+fn bound_by(
+    ahead: i64,
+    behind: i64,
+    k: u64,
+    most: u64,
+    facts: &Facts,
+) -> Result<Poly, RefusalReason>
     ensures { result ≡ flows.bound_by ahead behind k most facts.now }
 {
     let more = Poly::number(k);
@@ -84,7 +90,7 @@ fn bound_by(ahead: i64, behind: i64, k: u64, most: u64, facts: &Facts) -> Result
 }
 
 /// The most that a value is, as a polynomial.
-pub fn bound_of(number: Number, facts: &Facts) -> Result<Poly, Refusal>
+pub fn bound_of(number: Number, facts: &Facts) -> Result<Poly, RefusalReason>
     ensures { result ≡ flows.bound_of number facts.now }
 {
     let most = positive(number.range(facts.margins()).hi);
@@ -93,7 +99,7 @@ pub fn bound_of(number: Number, facts: &Facts) -> Result<Poly, Refusal>
 }
 
 // The turns of an iteration with this count.
-fn turns_of(count: Option<Number>, facts: &Facts) -> Result<Poly, Refusal>
+fn turns_of(count: Option<Number>, facts: &Facts) -> Result<Poly, RefusalReason>
     ensures { result ≡ flows.turns_of count facts.now }
 {
     match count {
@@ -103,7 +109,7 @@ fn turns_of(count: Option<Number>, facts: &Facts) -> Result<Poly, Refusal>
 }
 
 /// The turns of an iteration: at most its count, or without one what is ahead and one more.
-pub fn turns(facts: &Facts) -> Result<Poly, Refusal>
+pub fn turns(facts: &Facts) -> Result<Poly, RefusalReason>
     ensures { result ≡ flows.turns facts.now }
 {
     let taken = facts.level().taken()?;
@@ -153,7 +159,7 @@ pub fn turn_end(facts: Facts) -> Result<Edges, FactFault>
     ensures { Gives (flows.turn_end facts.iterations facts) result }
 {
     let Some(innermost) = facts.innermost() else {
-        return Err(FactFault::Refused(Refusal::Partner));
+        return Err(FactFault::Refused(RefusalReason::Partner));
     };
     if !innermost.counted {
         return Ok(Edges::away(facts.turned()));
@@ -177,7 +183,7 @@ fn leaving_numbers(colons: u8) -> Numbers
 }
 
 // The number that a test asks.
-fn tested(facts: &Facts) -> Result<Number, Refusal>
+fn tested(facts: &Facts) -> Result<Number, RefusalReason>
     ensures { result ≡ flows.needed_taken facts.now }
 {
     let taken = facts.level().taken()?;
@@ -194,18 +200,18 @@ pub fn test(test: Test, answer: &Option<Answer>, facts: Facts) -> Result<Edges, 
 }
 
 // Whether no argument is pending.
-fn no_value(facts: &Facts) -> Result<(), Refusal>
+fn no_value(facts: &Facts) -> Result<(), RefusalReason>
     ensures { result ≡ allowed.needs_no_value facts.now }
 {
     let taken = facts.level().taken()?;
     match taken.value {
         None => Ok(()),
-        Some(_) => Err(Refusal::Argument),
+        Some(_) => Err(RefusalReason::Argument),
     }
 }
 
 /// O goes to its tag, and leaves as many iterations as lie between.
-pub fn go_to(leaves: usize, facts: Facts) -> Result<Edges, Refusal>
+pub fn go_to(leaves: usize, facts: Facts) -> Result<Edges, RefusalReason>
     ensures { result ≡ flows.go_to leaves facts }
 {
     no_value(&facts)?;

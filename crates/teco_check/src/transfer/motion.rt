@@ -8,7 +8,7 @@ use teco_facts::{
     Facts, Foreseen, Margins, Number, Range, Shift, TakenFacts, minus, plus, success,
 };
 use teco_model::kind::Motion;
-use teco_verifier::{Refusal, Value};
+use teco_verifier::{RefusalReason, Value};
 
 /// The argument, 1 where there is none.
 pub fn or_one(value: Option<Number>) -> Number
@@ -64,7 +64,7 @@ pub fn shift_by_lines(fall: Option<i64>, margins: Margins, n: Range) -> Shift
 }
 
 // To a place that is known to lie in the buffer; a saved one, to which J goes, is somewhere in it.
-fn shift_for(motion: Motion, n: &Option<Number>, margins: Margins) -> Result<Shift, Refusal>
+fn shift_for(motion: Motion, n: &Option<Number>, margins: Margins) -> Result<Shift, RefusalReason>
     ensures { result ≡ motions.shift_or_saved (motions.goes_to_saved motion n.now) (shifts.shift_to
         (motions.target motion n.now) margins) }
 {
@@ -87,7 +87,11 @@ fn perhaps_forward(forward: bool) -> Shift
 }
 
 // With no colon it is a place that is known to lie in the buffer.
-fn motion_to_place(motion: Motion, n: Option<Number>, facts: Facts) -> Result<Foreseen, Refusal>
+fn motion_to_place(
+    motion: Motion,
+    n: Option<Number>,
+    facts: Facts,
+) -> Result<Foreseen, RefusalReason>
     requires { AreSmall facts.position.falls }
     ensures { result ≡ motions.motion_to motion 0 n facts }
 {
@@ -96,7 +100,11 @@ fn motion_to_place(motion: Motion, n: Option<Number>, facts: Facts) -> Result<Fo
 }
 
 // With a colon it may fail.
-fn motion_with_colon(motion: Motion, n: Option<Number>, facts: Facts) -> Result<Foreseen, Refusal>
+fn motion_with_colon(
+    motion: Motion,
+    n: Option<Number>,
+    facts: Facts,
+) -> Result<Foreseen, RefusalReason>
     requires { AreSmall facts.position.falls }
     ensures { result ≡ motions.motion_to motion 1 n facts }
 {
@@ -111,7 +119,7 @@ fn motion_to(
     colons: u8,
     n: Option<Number>,
     facts: Facts,
-) -> Result<Foreseen, Refusal>
+) -> Result<Foreseen, RefusalReason>
     requires { AreSmall facts.position.falls }
     ensures { result ≡ motions.motion_to motion colons n facts }
 {
@@ -128,7 +136,7 @@ pub fn motion(
     colons: u8,
     taken: TakenFacts,
     facts: Facts,
-) -> Result<Foreseen, Refusal>
+) -> Result<Foreseen, RefusalReason>
     requires { AreSmall facts.position.falls }
     ensures { result ≡ motions.motion motion colons taken facts }
 {

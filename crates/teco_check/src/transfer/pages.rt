@@ -7,21 +7,21 @@ use crate::transfer::query::character;
 use crate::transfer::{Numbers, count_of, part_named};
 use teco_facts::{Facts, Foreseen, Margins, Number, Range, Shift, TakenFacts};
 use teco_model::kind::Page;
-use teco_verifier::Refusal;
+use teco_verifier::RefusalReason;
 
 // A count of pages is at least 1.
-fn some_pages(n: Range) -> Result<(), Refusal>
+fn some_pages(n: Range) -> Result<(), RefusalReason>
     ensures { result ≡ pages.some_pages n }
 {
     if Numbers::NotPositive.may_take(n) {
-        Err(Refusal::Argument)
+        Err(RefusalReason::Argument)
     } else {
         Ok(())
     }
 }
 
 // A part is written, which leaves all as it is.
-fn part_written(m: Number, n: Number, facts: Facts) -> Result<Foreseen, Refusal>
+fn part_written(m: Number, n: Number, facts: Facts) -> Result<Foreseen, RefusalReason>
     ensures { result ≡ pages.writing (Some m) (Some n) facts }
 {
     let (first, value) = (Some(m), Some(n));
@@ -30,7 +30,7 @@ fn part_written(m: Number, n: Number, facts: Facts) -> Result<Foreseen, Refusal>
 }
 
 // Pages are written, which leaves all as it is.
-fn pages_written(n: Option<Number>, facts: Facts) -> Result<Foreseen, Refusal>
+fn pages_written(n: Option<Number>, facts: Facts) -> Result<Foreseen, RefusalReason>
     ensures { result ≡ pages.writing None n facts }
 {
     some_pages(count_of(n, facts.margins()))?;
@@ -38,7 +38,7 @@ fn pages_written(n: Option<Number>, facts: Facts) -> Result<Foreseen, Refusal>
 }
 
 // To the begin of another page, where nothing is saved.
-fn pages_turned(n: Option<Number>, facts: Facts) -> Result<Foreseen, Refusal>
+fn pages_turned(n: Option<Number>, facts: Facts) -> Result<Foreseen, RefusalReason>
     requires { AreSmall facts.position.falls }
     ensures { result ≡ pages.turning None n facts }
 {
@@ -47,7 +47,7 @@ fn pages_turned(n: Option<Number>, facts: Facts) -> Result<Foreseen, Refusal>
 }
 
 // To the begin of another page, or pages are written, or a part.
-fn turning(goes_on: bool, taken: TakenFacts, facts: Facts) -> Result<Foreseen, Refusal>
+fn turning(goes_on: bool, taken: TakenFacts, facts: Facts) -> Result<Foreseen, RefusalReason>
     requires { AreSmall facts.position.falls }
     ensures { result ≡ (if goes_on then pages.turning taken.first taken.value facts else
         pages.writing taken.first taken.value facts) }
@@ -60,7 +60,7 @@ fn turning(goes_on: bool, taken: TakenFacts, facts: Facts) -> Result<Foreseen, R
 }
 
 /// What is done with pages: A gives the code of a character, or adds a page behind the buffer.
-pub fn page(page: Page, taken: TakenFacts, facts: Facts) -> Result<Foreseen, Refusal>
+pub fn page(page: Page, taken: TakenFacts, facts: Facts) -> Result<Foreseen, RefusalReason>
     requires { AreSmall facts.position.falls }
     ensures { result ≡ pages.pages page taken facts }
 {
@@ -74,6 +74,6 @@ pub fn page(page: Page, taken: TakenFacts, facts: Facts) -> Result<Foreseen, Ref
         },
         Page::Next => turning(true, taken, facts),
         Page::Write => turning(false, taken, facts),
-        Page::Yank => Err(Refusal::Unverified),
+        Page::Yank => Err(RefusalReason::Unverified),
     }
 }

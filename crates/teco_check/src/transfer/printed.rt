@@ -8,11 +8,11 @@ use teco_facts::{Facts, sum_of};
 use teco_model::kind::{Page, Search};
 use teco_model::{Kind, Needs};
 use teco_poly::Poly;
-use teco_verifier::Refusal;
+use teco_verifier::RefusalReason;
 
 /// The most steps that an element takes: a command of pages one for each page, or one for a part.
 /// N and FN take one for each page that is ahead, and one more.
-pub fn steps(kind: Kind, facts: &Facts) -> Result<Poly, Refusal>
+pub fn steps(kind: Kind, facts: &Facts) -> Result<Poly, RefusalReason>
     ensures { result ≡ printed.steps kind facts.now }
 {
     match kind {
@@ -32,7 +32,7 @@ pub fn steps(kind: Kind, facts: &Facts) -> Result<Poly, Refusal>
 
 /// The files that an element needs: A without n reads the input, and the other commands of pages,
 /// N and FN write to the output.
-pub fn needs_of(kind: Kind, facts: &Facts) -> Result<Needs, Refusal>
+pub fn needs_of(kind: Kind, facts: &Facts) -> Result<Needs, RefusalReason>
     ensures { result ≡ printed.needs kind facts.now }
 {
     let (input, output) = match kind {

@@ -7,7 +7,7 @@ use teco_base::LIMIT;
 use teco_facts::{Facts, Foreseen, LevelFacts, Number, Range, Shift};
 use teco_model::kind::Query;
 use teco_poly::Poly;
-use teco_verifier::Refusal;
+use teco_verifier::RefusalReason;
 
 /// The code of a character, -1 where there is none.
 pub fn character() -> Range
@@ -33,7 +33,7 @@ fn queried(query: &Query, colons: u8, facts: &Facts) -> Number
 }
 
 // What is known where nothing is taken: \ goes on past the number that is read.
-fn facts_at_query(query: Query, facts: Facts) -> Result<Facts, Refusal>
+fn facts_at_query(query: Query, facts: Facts) -> Result<Facts, RefusalReason>
     requires { AreSmall facts.position.falls }
     ensures { result ≡ queries.facts_at_query query facts }
 {
@@ -53,7 +53,7 @@ fn value_for(query: &Query, colons: u8, level: LevelFacts) -> Option<Number>
 }
 
 // A query gives a value.
-fn facts_given(query: Query, colons: u8, facts: Facts) -> Result<Facts, Refusal>
+fn facts_given(query: Query, colons: u8, facts: Facts) -> Result<Facts, RefusalReason>
     requires { AreSmall facts.position.falls }
     ensures { result ≡ queries.facts_after_query query colons None facts }
 {
@@ -64,7 +64,7 @@ fn facts_given(query: Query, colons: u8, facts: Facts) -> Result<Facts, Refusal>
 }
 
 // What is done with the value that stands.
-fn query_with(query: Query, facts: Facts) -> Result<Foreseen, Refusal>
+fn query_with(query: Query, facts: Facts) -> Result<Foreseen, RefusalReason>
     requires { AreSmall facts.position.falls }
     ensures { result ≡ queries.query_with query facts }
 {
@@ -79,7 +79,7 @@ fn query_with(query: Query, facts: Facts) -> Result<Foreseen, Refusal>
 }
 
 /// A query gives a value, or takes one.
-pub fn facts_after_query(query: Query, colons: u8, facts: Facts) -> Result<Facts, Refusal>
+pub fn facts_after_query(query: Query, colons: u8, facts: Facts) -> Result<Facts, RefusalReason>
     requires { AreSmall facts.position.falls }
     ensures { result ≡ queries.facts_after_query query colons (queries.value_for query colons
         facts.arguments.level) facts }

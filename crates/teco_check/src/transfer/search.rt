@@ -12,38 +12,38 @@ use teco_facts::{Facts, Margins, Position, Range, Shift, TakenFacts};
 use teco_find::minimum;
 use teco_model::kind::Search;
 use teco_poly::Poly;
-use teco_verifier::Refusal;
+use teco_verifier::RefusalReason;
 
 // Of S and FS a count that may be 0 may be refused, and one that may be negative is not verified.
-fn count_in_buffer(n: Range) -> Result<(), Refusal>
+fn count_in_buffer(n: Range) -> Result<(), RefusalReason>
     ensures { result ≡ searches.count_in_buffer n }
 {
     if Numbers::Zero.may_take(n) {
-        Err(Refusal::Argument)
+        Err(RefusalReason::Argument)
     } else if Numbers::NotPositive.may_take(n) {
-        Err(Refusal::Unverified)
+        Err(RefusalReason::Unverified)
     } else {
         Ok(())
     }
 }
 
 // Of N and FN one that may be below 1 may be refused.
-fn count_in_pages(n: Range) -> Result<(), Refusal>
+fn count_in_pages(n: Range) -> Result<(), RefusalReason>
     ensures { result ≡ searches.count_in_pages n }
 {
     if Numbers::NotPositive.may_take(n) {
-        Err(Refusal::Argument)
+        Err(RefusalReason::Argument)
     } else {
         Ok(())
     }
 }
 
 // The count, and no first value.
-fn count_checked(search: Search, taken: TakenFacts, margins: Margins) -> Result<(), Refusal>
+fn count_checked(search: Search, taken: TakenFacts, margins: Margins) -> Result<(), RefusalReason>
     ensures { result ≡ searches.count_checked search taken.first taken.value margins }
 {
     if taken.first.is_some() {
-        return Err(Refusal::Argument);
+        return Err(RefusalReason::Argument);
     }
     let n = count_of(taken.value, margins);
     match search {
@@ -53,18 +53,18 @@ fn count_checked(search: Search, taken: TakenFacts, margins: Margins) -> Result<
 }
 
 // The minimum length of what is sought.
-fn minimum_of(text: &[u8]) -> Result<usize, Refusal>
+fn minimum_of(text: &[u8]) -> Result<usize, RefusalReason>
     requires { length text.now ≤ LIMIT }
     ensures value { result ≡ searches.minimum_of text.now }
     ensures within { IfOk result (λ n. n ≤ LIMIT) }
 {
     if text.is_empty() {
-        return Err(Refusal::Unverified);
+        return Err(RefusalReason::Unverified);
     }
     match minimum(text) {
         Ok(Some(least)) => Ok(least),
-        Ok(None) => Err(Refusal::Unverified),
-        Err(_) => Err(Refusal::Fault),
+        Ok(None) => Err(RefusalReason::Unverified),
+        Err(_) => Err(RefusalReason::Fault),
     }
 }
 
@@ -112,7 +112,7 @@ pub fn facts_found(
     text: &[u8],
     second: &[u8],
     facts: Facts,
-) -> Result<Facts, Refusal>
+) -> Result<Facts, RefusalReason>
     requires small { AreSmall facts.position.falls }
     requires within { length text.now ≤ LIMIT }
     requires second_within { length second.now ≤ LIMIT }
@@ -124,7 +124,7 @@ pub fn facts_found(
 }
 
 /// What is known before a search that took its arguments.
-pub fn facts_at_search(search: Search, facts: Facts) -> Result<Facts, Refusal>
+pub fn facts_at_search(search: Search, facts: Facts) -> Result<Facts, RefusalReason>
     ensures value { result ≡ searches.facts_at_search search facts }
     ensures kept { IfOk result (λ taken. taken ≡ known.with_arguments
         (arguments.levels_after_taking facts.arguments) facts) }

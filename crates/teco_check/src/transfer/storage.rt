@@ -13,14 +13,14 @@ use teco_facts::{FactFault, Facts, Foreseen, Number, Shift, TakenFacts, sum_of};
 use teco_model::Element;
 use teco_model::kind::Storage;
 use teco_poly::Poly;
-use teco_verifier::Refusal;
+use teco_verifier::RefusalReason;
 
 // A text of the library is not written.
-fn not_of_library(library: bool) -> Result<(), Refusal>
+fn not_of_library(library: bool) -> Result<(), RefusalReason>
     ensures { result ≡ storages.not_of_library library }
 {
     if library {
-        Err(Refusal::Written)
+        Err(RefusalReason::Written)
     } else {
         Ok(())
     }
@@ -63,7 +63,7 @@ fn add(register: Reg, value: Option<Number>, facts: Facts) -> Result<Foreseen, A
 }
 
 // A part of the buffer is named, and the register's text is none of the library's.
-fn may_copy(library: bool, taken: TakenFacts, facts: &Facts) -> Result<(), Refusal>
+fn may_copy(library: bool, taken: TakenFacts, facts: &Facts) -> Result<(), RefusalReason>
     ensures { result ≡ allowed.may_copy library taken facts.now }
 {
     part_named(taken, facts.margins())?;
@@ -71,17 +71,17 @@ fn may_copy(library: bool, taken: TakenFacts, facts: &Facts) -> Result<(), Refus
 }
 
 // There is no argument, and the register's text is none of the library's.
-fn may_store(library: bool, value: Option<Number>) -> Result<(), Refusal>
+fn may_store(library: bool, value: Option<Number>) -> Result<(), RefusalReason>
     ensures { result ≡ allowed.may_store library value }
 {
     match value {
         None => not_of_library(library),
-        Some(_) => Err(Refusal::Argument),
+        Some(_) => Err(RefusalReason::Argument),
     }
 }
 
 // A text is inserted, or with a colon typed.
-fn retrieval(colons: u8, register: Reg, facts: Facts) -> Result<Foreseen, Refusal>
+fn retrieval(colons: u8, register: Reg, facts: Facts) -> Result<Foreseen, RefusalReason>
     requires { AreSmall facts.position.falls }
     ensures { result ≡ storages.retrieval colons register facts }
 {

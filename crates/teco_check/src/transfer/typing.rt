@@ -9,10 +9,10 @@ ghost use Rattle.teco_check.specs.Shifts as shifts;
 use teco_facts::{Facts, Foreseen, Margins, Number, Shift, TakenFacts};
 use teco_model::kind::{Insertion, Typing};
 use teco_poly::Poly;
-use teco_verifier::Refusal;
+use teco_verifier::RefusalReason;
 
 /// Two places that are known to lie in the buffer, if there are two.
-pub fn part_named(taken: TakenFacts, margins: Margins) -> Result<(), Refusal>
+pub fn part_named(taken: TakenFacts, margins: Margins) -> Result<(), RefusalReason>
     ensures { result ≡ typings.part_named taken.first taken.value margins }
 {
     if let (Some(m), Some(n)) = (taken.first, taken.value) {
@@ -23,14 +23,14 @@ pub fn part_named(taken: TakenFacts, margins: Margins) -> Result<(), Refusal>
 }
 
 /// An argument that a command needs.
-pub fn needed_value(value: Option<Number>) -> Result<Number, Refusal>
+pub fn needed_value(value: Option<Number>) -> Result<Number, RefusalReason>
     ensures { result ≡ arguments.needed_value value }
 {
-    value.ok_or(Refusal::Argument)
+    value.ok_or(RefusalReason::Argument)
 }
 
 /// What types changes nothing.
-pub fn typing(typing: Typing, taken: TakenFacts, facts: Facts) -> Result<Foreseen, Refusal>
+pub fn typing(typing: Typing, taken: TakenFacts, facts: Facts) -> Result<Foreseen, RefusalReason>
     ensures { result ≡ typings.typing typing taken facts }
 {
     match typing {
@@ -44,7 +44,11 @@ pub fn typing(typing: Typing, taken: TakenFacts, facts: Facts) -> Result<Foresee
 }
 
 // How much is inserted: its text, or a byte.
-fn inserted(insertion: Insertion, text: &[u8], value: Option<Number>) -> Result<usize, Refusal>
+fn inserted(
+    insertion: Insertion,
+    text: &[u8],
+    value: Option<Number>,
+) -> Result<usize, RefusalReason>
     ensures value { result ≡ shifts.inserted insertion text.now value }
     ensures within { IfOk result (λ n. n ≤ 2 ^ 63) }
 {
@@ -52,7 +56,7 @@ fn inserted(insertion: Insertion, text: &[u8], value: Option<Number>) -> Result<
         (Insertion::Text, None) => Ok(text.len()),
         (Insertion::Text, Some(_)) if text.is_empty() => Ok(1),
         (Insertion::Tab, None) => Ok(text.len() + 1),
-        _ => Err(Refusal::Argument),
+        _ => Err(RefusalReason::Argument),
     }
 }
 
@@ -62,7 +66,7 @@ pub fn insertion(
     text: &[u8],
     taken: TakenFacts,
     facts: Facts,
-) -> Result<Foreseen, Refusal>
+) -> Result<Foreseen, RefusalReason>
     requires { AreSmall facts.position.falls }
     ensures { result ≡ insertions.insertion insertion text.now taken facts }
 {

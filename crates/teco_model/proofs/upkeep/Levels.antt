@@ -18,8 +18,8 @@ use Rattle.teco_model.specs.declared.arguments.Operator.{Operator}
 use Rattle.teco_model.specs.declared.arguments.Operator.TheVariants.{Plus, Minus, Times, Over, And, Or}
 use Rattle.teco_model.specs.declared.kind.Argument.{Argument}
 use Rattle.teco_model.specs.declared.kind.Argument.TheVariants.{DropAll, Digits, Operate, Open, Close, Comma}
-use Rattle.teco_model.specs.declared.kind.Value.{Value}
-use Rattle.teco_model.specs.declared.kind.Value.TheVariants.{Begin, Size, Pointer, Whole, LastLength, LastText}
+use Rattle.teco_model.specs.declared.kind.MachineValue.{MachineValue}
+use Rattle.teco_model.specs.declared.kind.MachineValue.TheVariants.{Begin, Size, Pointer, Whole, LastLength, LastText}
 use Rattle.teco_model.specs.laws.Whole.{IsWholeLevel, AreWholeArguments}
 
 -- the arguments that a command took
@@ -138,7 +138,7 @@ module _ (H : Type 0) where
   levels_fit Close text arguments a = closed arguments.level arguments.outer a
   levels_fit Comma text arguments a = leveled arguments _ a (parted arguments.level (λ h. (a h).level))
 
-  pub value_fits : (v : Value) (kept : Kept) (level : Level) → (H → IsWhole kept) → IsLevel level
+  pub value_fits : (v : MachineValue) (kept : Kept) (level : Level) → (H → IsWhole kept) → IsLevel level
       → Yields IsLevel (level_with_value v kept level)
   value_fits Begin kept level w l = given _ level (λ h. omega (arith, ints)) l
   value_fits Size kept level w l = given _ level (λ h. omega (arith, ints, (w h).within)) l

@@ -13,7 +13,7 @@ use Rattle.teco_model.specs.declared.head.TextShape.TheVariants.{Itself, EndedBy
 use Rattle.teco_model.specs.declared.kind.Kind.{Kind}
 use Rattle.teco_model.specs.declared.kind.Kind.TheVariants as kind
 use Rattle.teco_model.specs.declared.kind.Argument.TheVariants as argument
-use Rattle.teco_model.specs.declared.kind.Value.TheVariants as value
+use Rattle.teco_model.specs.declared.kind.MachineValue.TheVariants as value
 use Rattle.teco_model.specs.declared.kind.Query.TheVariants as query
 use Rattle.teco_model.specs.declared.kind.Command.TheVariants as command
 use Rattle.teco_model.specs.declared.kind.Motion.TheVariants as motion

@@ -83,12 +83,18 @@ fn new_store(alloc: Global) -> Counting {
 }
 
 // Does a run, which puts in 1,000 characters and deletes each, put in as many as it says?
-fn is_counted(alloc: Global) -> bool {
-    let mut machine = Machine::new(alloc, new_store(alloc));
+fn is_counted_on(machine: &mut Machine<Counting>, alloc: Global) -> bool {
     let stop = machine.run(b"1000<Ia\x1b-D>\x1b\x1b", 10_000, &mut MemHost::new(alloc));
     let store = machine.store();
     let is_left = store.put_in == 1000 && store.slices().0 == GIVEN;
     is_left && matches!(stop, Stop::Ended { .. })
+}
+
+fn is_counted(alloc: Global) -> bool {
+    match machine_over(alloc, new_store(alloc)) {
+        Some(mut machine) => is_counted_on(machine.as_mut(), alloc),
+        None => false,
+    }
 }
 
 #[test]

@@ -4,8 +4,8 @@ use Rattle.std.specs.Prelude.{Result, Ok, Err, if◌then◌else◌}
 use Rattle.std.specs.Option.{option_map_or, ok_or}
 use Rattle.teco_poly.specs.Polynomial.{Polynomial, mul, sub, one_less, is_at_most}
 use Rattle.teco_verifier.specs.declared.values.Interval.{Interval}
-use Rattle.teco_verifier.specs.declared.refusal.Refusal.{Refusal}
-use Rattle.teco_verifier.specs.declared.refusal.Refusal.TheVariants as refusal
+use Rattle.teco_verifier.specs.declared.refusal.RefusalReason.{RefusalReason}
+use Rattle.teco_verifier.specs.declared.refusal.RefusalReason.TheVariants as refusal
 use Rattle.teco_verifier.specs.facts.Attempt.{◌>>=◌}
 use Rattle.teco_verifier.specs.facts.Covers.{each_covers, covers_interval, covers_length, covers_pushed, covers_saved}
 use Rattle.teco_verifier.specs.facts.Facts.{Position, Facts, nowhere, sum_of}
@@ -86,15 +86,15 @@ abbrev pub keeps : Bool → Position → Bool
 keeps kept position = not kept || has_own_fall 0 position
 
 -- What is held at the start of the last of some turns, if it grows by so much in each: it is H at the <.
-abbrev pub held_last : Polynomial → Polynomial → Polynomial → Result Polynomial Refusal
+abbrev pub held_last : Polynomial → Polynomial → Polynomial → Result Polynomial RefusalReason
 held_last at turns growth = do
   grown ← ok_or (mul (one_less turns) growth) refusal.Overflow
   sum_of at grown
 
-abbrev pub growth_of : Polynomial → Polynomial → Result Polynomial Refusal
+abbrev pub growth_of : Polynomial → Polynomial → Result Polynomial RefusalReason
 growth_of start end = ok_or (sub end start) refusal.Bound
 
-abbrev pub is_within : Polynomial → Result Polynomial Refusal → Bool
+abbrev pub is_within : Polynomial → Result Polynomial RefusalReason → Bool
 is_within most (Ok p) = is_at_most p most
 is_within most (Err why) = false
 

@@ -7,8 +7,8 @@ use Rattle.teco_model.specs.declared.kind.Unit.TheVariants.{Characters, Lines}
 use Rattle.teco_verifier.specs.declared.values.Value.{Value}
 use Rattle.teco_verifier.specs.declared.values.Interval.{Interval}
 use Rattle.teco_verifier.specs.declared.values.Distances.{Distances}
-use Rattle.teco_verifier.specs.declared.refusal.Refusal.{Refusal}
-use Rattle.teco_verifier.specs.declared.refusal.Refusal.TheVariants as refusal
+use Rattle.teco_verifier.specs.declared.refusal.RefusalReason.{RefusalReason}
+use Rattle.teco_verifier.specs.declared.refusal.RefusalReason.TheVariants as refusal
 use Rattle.teco_verifier.specs.facts.Arguments.{KnownTaken}
 use Rattle.teco_verifier.specs.facts.Attempt.{◌>>=◌}
 use Rattle.teco_verifier.specs.facts.Facts.{Facts}
@@ -27,7 +27,7 @@ shift_by_characters distances n =
     (record { back = distances.back - positive (neg_ℤ n.lo); fore = distances.fore - positive n.hi })
     (Some (pos (positive n.lo)))
 
-abbrev pub character_deletion : Distances → Interval → Result Shift Refusal
+abbrev pub character_deletion : Distances → Interval → Result Shift RefusalReason
 character_deletion distances n =
     if nat_le (positive n.hi) distances.fore && nat_le (positive (neg_ℤ n.lo)) distances.back
     then Ok (shift_by_characters distances n) else Err refusal.Deletion
@@ -45,14 +45,14 @@ nearer from to =
     (record { back = min from.distances.back to.distances.back; fore = min from.distances.fore to.distances.fore })
     (greater_known from.fall to.fall)
 
-abbrev pub range_deletion : Value → Value → Distances → Result Shift Refusal
+abbrev pub range_deletion : Value → Value → Distances → Result Shift RefusalReason
 range_deletion m n distances = do
   from ← shift_to m distances
   to ← shift_to n distances
   Ok (nearer from to)
 
 -- nK: what is deleted is no more ahead
-abbrev pub part_deletion : Option Value → Option Value → Facts → Result Foreseen Refusal
+abbrev pub part_deletion : Option Value → Option Value → Facts → Result Foreseen RefusalReason
 part_deletion (Some m) (Some n) facts = do
   shift ← range_deletion m n facts.position.distances
   silent_behind (ending shift) facts
@@ -61,12 +61,12 @@ part_deletion first value facts =
     silent_behind (ending (shift_by_lines (Some (pos 0)) facts.position.distances n)) facts
 
 -- m,nD is m,nK
-abbrev pub deletion_of : Counted → Option Value → Option Value → Facts → Result Foreseen Refusal
+abbrev pub deletion_of : Counted → Option Value → Option Value → Facts → Result Foreseen RefusalReason
 deletion_of Characters (Some m) (Some n) facts = part_deletion (Some m) (Some n) facts
 deletion_of Characters first value facts = do
   shift ← character_deletion facts.position.distances (count_of value facts.position.distances)
   silent_behind (ending shift) facts
 deletion_of Lines first value facts = part_deletion first value facts
 
-abbrev pub deletion : Counted → KnownTaken → Facts → Result Foreseen Refusal
+abbrev pub deletion : Counted → KnownTaken → Facts → Result Foreseen RefusalReason
 deletion unit taken facts = deletion_of unit taken.first taken.value facts

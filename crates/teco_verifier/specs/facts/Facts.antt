@@ -5,8 +5,8 @@ use Rattle.teco_base.specs.declared.TheConstants.{REGISTERS}
 use Rattle.teco_poly.specs.Polynomial.{Polynomial, variable, add, join}
 use Rattle.teco_verifier.specs.declared.values.Interval.{Interval}
 use Rattle.teco_verifier.specs.declared.values.Distances.{Distances}
-use Rattle.teco_verifier.specs.declared.refusal.Refusal.{Refusal}
-use Rattle.teco_verifier.specs.declared.refusal.Refusal.TheVariants as refusal
+use Rattle.teco_verifier.specs.declared.refusal.RefusalReason.{RefusalReason}
+use Rattle.teco_verifier.specs.declared.refusal.RefusalReason.TheVariants as refusal
 use Rattle.teco_verifier.specs.facts.Arguments.{KnownArguments, no_arguments}
 use Rattle.teco_verifier.specs.facts.Values.{any_number}
 
@@ -49,10 +49,10 @@ pub record Facts : Type 0 where
   pub pushes : List Pushed
 
 -- the sum and the join of polynomials, where they do not overflow
-abbrev pub sum_of : Polynomial → Polynomial → Result Polynomial Refusal
+abbrev pub sum_of : Polynomial → Polynomial → Result Polynomial RefusalReason
 sum_of p q = ok_or (add p q) refusal.Overflow
 
-abbrev pub join_of : Polynomial → Polynomial → Result Polynomial Refusal
+abbrev pub join_of : Polynomial → Polynomial → Result Polynomial RefusalReason
 join_of p q = ok_or (join p q) refusal.Overflow
 
 -- nothing is known of the pointer

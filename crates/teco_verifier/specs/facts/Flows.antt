@@ -5,8 +5,8 @@ use Rattle.teco_model.specs.declared.kind.Flow.{Flow}
 use Rattle.teco_model.specs.declared.kind.Flow.TheVariants as flow
 use Rattle.teco_poly.specs.Polynomial.{Polynomial, number}
 use Rattle.teco_verifier.specs.declared.values.Value.{Value}
-use Rattle.teco_verifier.specs.declared.refusal.Refusal.{Refusal}
-use Rattle.teco_verifier.specs.declared.refusal.Refusal.TheVariants as refusal
+use Rattle.teco_verifier.specs.declared.refusal.RefusalReason.{RefusalReason}
+use Rattle.teco_verifier.specs.declared.refusal.RefusalReason.TheVariants as refusal
 use Rattle.teco_verifier.specs.facts.Arguments.{arguments_of, needed_value, levels_after_taking}
 use Rattle.teco_verifier.specs.facts.Attempt.{◌>>=◌}
 use Rattle.teco_verifier.specs.facts.Deletions.{positive}
@@ -39,7 +39,7 @@ leaving count facts = record (without_arguments facts) {
 abbrev pub facts_taken : Facts → Facts
 facts_taken facts = with_arguments (levels_after_taking facts.arguments) facts
 
-abbrev pub needed_taken : Facts → Result Value Refusal
+abbrev pub needed_taken : Facts → Result Value RefusalReason
 needed_taken facts = do
   taken ← arguments_of facts.arguments.level
   needed_value taken.value
@@ -47,7 +47,7 @@ needed_taken facts = do
 -- The most that a value is, as a polynomial: of Z, of the pointer and of both together by what is held, of Z-. by what
 -- is ahead, of a value in which neither distance counts positively by its constant, and of any other by its interval;
 -- 0 at the least.
-abbrev pub bound_by : ℤ → ℤ → ℕ → ℕ → Facts → Result Polynomial Refusal
+abbrev pub bound_by : ℤ → ℤ → ℕ → ℕ → Facts → Result Polynomial RefusalReason
 bound_by (pos (suc zero)) (pos (suc zero)) k most facts = sum_of facts.held (number k)
 bound_by (pos zero) (pos (suc zero)) k most facts = sum_of facts.held (number k)
 bound_by (pos (suc zero)) (pos zero) k most facts = sum_of facts.position.ahead (number k)
@@ -57,17 +57,17 @@ bound_by (pos (suc zero)) (pos (suc (suc zero))) k most facts = do
 bound_by ahead behind k most facts =
     Ok (number (if int_le ahead (pos 0) && int_le behind (pos 0) then k else most))
 
-abbrev pub bound_of : Value → Facts → Result Polynomial Refusal
+abbrev pub bound_of : Value → Facts → Result Polynomial RefusalReason
 bound_of s facts =
     let most = positive (interval_of facts.position.distances s).hi in
     bound_by s.ahead s.behind (positive s.hi) most facts
 
 -- The turns of an iteration: at most its count, or without one what is ahead and one more.
-abbrev pub turns_of : Option Value → Facts → Result Polynomial Refusal
+abbrev pub turns_of : Option Value → Facts → Result Polynomial RefusalReason
 turns_of (Some n) facts = bound_of n facts
 turns_of None facts = sum_of facts.position.ahead (number 1)
 
-abbrev pub turns : Facts → Result Polynomial Refusal
+abbrev pub turns : Facts → Result Polynomial RefusalReason
 turns facts = do
   taken ← arguments_of facts.arguments.level
   turns_of taken.value facts
@@ -91,7 +91,7 @@ iteration (Some n) facts =
       away = if may_take NotPositive count then Some facts else None;
     }
 
-abbrev pub iterate : Facts → Result Edges Refusal
+abbrev pub iterate : Facts → Result Edges RefusalReason
 iterate facts = do
   taken ← arguments_of facts.arguments.level
   alone ← none_pending (levels_after_taking facts.arguments)
@@ -99,7 +99,7 @@ iterate facts = do
   Ok (iteration taken.value (without_arguments facts))
 
 -- > goes back to the begin of the body, and where turns are counted on, too
-abbrev pub turn_end : List Iteration → Facts → Result Edges Refusal
+abbrev pub turn_end : List Iteration → Facts → Result Edges RefusalReason
 turn_end [] facts = Err refusal.Partner
 turn_end (i ∷ outer) facts =
     let after = without_arguments facts in Ok (record {
@@ -112,7 +112,7 @@ abbrev pub leaving_numbers : ℕ → Numbers
 leaving_numbers zero = NotNegative
 leaving_numbers (suc colons) = Negative
 
-abbrev pub leave : ℕ → Option Answer → Facts → Result Edges Refusal
+abbrev pub leave : ℕ → Option Answer → Facts → Result Edges RefusalReason
 leave colons answer facts = do
   n ← needed_taken facts
   Ok (record {
@@ -121,7 +121,7 @@ leave colons answer facts = do
   })
 
 -- a conditional goes on where its test holds
-abbrev pub conditional : Numbers → Option Answer → Facts → Result Edges Refusal
+abbrev pub conditional : Numbers → Option Answer → Facts → Result Edges RefusalReason
 conditional numbers answer facts = do
   n ← needed_taken facts
   Ok (record {
@@ -130,17 +130,17 @@ conditional numbers answer facts = do
   })
 
 -- O goes to its tag, and leaves as many iterations as lie between; an argument is not allowed
-abbrev pub without_value : Option Value → Result (Unit {0}) Refusal
+abbrev pub without_value : Option Value → Result (Unit {0}) RefusalReason
 without_value None = Ok tt
 without_value (Some n) = Err refusal.Argument
 
-abbrev pub go_to : ℕ → Facts → Result Edges Refusal
+abbrev pub go_to : ℕ → Facts → Result Edges RefusalReason
 go_to leaves facts = do
   taken ← arguments_of facts.arguments.level
   alone ← without_value taken.value
   Ok (goes_away (leaving leaves facts))
 
-abbrev pub flow_edges : Flow → ℕ → ℕ → Option Answer → Facts → Result Edges Refusal
+abbrev pub flow_edges : Flow → ℕ → ℕ → Option Answer → Facts → Result Edges RefusalReason
 flow_edges flow.Iterate colons leaves answer facts = iterate facts
 flow_edges flow.EndTurn colons leaves answer facts = turn_end facts.iterations facts
 flow_edges flow.Leave colons leaves answer facts = leave colons answer facts

@@ -5,8 +5,8 @@ use Rattle.std.specs.Int.{int_min, int_max}
 use Rattle.teco_poly.specs.Polynomial.{Polynomial}
 use Rattle.teco_verifier.specs.declared.values.Interval.{Interval}
 use Rattle.teco_verifier.specs.declared.values.Distances.{Distances}
-use Rattle.teco_verifier.specs.declared.refusal.Refusal.{Refusal}
-use Rattle.teco_verifier.specs.declared.refusal.Refusal.TheVariants as refusal
+use Rattle.teco_verifier.specs.declared.refusal.RefusalReason.{RefusalReason}
+use Rattle.teco_verifier.specs.declared.refusal.RefusalReason.TheVariants as refusal
 use Rattle.teco_verifier.specs.facts.Arguments.{KnownLevel, KnownArguments}
 use Rattle.teco_verifier.specs.facts.Attempt.{◌>>=◌}
 use Rattle.teco_verifier.specs.facts.Facts.{Position, Pushed, Facts, join_of, without_arguments}
@@ -36,7 +36,7 @@ joined_saved [] others = []
 joined_saved (s ∷ saved) [] = []
 
 -- two positions
-abbrev pub joined_position : Position → Position → Result Position Refusal
+abbrev pub joined_position : Position → Position → Result Position RefusalReason
 joined_position p q = do
   ahead ← join_of p.ahead q.ahead
   Ok (record {
@@ -52,7 +52,7 @@ hulls (i ∷ is) (j ∷ js) = hull i j ∷ hulls is js
 hulls [] js = []
 hulls (i ∷ is) [] = []
 
-abbrev pub joined_lengths : List Polynomial → List Polynomial → Result (List Polynomial) Refusal
+abbrev pub joined_lengths : List Polynomial → List Polynomial → Result (List Polynomial) RefusalReason
 joined_lengths (p ∷ ps) (q ∷ qs) = do
   join ← join_of p q
   joins ← joined_lengths ps qs
@@ -61,12 +61,12 @@ joined_lengths [] qs = Ok []
 joined_lengths (p ∷ ps) [] = Ok []
 
 -- of each push; ways meet with as many pushes
-abbrev pub joined_pair : Pushed → Pushed → Result Pushed Refusal
+abbrev pub joined_pair : Pushed → Pushed → Result Pushed RefusalReason
 joined_pair s t = do
   text ← join_of s.text t.text
   Ok (record { number = hull s.number t.number; text = text })
 
-abbrev pub joined_pushes : List Pushed → List Pushed → Result (List Pushed) Refusal
+abbrev pub joined_pushes : List Pushed → List Pushed → Result (List Pushed) RefusalReason
 joined_pushes [] [] = Ok []
 joined_pushes (s ∷ ss) (t ∷ ts) = do
   pair ← joined_pair s t
@@ -83,12 +83,12 @@ is_empty (level ∷ outer) = false
 abbrev pub is_empty_level : KnownLevel → Bool
 is_empty_level level = is_none level.first && is_none level.value && is_none level.operator
 
-abbrev pub none_pending : KnownArguments → Result (Unit {0}) Refusal
+abbrev pub none_pending : KnownArguments → Result (Unit {0}) RefusalReason
 none_pending arguments =
     if is_empty_level arguments.level && is_empty arguments.outer then Ok tt else Err refusal.Pending
 
 -- Ways meet with nothing pending, and in the same iterations.
-abbrev pub joined : Facts → Facts → Result Facts Refusal
+abbrev pub joined : Facts → Facts → Result Facts RefusalReason
 joined facts others = do
   one ← none_pending facts.arguments
   two ← none_pending others.arguments

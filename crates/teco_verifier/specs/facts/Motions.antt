@@ -6,7 +6,7 @@ use Rattle.teco_model.specs.declared.kind.Motion.TheVariants.{Forward, Backward,
 use Rattle.teco_verifier.specs.declared.values.Value.{Value}
 use Rattle.teco_verifier.specs.declared.values.Interval.{Interval}
 use Rattle.teco_verifier.specs.declared.values.Distances.{Distances}
-use Rattle.teco_verifier.specs.declared.refusal.Refusal.{Refusal}
+use Rattle.teco_verifier.specs.declared.refusal.RefusalReason.{RefusalReason}
 use Rattle.teco_verifier.specs.facts.Arguments.{KnownTaken}
 use Rattle.teco_verifier.specs.facts.Attempt.{◌>>=◌}
 use Rattle.teco_verifier.specs.facts.Facts.{Facts, nowhere}
@@ -54,11 +54,11 @@ goes_to_saved To (Some n) = n.saved
 goes_to_saved m n = false
 
 -- To a place that is known to lie in the buffer; a saved one is somewhere in it.
-abbrev pub shift_or_saved : Bool → Result Shift Refusal → Result Shift Refusal
+abbrev pub shift_or_saved : Bool → Result Shift RefusalReason → Result Shift RefusalReason
 shift_or_saved saved (Ok shift) = Ok shift
 shift_or_saved saved (Err why) = if saved then Ok (moving nowhere None) else Err why
 
-abbrev pub motion_to : Motion → ℕ → Option Value → Facts → Result Foreseen Refusal
+abbrev pub motion_to : Motion → ℕ → Option Value → Facts → Result Foreseen RefusalReason
 motion_to m zero n facts = do
   shift ← shift_or_saved (goes_to_saved m n) (shift_to (target m n) facts.position.distances)
   silent_behind shift facts
@@ -66,7 +66,7 @@ motion_to m (suc colons) n facts = do
   known ← shifted (perhaps_forward (goes_forward m (count_of n facts.position.distances))) facts
   Ok (answering success known)
 
-abbrev pub motion : Motion → ℕ → KnownTaken → Facts → Result Foreseen Refusal
+abbrev pub motion : Motion → ℕ → KnownTaken → Facts → Result Foreseen RefusalReason
 motion Lines colons taken facts =
     silent_behind (shift_by_lines None facts.position.distances (count_of taken.value facts.position.distances)) facts
 motion m colons taken facts = motion_to m colons taken.value facts

@@ -4,8 +4,8 @@ use Rattle.teco_model.specs.declared.kind.Page.{Page}
 use Rattle.teco_model.specs.declared.kind.Page.TheVariants as page
 use Rattle.teco_verifier.specs.declared.values.Value.{Value}
 use Rattle.teco_verifier.specs.declared.values.Interval.{Interval}
-use Rattle.teco_verifier.specs.declared.refusal.Refusal.{Refusal}
-use Rattle.teco_verifier.specs.declared.refusal.Refusal.TheVariants as refusal
+use Rattle.teco_verifier.specs.declared.refusal.RefusalReason.{RefusalReason}
+use Rattle.teco_verifier.specs.declared.refusal.RefusalReason.TheVariants as refusal
 use Rattle.teco_verifier.specs.facts.Arguments.{KnownTaken}
 use Rattle.teco_verifier.specs.facts.Attempt.{◌>>=◌}
 use Rattle.teco_verifier.specs.facts.Facts.{Facts, nowhere}
@@ -15,16 +15,16 @@ use Rattle.teco_verifier.specs.facts.Shifts.{moving, ending, Foreseen, silent, a
 use Rattle.teco_verifier.specs.facts.Typings.{part_named}
 
 -- there is one page at least
-abbrev pub some_pages : Interval → Result (Unit {0}) Refusal
+abbrev pub some_pages : Interval → Result (Unit {0}) RefusalReason
 some_pages n = if int_le (pos 1) n.lo then Ok tt else Err refusal.Argument
 
 -- nA is the code of a character; A adds a page behind the buffer, where nothing is known to be
-abbrev pub append : Option Value → Facts → Result Foreseen Refusal
+abbrev pub append : Option Value → Facts → Result Foreseen RefusalReason
 append None facts = silent_behind (moving facts.position.distances (Some (pos 0))) facts
 append (Some n) facts = Ok (answering character facts)
 
 -- nP goes to the begin of another page, where nothing is saved, and m,nP writes a part
-abbrev pub turning : Option Value → Option Value → Facts → Result Foreseen Refusal
+abbrev pub turning : Option Value → Option Value → Facts → Result Foreseen RefusalReason
 turning (Some m) (Some n) facts = do
   named ← part_named (Some m) (Some n) facts.position.distances
   Ok (silent facts)
@@ -33,7 +33,7 @@ turning first n facts = do
   silent_behind (ending (moving nowhere (Some (pos 0)))) facts
 
 -- nPW and m,nPW write
-abbrev pub writing : Option Value → Option Value → Facts → Result Foreseen Refusal
+abbrev pub writing : Option Value → Option Value → Facts → Result Foreseen RefusalReason
 writing (Some m) (Some n) facts = do
   named ← part_named (Some m) (Some n) facts.position.distances
   Ok (silent facts)
@@ -41,7 +41,7 @@ writing first n facts = do
   some ← some_pages (count_of n facts.position.distances)
   Ok (silent facts)
 
-abbrev pub pages : Page → KnownTaken → Facts → Result Foreseen Refusal
+abbrev pub pages : Page → KnownTaken → Facts → Result Foreseen RefusalReason
 pages page.Append taken facts = append taken.value facts
 pages page.Next taken facts = turning taken.first taken.value facts
 pages page.Write taken facts = writing taken.first taken.value facts

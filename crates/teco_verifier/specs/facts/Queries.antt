@@ -8,7 +8,7 @@ use Rattle.teco_poly.specs.Polynomial.{number}
 use Rattle.teco_verifier.specs.declared.values.Value.{Value}
 use Rattle.teco_verifier.specs.declared.values.Interval.{Interval}
 use Rattle.teco_verifier.specs.declared.values.Distances.{Distances}
-use Rattle.teco_verifier.specs.declared.refusal.Refusal.{Refusal}
+use Rattle.teco_verifier.specs.declared.refusal.RefusalReason.{RefusalReason}
 use Rattle.teco_verifier.specs.facts.Arguments.{KnownLevel, level_with, with_level, levels_after_taking, standing_value}
 use Rattle.teco_verifier.specs.facts.Attempt.{◌>>=◌}
 use Rattle.teco_verifier.specs.facts.Facts.{Facts, number_of, is_saved, with_arguments}
@@ -35,12 +35,12 @@ query q colons facts = value_in any_number
 abbrev pub past_number : Distances → Shift
 past_number distances = moving (record distances { fore = 0 }) (Some (pos 0))
 
-abbrev pub facts_at_query : Query → Facts → Result Facts Refusal
+abbrev pub facts_at_query : Query → Facts → Result Facts RefusalReason
 facts_at_query Conversion facts = shifted (past_number facts.position.distances) facts
 facts_at_query q facts = Ok facts
 
 -- what is done with the value that stands: n\ inserts 1 to 11 characters
-abbrev pub query_with : Query → Facts → Result Foreseen Refusal
+abbrev pub query_with : Query → Facts → Result Foreseen RefusalReason
 query_with (Number r) facts = Ok (answering character facts)
 query_with Mode facts = Ok (silent facts)
 query_with Conversion facts = silent_behind (insertion_of 1 (number 11) facts.position.distances) facts
@@ -48,7 +48,7 @@ query_with Conversion facts = silent_behind (insertion_of 1 (number 11) facts.po
 abbrev pub value_for : Query → ℕ → KnownLevel → Option Value
 value_for q colons level = if takes q colons then standing_value level else None
 
-abbrev pub facts_after_query : Query → ℕ → Option Value → Facts → Result Facts Refusal
+abbrev pub facts_after_query : Query → ℕ → Option Value → Facts → Result Facts RefusalReason
 facts_after_query q colons None facts = do
   known ← facts_at_query q facts
   arguments ← with_level known.arguments

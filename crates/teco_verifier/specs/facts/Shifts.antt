@@ -6,8 +6,8 @@ use Rattle.teco_poly.specs.Polynomial.{Polynomial, number}
 use Rattle.teco_verifier.specs.declared.values.Value.{Value}
 use Rattle.teco_verifier.specs.declared.values.Interval.{Interval}
 use Rattle.teco_verifier.specs.declared.values.Distances.{Distances}
-use Rattle.teco_verifier.specs.declared.refusal.Refusal.{Refusal}
-use Rattle.teco_verifier.specs.declared.refusal.Refusal.TheVariants as refusal
+use Rattle.teco_verifier.specs.declared.refusal.RefusalReason.{RefusalReason}
+use Rattle.teco_verifier.specs.declared.refusal.RefusalReason.TheVariants as refusal
 use Rattle.teco_verifier.specs.facts.Arguments.{settled, levels_after_answer}
 use Rattle.teco_verifier.specs.facts.Attempt.{◌>>=◌}
 use Rattle.teco_verifier.specs.facts.Facts.{Position, Facts, none_saved, sum_of, with_arguments}
@@ -57,7 +57,7 @@ facts_behind shift held facts = record facts {
   held = held;
 }
 
-abbrev pub shifted : Shift → Facts → Result Facts Refusal
+abbrev pub shifted : Shift → Facts → Result Facts RefusalReason
 shifted shift facts = do
   held ← sum_of facts.held shift.growth
   Ok (facts_behind shift held facts)
@@ -71,16 +71,16 @@ abbrev pub ending : Shift → Shift
 ending shift = record shift { ends = true }
 
 -- a least distance, or the refusal
-abbrev pub known_distance : Refusal → Option ℕ → Result ℕ Refusal
+abbrev pub known_distance : RefusalReason → Option ℕ → Result ℕ RefusalReason
 known_distance why (Some n) = Ok n
 known_distance why None = Err why
 
-abbrev pub distance : Refusal → Value → Distances → Result ℕ Refusal
+abbrev pub distance : RefusalReason → Value → Distances → Result ℕ RefusalReason
 distance why s distances = known_distance why (distance_of (least s distances))
 
 -- To a place: it is known to lie in the buffer, its distances become those of the pointer, and what is ahead falls by
 -- what the place is behind the pointer.
-abbrev pub shift_to : Value → Distances → Result Shift Refusal
+abbrev pub shift_to : Value → Distances → Result Shift RefusalReason
 shift_to place distances = do
   back ← distance refusal.Place place distances
   fore ← distance refusal.Place (minus size place) distances
@@ -102,7 +102,7 @@ silent facts = record { facts = facts; answer = None }
 abbrev pub answering : Interval → Facts → Foreseen
 answering i facts = record { facts = facts; answer = Some (value_in i) }
 
-abbrev pub silent_behind : Shift → Facts → Result Foreseen Refusal
+abbrev pub silent_behind : Shift → Facts → Result Foreseen RefusalReason
 silent_behind shift facts = do
   known ← shifted shift facts
   Ok (silent known)

@@ -9,8 +9,8 @@ use Rattle.teco_model.specs.declared.kind.Storage.TheVariants.{SetNumber, Add, C
 use Rattle.teco_poly.specs.Polynomial.{Polynomial, number}
 use Rattle.teco_verifier.specs.declared.values.Value.{Value}
 use Rattle.teco_verifier.specs.declared.values.Interval.{Interval}
-use Rattle.teco_verifier.specs.declared.refusal.Refusal.{Refusal}
-use Rattle.teco_verifier.specs.declared.refusal.Refusal.TheVariants as refusal
+use Rattle.teco_verifier.specs.declared.refusal.RefusalReason.{RefusalReason}
+use Rattle.teco_verifier.specs.declared.refusal.RefusalReason.TheVariants as refusal
 use Rattle.teco_verifier.specs.facts.Arguments.{KnownTaken, needed_value}
 use Rattle.teco_verifier.specs.facts.Attempt.{◌>>=◌}
 use Rattle.teco_verifier.specs.facts.Facts.{Iteration, Pushed, Facts, number_of, text_of, sum_of}
@@ -37,38 +37,38 @@ addition r n facts =
     answering sum (with_number r sum false facts)
 
 -- is the text one of the library's?
-abbrev pub not_of_library : Bool → Result (Unit {0}) Refusal
+abbrev pub not_of_library : Bool → Result (Unit {0}) RefusalReason
 not_of_library true = Err refusal.Written
 not_of_library false = Ok tt
 
 -- a text at most so long is stored, or with a colon appended
-abbrev pub text_storage : ℕ → ℕ → Polynomial → Facts → Result Foreseen Refusal
+abbrev pub text_storage : ℕ → ℕ → Polynomial → Facts → Result Foreseen RefusalReason
 text_storage zero r length facts = Ok (silent (with_text r length facts))
 text_storage (suc colons) r length facts = do
   sum ← sum_of (text_of r facts) length
   Ok (silent (with_text r sum facts))
 
 -- X copies a part of the buffer, which is no longer than what is held
-abbrev pub copy : Bool → ℕ → ℕ → KnownTaken → Facts → Result Foreseen Refusal
+abbrev pub copy : Bool → ℕ → ℕ → KnownTaken → Facts → Result Foreseen RefusalReason
 copy library colons r taken facts = do
   named ← part_named taken.first taken.value facts.position.distances
   free ← not_of_library library
   text_storage colons r facts.held facts
 
 -- ^U stores its text; an argument is not allowed
-abbrev pub own_text_storage : Bool → ℕ → ℕ → List ℕ → Option Value → Facts → Result Foreseen Refusal
+abbrev pub own_text_storage : Bool → ℕ → ℕ → List ℕ → Option Value → Facts → Result Foreseen RefusalReason
 own_text_storage library colons r text None facts = do
   free ← not_of_library library
   text_storage colons r (number (length text)) facts
 own_text_storage library colons r text (Some n) facts = Err refusal.Argument
 
 -- G inserts the text, or with a colon types it
-abbrev pub retrieval : ℕ → ℕ → Facts → Result Foreseen Refusal
+abbrev pub retrieval : ℕ → ℕ → Facts → Result Foreseen RefusalReason
 retrieval zero r facts = silent_behind (insertion_of 0 (text_of r facts) facts.position.distances) facts
 retrieval (suc colons) r facts = Ok (silent facts)
 
 -- nUq saves n where that is a place of the buffer.
-abbrev pub storage : Storage → Bool → ℕ → List ℕ → KnownTaken → Facts → Result Foreseen Refusal
+abbrev pub storage : Storage → Bool → ℕ → List ℕ → KnownTaken → Facts → Result Foreseen RefusalReason
 storage (SetNumber r) library colons text taken facts = do
   n ← needed_value taken.value
   Ok (
@@ -91,18 +91,18 @@ push r facts =
 abbrev pub is_above : List Pushed → List Iteration → Bool
 is_above pushes iterations = list_all (λ (i : Iteration). nat_lt i.pushes (length pushes)) iterations
 
-abbrev pub with_popped : ℕ → List Pushed → Facts → Result Facts Refusal
+abbrev pub with_popped : ℕ → List Pushed → Facts → Result Facts RefusalReason
 with_popped r [] facts = Err refusal.Pop
 with_popped r (pair ∷ pushes) facts =
     if is_above (pair ∷ pushes) facts.iterations
     then Ok (record (with_text r pair.text (with_number r pair.number false facts)) { pushes = pushes })
     else Err refusal.Pop
 
-abbrev pub pop : Bool → ℕ → Facts → Result Facts Refusal
+abbrev pub pop : Bool → ℕ → Facts → Result Facts RefusalReason
 pop library r facts = do
   free ← not_of_library library
   with_popped r facts.pushes facts
 
-abbrev pub stack : Stack → Bool → Facts → Result Facts Refusal
+abbrev pub stack : Stack → Bool → Facts → Result Facts RefusalReason
 stack (Push r) library facts = Ok (push r facts)
 stack (Pop r) library facts = pop library r facts

@@ -10,7 +10,7 @@ use Rattle.teco_model.specs.Element.{Element}
 use Rattle.teco_model.specs.Searching.{has_colon}
 use Rattle.teco_model.specs.State.{frame_of}
 use Rattle.teco_verifier.specs.expansion.Node.{Node, numbered}
-use Rattle.teco_verifier.specs.declared.refusal.Refusal.{Refusal}
+use Rattle.teco_verifier.specs.declared.refusal.RefusalReason.{RefusalReason}
 use Rattle.teco_verifier.specs.facts.Facts.{Facts}
 use Rattle.teco_verifier.specs.facts.Flows.{Edges}
 use Rattle.teco_verifier.specs.facts.Transfer.{Placed, transfer, transfer_return}
@@ -42,11 +42,11 @@ placed nodes node e = record {
 }
 
 -- what is known behind it
-abbrev pub edges_behind : List Node → Node → Option Element → Facts → Result Edges Refusal
+abbrev pub edges_behind : List Node → Node → Option Element → Facts → Result Edges RefusalReason
 edges_behind nodes node None facts = Ok (transfer_return facts)
 edges_behind nodes node (Some e) facts = transfer (placed nodes node e) facts
 
-abbrev pub edges_at : List Node → Node → Facts → Result Edges Refusal
+abbrev pub edges_at : List Node → Node → Facts → Result Edges RefusalReason
 edges_at nodes node facts = edges_behind nodes node node.element facts
 
 -- On which way: the first goes on and the second away, but > goes away first, and |, O, F>, F' and F| go away alone.

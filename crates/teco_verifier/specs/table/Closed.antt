@@ -10,7 +10,7 @@ use Rattle.teco_model.specs.Element.{Element}
 use Rattle.teco_verifier.specs.expansion.Ends.{end_of}
 use Rattle.teco_verifier.specs.expansion.Node.{Node}
 use Rattle.teco_poly.specs.Polynomial.{Polynomial}
-use Rattle.teco_verifier.specs.declared.refusal.Refusal.{Refusal}
+use Rattle.teco_verifier.specs.declared.refusal.RefusalReason.{RefusalReason}
 use Rattle.teco_model.specs.Macros.{ArgumentRange}
 use Rattle.teco_verifier.specs.facts.Argument.{facts_given}
 use Rattle.teco_verifier.specs.facts.Bodies.{Choice, Changes, body_start, stands}
@@ -58,7 +58,7 @@ is_counted [] = false
 is_counted (i ∷ outer) = i.counted
 
 abbrev pub body_stands : Changes → Option Facts → Facts → Option Facts → Option Choice
-    → Result Polynomial Refusal → Bool
+    → Result Polynomial RefusalReason → Bool
 body_stands changes end entering (Some start) (Some choice) (Ok most) =
     say_same start (body_start choice changes entering)
     && stands choice changes (is_counted entering.iterations) most entering end
@@ -84,7 +84,7 @@ enters_at nodes table number facts edges None = true
 enters_at nodes table number facts edges (Some e) = enters_by nodes table number facts edges e.kind
 
 -- A node that is reached has edges. What enters its body is so, and its ways arrive.
-abbrev pub closed_behind : List Node → Table → ℕ → Node → Facts → Result Edges Refusal → Bool
+abbrev pub closed_behind : List Node → Table → ℕ → Node → Facts → Result Edges RefusalReason → Bool
 closed_behind nodes table number node facts (Err why) = false
 closed_behind nodes table number node facts (Ok edges) =
     enters_at nodes table number facts edges node.element && arrive nodes table node.element edges 0 node.ways

@@ -8,7 +8,7 @@ use Rattle.teco_model.specs.declared.kind.Flow.TheVariants as flow
 use Rattle.teco_model.specs.Element.{Element}
 use Rattle.teco_verifier.specs.expansion.Node.{Node}
 use Rattle.teco_poly.specs.Polynomial.{Polynomial}
-use Rattle.teco_verifier.specs.declared.refusal.Refusal.{Refusal}
+use Rattle.teco_verifier.specs.declared.refusal.RefusalReason.{RefusalReason}
 use Rattle.teco_model.specs.Macros.{ArgumentRange}
 use Rattle.teco_verifier.specs.facts.Argument.{facts_given}
 use Rattle.teco_verifier.specs.facts.Attempt.{◌>>=◌}
@@ -39,13 +39,13 @@ pub record Arrival : Type 0 where
   pub facts : Facts
 
 -- what is known where edges arrive; where none does the node is not reached
-abbrev pub met_with : Option Facts → Facts → Result (Option Facts) Refusal
+abbrev pub met_with : Option Facts → Facts → Result (Option Facts) RefusalReason
 met_with None facts = Ok (Some facts)
 met_with (Some others) facts = do
   join ← joined others facts
   Ok (Some join)
 
-abbrev pub met : ℕ → List Arrival → Option Facts → Result (Option Facts) Refusal
+abbrev pub met : ℕ → List Arrival → Option Facts → Result (Option Facts) RefusalReason
 met number [] known = Ok known
 met number (arrival ∷ arrivals) known =
     if arrival.target == number then (do
@@ -85,7 +85,7 @@ pub record Derived : Type 0 where
   pub row : Row
   pub arrivals : List Arrival
 
-abbrev pub derived_at : List Node → List Chosen → ℕ → Node → Option Facts → Result Derived Refusal
+abbrev pub derived_at : List Node → List Chosen → ℕ → Node → Option Facts → Result Derived RefusalReason
 derived_at nodes chosen number node None =
     Ok (record { row = record { facts = None; choice = None }; arrivals = [] })
 derived_at nodes chosen number node (Some facts) = do
@@ -96,7 +96,7 @@ derived_at nodes chosen number node (Some facts) = do
         arrivals = arrivals_behind (changes_in nodes number) choice node.element 0 node.ways edges;
       })
 
-abbrev pub derive_from : List Node → List Chosen → ℕ → List Node → List Arrival → Result Table Refusal
+abbrev pub derive_from : List Node → List Chosen → ℕ → List Node → List Arrival → Result Table RefusalReason
 derive_from nodes chosen number [] arrivals = Ok []
 derive_from nodes chosen number (node ∷ rest) arrivals = do
   known ← met number arrivals None
@@ -104,6 +104,6 @@ derive_from nodes chosen number (node ∷ rest) arrivals = do
   rows ← derive_from nodes chosen (suc number) rest (arrivals ++ here.arrivals)
   Ok (here.row ∷ rows)
 
-unfoldable pub derive : Option ArgumentRange → List Node → List Chosen → Result Table Refusal
+unfoldable pub derive : Option ArgumentRange → List Node → List Chosen → Result Table RefusalReason
 derive argument nodes chosen =
     derive_from nodes chosen 1 nodes (record { target = 1; facts = facts_given argument } ∷ [])

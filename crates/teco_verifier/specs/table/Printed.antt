@@ -5,8 +5,8 @@ use Rattle.std.specs.Option.{option_map_or, ok_or}
 use Rattle.teco_model.specs.Element.{Element}
 use Rattle.teco_verifier.specs.expansion.Node.{Node}
 use Rattle.teco_poly.specs.Polynomial.{Polynomial, number, mul}
-use Rattle.teco_verifier.specs.declared.refusal.Refusal.{Refusal}
-use Rattle.teco_verifier.specs.declared.refusal.Refusal.TheVariants as refusal
+use Rattle.teco_verifier.specs.declared.refusal.RefusalReason.{RefusalReason}
+use Rattle.teco_verifier.specs.declared.refusal.RefusalReason.TheVariants as refusal
 use Rattle.teco_model.specs.Macros.{ArgumentRange, Needs}
 use Rattle.teco_verifier.specs.facts.Attempt.{◌>>=◌}
 use Rattle.teco_verifier.specs.facts.Facts.{Facts, sum_of, join_of}
@@ -16,24 +16,24 @@ use Rattle.teco_verifier.specs.table.Closed.{check}
 use Rattle.teco_verifier.specs.table.Table.{Table, facts_at}
 
 -- a number that overflows at a node
-abbrev pub at_node : {X : Type 0} → ℕ → Result X Refusal → (X → Result X ℕ) → Result X ℕ
+abbrev pub at_node : {X : Type 0} → ℕ → Result X RefusalReason → (X → Result X ℕ) → Result X ℕ
 at_node node (Ok x) next = next x
 at_node node (Err why) next = Err node
 
 -- The turns of an iteration are those at its <; a body that is not reached counts once.
-abbrev pub turns_where : Option Facts → Option Facts → Result Polynomial Refusal
+abbrev pub turns_where : Option Facts → Option Facts → Result Polynomial RefusalReason
 turns_where facts None = Ok (number 1)
 turns_where None (Some start) = Ok (number 1)
 turns_where (Some facts) (Some start) = turns facts
 
-abbrev pub turns_at : Table → ℕ → Result Polynomial Refusal
+abbrev pub turns_at : Table → ℕ → Result Polynomial RefusalReason
 turns_at table begin = turns_where (facts_at table begin) (facts_at table (suc begin))
 
-abbrev pub product_of : Polynomial → Polynomial → Result Polynomial Refusal
+abbrev pub product_of : Polynomial → Polynomial → Result Polynomial RefusalReason
 product_of p q = ok_or (mul p q) refusal.Overflow
 
 -- the product of the turns of some iterations
-abbrev pub turns_round : Table → List ℕ → Result Polynomial Refusal
+abbrev pub turns_round : Table → List ℕ → Result Polynomial RefusalReason
 turns_round table [] = Ok (number 1)
 turns_round table (begin ∷ outer) = do
   rounds ← turns_round table outer
@@ -41,12 +41,12 @@ turns_round table (begin ∷ outer) = do
   product_of most rounds
 
 -- the most steps of an element; a return takes one
-abbrev pub steps_of : Option Element → Facts → Result Polynomial Refusal
+abbrev pub steps_of : Option Element → Facts → Result Polynomial RefusalReason
 steps_of None facts = Ok (number 1)
 steps_of (Some e) facts = steps e.kind facts
 
 -- A node that is reached counts with its steps, once for each turn of each iteration round it.
-abbrev pub weight : Table → Node → Option Facts → Result Polynomial Refusal
+abbrev pub weight : Table → Node → Option Facts → Result Polynomial RefusalReason
 weight table node None = Ok (number 0)
 weight table node (Some facts) = do
   own ← steps_of node.element facts
@@ -54,7 +54,7 @@ weight table node (Some facts) = do
   product_of own rounds
 
 -- Commands are the sum over the nodes.
-abbrev pub counted_with : Table → ℕ → Node → Polynomial → Result Polynomial Refusal
+abbrev pub counted_with : Table → ℕ → Node → Polynomial → Result Polynomial RefusalReason
 counted_with table k node total = do
   more ← weight table node (facts_at table k)
   sum_of total more
@@ -73,13 +73,13 @@ unfoldable pub commands : Option ArgumentRange → List Node → Table → Resul
 commands argument nodes table = count_from table 1 nodes (number (steps_before argument))
 
 -- Size is at least what is held, and each text, wherever that is reached.
-abbrev pub joined_with : List Polynomial → Polynomial → Result Polynomial Refusal
+abbrev pub joined_with : List Polynomial → Polynomial → Result Polynomial RefusalReason
 joined_with [] most = Ok most
 joined_with (p ∷ ps) most = do
   more ← join_of most p
   joined_with ps more
 
-abbrev pub sized_with : Option Facts → Polynomial → Result Polynomial Refusal
+abbrev pub sized_with : Option Facts → Polynomial → Result Polynomial RefusalReason
 sized_with None most = Ok most
 sized_with (Some facts) most = joined_with (facts.held ∷ facts.texts) most
 
@@ -95,7 +95,7 @@ size nodes table = size_from table 1 nodes (number 0)
 abbrev pub both_needs : Needs → Needs → Needs
 both_needs a b = record { input = a.input || b.input; output = a.output || b.output }
 
-abbrev pub known_needs : Result Needs Refusal → Needs
+abbrev pub known_needs : Result Needs RefusalReason → Needs
 known_needs (Ok n) = n
 known_needs (Err why) = no_needs
 

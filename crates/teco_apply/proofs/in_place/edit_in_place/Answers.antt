@@ -1,4 +1,4 @@
-use Rattle.teco_apply.proofs.Prelude.{◌+◌, ◌∙◌, refl, rules, order_by, Call, Notes}
+use Rattle.teco_apply.proofs.Prelude.{◌+◌, ◌∙◌, refl, rules, order_by, PromisedCall, Notes}
 use Rattle.teco_apply.proofs.InPlace.{rewritten-from, unedited}
 use Rattle.teco_session.specs.declared.fault.SessionFault.TheVariants as fault
 use Rattle.teco_apply.proofs.in_place.edit_in_place.Goals as goal
@@ -23,7 +23,7 @@ returns-in_default-clause-edits g c =
 
 pub returns-clause-edits : goal.returns-clause-edits
 returns-clause-edits g c =
-    let call : Call = record { promise = c.args.rewrite.now.promise.now; given = c.args.rewrite.now.given } in
+    let call : PromisedCall = record { promise = c.args.rewrite.now.promise.now; given = c.args.rewrite.now.given } in
     let files = c.edit_file-edited.new.host in
     rewritten-from c.notes_fit.ensures c.files_are_replaced.ensures c.args.rewrite.now.pages
     (order_by (g.G.Guard.answers c.args.rewrite.now.guard.now) call) c.args.rewrite.now.name.now g.E.Ending.replaces

@@ -1,5 +1,5 @@
 use Rattle.std.proofs.Common.{◌≡◌, drop}
-use Rattle.teco_stack.proofs.stack.Stack.packed.Given as goal
+use Rattle.teco_stack.proofs.stack.SharedStack.packed.Given as goal
 
 -- the items from this one on are stacked
 abbrev pub invariant-loop-at : goal.invariant-loop-at
