@@ -9,10 +9,10 @@ use teco_expansion::{ExpandFault, ExpandReason, expand};
 use teco_library::Library;
 
 /// Texts, and how often each of them stands in the text of A, one after another.
-type Parts = &'static [(&'static str, usize)];
+type RepeatedParts = &'static [(&'static str, usize)];
 
 /// A long text, how many nodes it has, and of one of them its number, its place and its last way.
-struct LongExpanded(Parts, usize, (usize, usize, usize));
+struct LongExpanded(RepeatedParts, usize, (usize, usize, usize));
 
 const LONG_EXPANSIONS: &[LongExpanded] = &[
     // as many elements as there may be
@@ -25,12 +25,12 @@ const LONG_EXPANSIONS: &[LongExpanded] = &[
     LongExpanded(JUMPS, 4_003, (3, 3, 4003)),
 ];
 
-const BLANKS: Parts = &[(" ", 95), ("J", 1), (" ", 129), ("J", 1), (" ", 68)];
+const BLANKS: RepeatedParts = &[(" ", 95), ("J", 1), (" ", 129), ("J", 1), (" ", 68)];
 
-const JUMPS: Parts = &[("Ox\x1b", 4_000), ("!x!", 1), (" ", 87_991)];
+const JUMPS: RepeatedParts = &[("Ox\x1b", 4_000), ("!x!", 1), (" ", 87_991)];
 
 /// A long text, whether it is refused for a call of itself or for its size, and the place in it.
-struct LongRefused(Parts, bool, usize);
+struct LongRefused(RepeatedParts, bool, usize);
 
 const LONG_REFUSALS: &[LongRefused] = &[
     // one element more than there may be
@@ -43,12 +43,12 @@ const LONG_REFUSALS: &[LongRefused] = &[
     LongRefused(FAR_JUMPS, false, 12_095),
 ];
 
-const TESTS: Parts = &[("1\"E", 2_000), ("J", 91_994), ("'", 2_000)];
+const TESTS: RepeatedParts = &[("1\"E", 2_000), ("J", 91_994), ("'", 2_000)];
 
-const FAR_JUMPS: Parts = &[("Ox\x1b", 4_000), ("J", 187_991), ("!x!", 1)];
+const FAR_JUMPS: RepeatedParts = &[("Ox\x1b", 4_000), ("J", 187_991), ("!x!", 1)];
 
 // A file with a text of A.
-fn file_of(alloc: Global, parts: Parts) -> Result<String, AllocError> {
+fn file_of(alloc: Global, parts: RepeatedParts) -> Result<String, AllocError> {
     let mut file = String::from_str(alloc, "@^UA/")?;
     for (text, count) in parts {
         file.push_str(&text.repeat(alloc, *count)?)?;
@@ -57,7 +57,7 @@ fn file_of(alloc: Global, parts: Parts) -> Result<String, AllocError> {
     Ok(file)
 }
 
-fn library_in(alloc: Global, parts: Parts) -> Option<Library> {
+fn library_in(alloc: Global, parts: RepeatedParts) -> Option<Library> {
     library_of(alloc, file_of(alloc, parts).ok()?.as_bytes())
 }
 
@@ -100,7 +100,7 @@ fn long_texts_are_expanded_as_far_as_they_may_be(rt: HostRuntime) {
 }
 
 /// A text that pushes a pair at its node 2, and the node at which what is pushed is packed.
-struct Packed(Parts, usize);
+struct Packed(RepeatedParts, usize);
 
 const PACKED: &[Packed] = &[Packed(&[("[B", 1), ("J", 140)], 128)];
 
