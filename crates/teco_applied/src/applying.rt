@@ -11,6 +11,7 @@ ghost use Rattle.teco_apply.specs.declared.editing.TheConstants.{NAME};
 ghost use Rattle.teco_pages.specs.HostFiles.{Notes};
 ghost use Rattle.teco_run.specs.Holdings.{Joined};
 ghost use Rattle.teco_console.specs.Premise.{IsPremise};
+ghost use Rattle.teco_tools.specs.Scripts.{new_machine};
 ghost use Rattle.teco_console.specs.declared.outcome.Outcome.TheVariants.{Refused};
 ghost use Rattle.teco_verdicts.specs.Accepted.{promise_of};
 
@@ -238,6 +239,24 @@ fn edit_on<H: Host + Reporting, O: Write, E: Write + Drop>(
     }
 }
 
+// Prepares a new machine, and edits a file on it.
+fn edit_prepared<H: Host + Reporting, O: Write, E: Write + Drop>(
+    out: &mut O,
+    voice: &mut Voice<E>,
+    machine: &mut Machine<GapText>,
+    work: Work<'_>,
+    host: &mut H,
+) -> Result<Outcome, ToolFault>
+    requires new { machine.old ≡ new_machine }
+    ensures { EditsBy work.entry.job.task.now (call_of work.entry.job) work.entry.names
+        (H.files host.old) (H.files host.new)
+        (trace_of (H.failures host.old) (O.contents out.old))
+        (trace_of (H.failures host.new) (O.contents out.new)) result }
+{
+    prepare(machine, work.job.task.start, host)?;
+    edit_on(out, voice, machine, work, host)
+}
+
 /// Edits a file by a verified macro over the files of a host, and says what there is to be said of
 /// it.
 pub fn edit_by<H: Host + Reporting, O: Write, E: Write + Drop>(
@@ -252,8 +271,7 @@ pub fn edit_by<H: Host + Reporting, O: Write, E: Write + Drop>(
         (trace_of (H.failures host.new) (O.contents out.new)) result }
 {
     let mut machine = machine_with(work.job.alloc, work.job.task.cap);
-    prepare(&mut machine, work.job.task.start, host)?;
-    edit_on(out, voice, &mut machine, work, host)
+    edit_prepared(out, voice, &mut machine, work, host)
 }
 
 /// What came of the edit of a file in place, and its host.
@@ -381,6 +399,31 @@ fn rewrite_on<H: Host + Reporting + Drop, O: Write, E: Write + Drop, K: Ending>(
     conclude_rewrite(voice, task, name, file)
 }
 
+// Prepares a new machine, and edits a file in place on it.
+fn rewrite_prepared<H: Host + Reporting + Drop, O: Write, E: Write + Drop, K: Ending>(
+    out: &mut O,
+    voice: &mut Voice<E>,
+    machine: &mut Machine<GapText>,
+    work: OneWork<'_, K>,
+    host: H,
+) -> Replaced<H>
+    requires new { machine.old ≡ new_machine }
+    requires fresh { H.files host ≡ Notes [] }
+    requires name { length work.name.now < NAME }
+    ensures { RewritesBy work.entry.job.task.now (call_of work.entry.job) work.entry.name.now K.replaces
+        (H.files result.host) (H.failures host)
+        (O.contents out.old) (O.contents out.new) result.outcome }
+{
+    let job = work.job;
+    match prepare(machine, job.task.start, &mut MemHost::new(job.alloc)) {
+        Ok(()) => rewrite_on(out, voice, machine, work, host),
+        Err(fault) => Replaced {
+            outcome: Err(fault),
+            host,
+        },
+    }
+}
+
 /// Edits a file in place by a verified macro over a host that has made no call yet, and says what there
 /// is to be said of it.
 pub fn rewrite_by<H: Host + Reporting + Drop, O: Write, E: Write + Drop, K: Ending>(
@@ -395,15 +438,8 @@ pub fn rewrite_by<H: Host + Reporting + Drop, O: Write, E: Write + Drop, K: Endi
         (H.files result.host) (H.failures host)
         (O.contents out.old) (O.contents out.new) result.outcome }
 {
-    let job = work.job;
-    let mut machine = machine_with(job.alloc, job.task.cap);
-    match prepare(&mut machine, job.task.start, &mut MemHost::new(job.alloc)) {
-        Ok(()) => rewrite_on(out, voice, &mut machine, work, host),
-        Err(fault) => Replaced {
-            outcome: Err(fault),
-            host,
-        },
-    }
+    let mut machine = machine_with(work.job.alloc, work.job.task.cap);
+    rewrite_prepared(out, voice, &mut machine, work, host)
 }
 
 // Says what came of an edit.

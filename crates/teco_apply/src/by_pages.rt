@@ -316,7 +316,7 @@ pub fn dropped(edited: Result<Edited, SessionFault>) -> Result<bool, SessionFaul
 ///     pages,
 ///     guard: &Refusing(refused),
 /// };
-/// match edit_file(&mut machine, &edit, host, written, &mut seen) {
+/// match edit_file(machine, &edit, host, written, &mut seen) {
 /// ```
 pub fn edit_file<T: TextStore, H: Host, W: Write, G: Guard, O: Observer<H>>(
     machine: &mut Machine<T>,

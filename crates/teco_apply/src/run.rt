@@ -165,14 +165,23 @@ pub fn run_promised<T: TextStore, H: Host>(
 /// # Examples
 ///
 /// ```
-/// let library = Library::read(alloc, b"@^UA/J<:Sa\x1b;-D>HT/").ok()?;
-/// let verified = verify(alloc, &library, Reg::of(b'A')?).ok()?;
-/// let mut machine = Machine::new(alloc, GapText::new(alloc));
-/// let mut host = MemHost::new(alloc);
-/// machine.run(b"Ibanana\x1b", 100, &mut host);
-/// let stop = run_verified(&mut machine, &verified, &mut host).ok()?;
-/// let typed = machine.take_typed();
-/// Some(matches!(stop, Stop::Ended { .. }) && typed.as_slice() == b"bnn".as_slice())
+/// fn types_bnn(
+///     machine: &mut Machine<GapText>,
+///     verified: &Verified<'_>,
+///     host: &mut MemHost,
+/// ) -> Option<bool> {
+///     machine.run(b"Ibanana\x1b", 100, host);
+///     let stop = run_verified(machine, verified, host).ok()?;
+///     let typed = machine.take_typed();
+///     Some(matches!(stop, Stop::Ended { .. }) && typed.as_slice() == b"bnn".as_slice())
+/// }
+///
+/// fn runs_a_verified_macro(alloc: Global) -> Option<bool> {
+///     let library = Library::read(alloc, b"@^UA/J<:Sa\x1b;-D>HT/").ok()?;
+///     let verified = verify(alloc, &library, Reg::of(b'A')?).ok()?;
+///     let mut machine = Box::new(alloc, Machine::new(alloc, GapText::new(alloc))).ok()?;
+///     types_bnn(machine.as_mut(), &verified, &mut MemHost::new(alloc))
+/// }
 /// ```
 pub fn run_verified<T: TextStore, H: Host>(
     machine: &mut Machine<T>,

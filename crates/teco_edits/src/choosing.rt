@@ -81,16 +81,26 @@ enum PathKind {
 fn names_in<R: Files>(rt: &R, alloc: Global, folder: &str) -> io::Result<Vec<Vec<u8>>> {
     let mut listing = rt.open_dir(folder)?;
     let mut names = Vec::new(alloc);
+    push_listed(alloc, &mut listing, &mut names)?;
+    names.sort_unstable();
+    Ok(names)
+}
+
+// Adds the names of a listing to others, but hidden ones.
+fn push_listed<L: Read>(
+    alloc: Global,
+    listing: &mut L,
+    names: &mut Vec<Vec<u8>>,
+) -> io::Result<()> {
     let mut room = vec![in alloc; 0; ROOM]?;
     for _ in 0..u64::MAX {
         let n = listing.read(&mut room)?;
         if n == 0 {
             break;
         }
-        push_names(alloc, room.get(..n).unwrap_or(&[]), &mut names)?;
+        push_names(alloc, room.get(..n).unwrap_or(&[]), names)?;
     }
-    names.sort_unstable();
-    Ok(names)
+    Ok(())
 }
 
 // Adds the names that are each ended by a NUL to others, but hidden ones.
@@ -100,6 +110,18 @@ fn push_names(alloc: Global, listed: &[u8], names: &mut Vec<Vec<u8>>) -> Result<
             names.push(name.to_vec(alloc)?)?;
         }
     }
+    Ok(())
+}
+
+// The path of what has a name in a folder.
+fn path_in(alloc: Global, folder: &str, name: &str) -> Result<String, AllocError> {
+    let slash = if folder.ends_with('/') { "" } else { "/" };
+    format!(in alloc; "{folder}{slash}{name}")
+}
+
+// Notes a folder, to be looked through.
+fn note_folder(folders: &mut Vec<String>, folder: String) -> Result<(), AllocError> {
+    folders.push(folder)?;
     Ok(())
 }
 
@@ -134,21 +156,28 @@ impl<R: Files, E: io::Write + Drop> Choosing<'_, '_, '_, '_, R, E> {
 
     // The files of a folder, and the folders in it. A folder that can't be read is told.
     fn look_through(&mut self, folder: &str, folders: &mut Vec<String>) -> Result<(), AllocError> {
-        let names = match names_in(self.rt, self.alloc, folder) {
-            Ok(names) => names,
+        match names_in(self.rt, self.alloc, folder) {
+            Ok(names) => self.look_at_all(folder, &names, folders),
             Err(error) => {
                 self.tell_unread(folder.as_bytes(), error);
-                return Ok(());
+                Ok(())
             }
-        };
-        let mut inner = Vec::new(self.alloc);
-        for name in &names {
-            self.look_at(folder, name, &mut inner)?;
         }
-        for _ in 0..inner.len() {
-            if let Some(path) = inner.pop() {
-                folders.push(path)?;
-            }
+    }
+
+    // Takes the files of a folder, and notes the folders in it, the first one last.
+    fn look_at_all(
+        &mut self,
+        folder: &str,
+        names: &[Vec<u8>],
+        folders: &mut Vec<String>,
+    ) -> Result<(), AllocError> {
+        let known = folders.len();
+        for name in names {
+            self.look_at(folder, name, folders)?;
+        }
+        if let Some(inner) = folders.as_mut_slice().get_mut(known..) {
+            inner.reverse();
         }
         Ok(())
     }
@@ -163,27 +192,41 @@ impl<R: Files, E: io::Write + Drop> Choosing<'_, '_, '_, '_, R, E> {
         if is_of(self.choice.excluded, name) {
             return Ok(());
         }
-        let Ok(text) = str::from_utf8(name) else {
-            self.tell_unread(name, "its name is no UTF-8 text");
-            return Ok(());
-        };
-        let slash = if folder.ends_with('/') { "" } else { "/" };
-        let path = format!(in self.alloc; "{folder}{slash}{text}")?;
-        match self.kind_of(&path, false) {
-            PathKind::Folder => folders.push(path)?,
-            PathKind::File if self.choice.takes(name) => self.push(path.as_bytes(), true)?,
-            _ => {}
+        match str::from_utf8(name) {
+            Ok(text) => self.look_at_path(path_in(self.alloc, folder, text)?, name, folders),
+            Err(_) => {
+                self.tell_unread(name, "its name is no UTF-8 text");
+                Ok(())
+            }
         }
-        Ok(())
+    }
+
+    // Takes a file of this path and this name, or notes a folder.
+    fn look_at_path(
+        &mut self,
+        path: String,
+        name: &[u8],
+        folders: &mut Vec<String>,
+    ) -> Result<(), AllocError> {
+        match self.kind_of(&path, false) {
+            PathKind::Folder => note_folder(folders, path),
+            PathKind::File if self.choice.takes(name) => self.push(path.as_bytes(), true),
+            _ => Ok(()),
+        }
     }
 
     // Takes the files of a folder, and of those in it.
     fn take_folder(&mut self, folder: &str) -> Result<(), AllocError> {
         let mut folders = Vec::new(self.alloc);
-        folders.push(String::from_str(self.alloc, folder)?)?;
+        note_folder(&mut folders, String::from_str(self.alloc, folder)?)?;
+        self.take_folders(&mut folders)
+    }
+
+    // Takes the files of folders, the last one first, and of those in them.
+    fn take_folders(&mut self, folders: &mut Vec<String>) -> Result<(), AllocError> {
         for _ in 0..u64::MAX {
             match folders.pop() {
-                Some(folder) => self.look_through(folder.as_str(), &mut folders)?,
+                Some(folder) => self.look_through(folder.as_str(), folders)?,
                 None => break,
             }
         }

@@ -7,6 +7,7 @@ ghost use Rattle.teco_edits.specs.Files.{EditsAll, EditsFile, EditsFiles, EditsI
 ghost use Rattle.teco_edits.specs.Files.{EditsOne, EditsSubject, EditsTask, IsFileName, MayBeLeft, ShowsChange};
 ghost use Rattle.teco_edits.specs.Files.{ShowsEnded, is_change, is_done, is_made, listed, outcome_of, shown_typed};
 ghost use Rattle.teco_edits.specs.Files.{tally_with};
+ghost use Rattle.teco_edits.specs.Typed as lines;
 ghost use Rattle.teco_pages.specs.HostFiles.{Notes};
 ghost use Rattle.teco_console.specs.declared.outcome.Outcome.TheVariants.{Refused};
 
@@ -153,6 +154,14 @@ fn tell_name<E: Write + Drop>(voice: &mut Voice<E>, name: &[u8]) {
     ));
 }
 
+// Says that a file is left as it is, since it has a NUL.
+fn tell_left<E: Write + Drop>(voice: &mut Voice<E>, name: &[u8]) {
+    let shown = Shown(name);
+    voice.say(format_args!(
+        "{shown} has a NUL near its beginning and is left as it is; --binary edits it too"
+    ));
+}
+
 // What came of the edit of a file.
 #[derive(Clone, Copy)]
 struct EditEnd {
@@ -182,6 +191,14 @@ const FAILED: EditEnd = EditEnd {
     outcome: Outcome::Coded,
     differs: false,
 };
+
+// What runs on a file typed, and what came of them.
+#[derive(Drop)]
+struct FileRuns<'a> {
+    name: &'a [u8],
+    typed: &'a [u8],
+    outcome: Outcome,
+}
 
 // How a host treats files that are edited so.
 fn handling_of(given: &InPlaceEdits<'_>) -> Handling {
@@ -216,7 +233,7 @@ fn of_memory(fault: ToolFault) -> ToolFault {
 }
 
 // Files that are edited by a macro.
-#[derive(Clone, Copy)]
+#[derive(Drop)]
 struct Editing<'r, 'j, 'g, 'f, R: System + Copy> {
     rt: &'r R,
     job: Job<'j>,
@@ -226,13 +243,14 @@ struct Editing<'r, 'j, 'g, 'f, R: System + Copy> {
 
 impl<R: System + Copy> Editing<'_, '_, '_, '_, R> {
     // A host for one file.
-    fn host(self, alloc: Global) -> Result<FileHost<R>, AllocError>
+    fn host(&self, alloc: Global) -> Result<FileHost<R>, AllocError>
         ensures { IfOk result (λ host. ⟦<FileHost<R> as Host>⟧.files host ≡ Notes []) }
     {
+        let backup = backup_of(alloc, self.given.keeping)?;
         let mut host = FileHost::new(alloc, *self.rt);
         host.set_facts(self.facts);
         host.set_handling(handling_of(self.given));
-        if let Some(backup) = backup_of(alloc, self.given.keeping)? {
+        if let Some(backup) = backup {
             host.set_backup(backup);
         }
         Ok(host)
@@ -240,14 +258,14 @@ impl<R: System + Copy> Editing<'_, '_, '_, '_, R> {
 
     // Writes what was typed over a file.
     fn write_typed<O: Write>(
-        self,
+        &self,
         alloc: Global,
         out: &mut O,
         name: &[u8],
         typed: &[u8],
     ) -> Result<(), ToolFault>
         ensures { OnOk result (Appends (O.contents out.old) (O.contents out.new)
-            (shown_typed self.entry.given.now name.now typed.now)) }
+            (shown_typed self.now.given.now name.now typed.now)) }
     {
         if self.given.naming.holds_for(self.given.files.len()) {
             out.write_all(&named_lines(alloc, name, typed)?)?;
@@ -257,28 +275,27 @@ impl<R: System + Copy> Editing<'_, '_, '_, '_, R> {
         Ok(())
     }
 
-    // Edits a file in place.
-    fn edit_at<O: Write + Drop, E: Write + Drop, K: Ending>(
-        self,
+    // Writes what runs on a file typed, and notes the folder of a file that was replaced.
+    fn end_edit<O: Write + Drop, E: Write + Drop>(
+        &self,
         console: &mut Console<O, E>,
         folders: &mut Folders,
-        name: &[u8],
-        ending: K,
+        runs: FileRuns<'_>,
+        host: &FileHost<R>,
     ) -> Result<EditEnd, ToolFault>
-        requires { length name.now < NAME }
-        ensures { IfOk result (EditsNamed self.entry.given.now self.entry.job name.now K.replaces
-            (O.contents console.old.out) (O.contents console.new.out)) }
+        ensures outcome { IfOk result (λ ended. ended.outcome ≡ runs.entry.outcome) }
+        ensures written { IfOk result (λ ended.
+            Appends (O.contents console.old.out) (O.contents console.new.out)
+            (shown_typed self.now.given.now runs.entry.name.now
+            (lines.without_code runs.entry.typed.now (edits.is_coded ended.outcome)))) }
     {
-        let host = self.host(console.alloc)?;
-        let mut typed = Vec::new(console.alloc);
-        let work = OneWork::new(self.job, name, ending);
-        let Replaced { outcome, host } = rewrite_by(&mut typed, &mut console.voice, work, host);
-        let outcome = match outcome {
-            Ok(outcome) => outcome,
-            Err(fault) => return Err(of_memory(fault)),
-        };
+        let FileRuns {
+            name,
+            typed,
+            outcome,
+        } = runs;
         console.voice.clear();
-        let typed = without_code(&typed, is_coded(outcome));
+        let typed = without_code(typed, is_coded(outcome));
         self.write_typed(console.alloc, &mut console.out, name, typed)?;
         folders.note_changed(host.changed_folder())?;
         Ok(EditEnd {
@@ -287,16 +304,45 @@ impl<R: System + Copy> Editing<'_, '_, '_, '_, R> {
         })
     }
 
+    // Edits a file in place.
+    fn edit_at<O: Write + Drop, E: Write + Drop, K: Ending>(
+        &self,
+        console: &mut Console<O, E>,
+        folders: &mut Folders,
+        name: &[u8],
+        ending: K,
+    ) -> Result<EditEnd, ToolFault>
+        requires { length name.now < NAME }
+        ensures { IfOk result (EditsNamed self.now.given.now self.now.job name.now K.replaces
+            (O.contents console.old.out) (O.contents console.new.out)) }
+    {
+        let host = self.host(console.alloc)?;
+        let mut typed = Vec::new(console.alloc);
+        let work = OneWork::new(self.job, name, ending);
+        let Replaced { outcome, host } = rewrite_by(&mut typed, &mut console.voice, work, host);
+        match outcome {
+            Ok(outcome) => {
+                let runs = FileRuns {
+                    name,
+                    typed: &typed,
+                    outcome,
+                };
+                self.end_edit(console, folders, runs, &host)
+            }
+            Err(fault) => Err(of_memory(fault)),
+        }
+    }
+
     // Edits a file of a name that it can be edited by, or tries to.
     fn edit_named<O: Write + Drop, E: Write + Drop>(
-        self,
+        &self,
         console: &mut Console<O, E>,
         folders: &mut Folders,
         name: &[u8],
     ) -> Result<EditEnd, ToolFault>
         requires { length name.now < NAME }
-        ensures { IfOk result (EditsNamed self.entry.given.now self.entry.job name.now
-            (is_made self.entry.given.now.change)
+        ensures { IfOk result (EditsNamed self.now.given.now self.now.job name.now
+            (is_made self.now.given.now.change)
             (O.contents console.old.out) (O.contents console.new.out)) }
     {
         match self.given.change {
@@ -305,34 +351,46 @@ impl<R: System + Copy> Editing<'_, '_, '_, '_, R> {
         }
     }
 
+    // Edits a file in place, and says what became of it, with the texts that differ if they are printed.
+    fn edit_with<O: Write + Drop, E: Write + Drop>(
+        &self,
+        console: &mut Console<O, E>,
+        folders: &mut Folders,
+        name: &[u8],
+        texts: Option<&TextChange>,
+    ) -> Result<EditEnd, ToolFault>
+        requires { length name.now < NAME }
+        ensures { IfOk result (EditsFile self.now.given.now self.now.job name.now
+            (O.contents console.old.out) (O.contents console.new.out)) }
+    {
+        let ended = self.edit_named(console, folders, name)?;
+        self.tell_ended(console, name, ended, texts)?;
+        Ok(ended)
+    }
+
     // Edits a file in place, and says what became of it.
     fn edit_and_tell<O: Write + Drop, E: Write + Drop>(
-        self,
+        &self,
         console: &mut Console<O, E>,
         folders: &mut Folders,
         name: &[u8],
     ) -> Result<EditEnd, ToolFault>
         requires { length name.now < NAME }
-        ensures { IfOk result (EditsFile self.entry.given.now self.entry.job name.now
+        ensures { IfOk result (EditsFile self.now.given.now self.now.job name.now
             (O.contents console.old.out) (O.contents console.new.out)) }
     {
-        let texts = match self.given.diff {
-            None => None,
-            Some(_) => self.texts(console.alloc, name)?,
-        };
-        let ended = self.edit_named(console, folders, name)?;
-        self.tell_ended(console, name, ended, texts.as_ref())?;
-        Ok(ended)
+        let texts = self.texts(console.alloc, name)?;
+        self.edit_with(console, folders, name, texts.as_ref())
     }
 
     // Edits a file in place.
     fn edit_one<O: Write + Drop, E: Write + Drop>(
-        self,
+        &self,
         console: &mut Console<O, E>,
         folders: &mut Folders,
         name: &[u8],
     ) -> Result<EditEnd, ToolFault>
-        ensures { IfOk result (EditsOne self.entry.given.now self.entry.job name.now
+        ensures { IfOk result (EditsOne self.now.given.now self.now.job name.now
             (O.contents console.old.out) (O.contents console.new.out)) }
     {
         if !is_name(name) {
@@ -345,43 +403,51 @@ impl<R: System + Copy> Editing<'_, '_, '_, '_, R> {
         self.edit_and_tell(console, folders, name)
     }
 
-    // The text of a file and what the macro makes of it, if it does. Nothing is said or typed.
-    fn texts(self, alloc: Global, name: &[u8]) -> Result<Option<TextChange>, ToolFault>
+    // The text of a file, if it can be opened.
+    fn old_text(&self, alloc: Global, name: &[u8]) -> Result<Option<Vec<u8>>, AllocError> {
+        read_whole(alloc, &mut self.host(alloc)?, name)
+    }
+
+    // The text of a file and what the macro makes of it, if it does and what differs is printed. Nothing
+    // is said or typed.
+    fn texts(&self, alloc: Global, name: &[u8]) -> Result<Option<TextChange>, ToolFault>
         requires { length name.now < NAME }
     {
-        let Some(old) = read_whole(alloc, &mut self.host(alloc)?, name)? else {
+        if self.given.diff.is_none() {
+            return Ok(None);
+        }
+        let Some(old) = self.old_text(alloc, name)? else {
             return Ok(None);
         };
         let new = new_text(alloc, self.host(alloc)?, self.job, name)?;
         Ok(new.map(|new| TextChange { old, new }))
     }
 
+    // Has a file a NUL near its beginning?
+    fn holds_nul(&self, alloc: Global, name: &[u8]) -> Result<bool, AllocError> {
+        has_nul(alloc, &mut self.host(alloc)?, name)
+    }
+
     // Is a file left as it is, since it is none that people read? That is said.
     fn is_left<E: Write + Drop>(
-        self,
+        &self,
         voice: &mut Voice<E>,
         file: &ChosenFile,
     ) -> Result<bool, ToolFault>
-        ensures { IfOk result (λ left. left ≡ true → MayBeLeft self.entry.given.now file.now) }
+        ensures { IfOk result (λ left. left ≡ true → MayBeLeft self.now.given.now file.now) }
     {
-        let alloc = voice.alloc();
-        if !file.is_found || self.given.takes_binary {
-            return Ok(false);
+        let may_be_left = file.is_found && !self.given.takes_binary;
+        if may_be_left && self.holds_nul(voice.alloc(), &file.name)? {
+            tell_left(voice, &file.name);
+            return Ok(true);
         }
-        if !has_nul(alloc, &mut self.host(alloc)?, &file.name)? {
-            return Ok(false);
-        }
-        let shown = Shown(&file.name);
-        voice.say(format_args!(
-            "{shown} has a NUL near its beginning and is left as it is; --binary edits it too"
-        ));
-        Ok(true)
+        Ok(false)
     }
 
     // Prints the name of a file that would change, unless it is replaced.
-    fn list<O: Write>(self, alloc: Global, out: &mut O, name: &[u8]) -> Result<(), ToolFault>
+    fn list<O: Write>(&self, alloc: Global, out: &mut O, name: &[u8]) -> Result<(), ToolFault>
         ensures { OnOk result (Appends (O.contents out.old) (O.contents out.new)
-            (listed self.entry.given.now name.now)) }
+            (listed self.now.given.now name.now)) }
     {
         if let Change::Made = self.given.change {
             return Ok(());
@@ -394,13 +460,13 @@ impl<R: System + Copy> Editing<'_, '_, '_, '_, R> {
 
     // Prints what differs in a file, or its name where it would change.
     fn tell_change<O: Write>(
-        self,
+        &self,
         alloc: Global,
         out: &mut O,
         name: &[u8],
         texts: Option<&TextChange>,
     ) -> Result<(), ToolFault>
-        ensures { OnOk result (ShowsChange self.entry.given.now name.now
+        ensures { OnOk result (ShowsChange self.now.given.now name.now
             (O.contents out.old) (O.contents out.new)) }
     {
         match (self.given.diff, texts) {
@@ -416,13 +482,13 @@ impl<R: System + Copy> Editing<'_, '_, '_, '_, R> {
 
     // Says what became of a file.
     fn tell_ended<O: Write + Drop, E: Write + Drop>(
-        self,
+        &self,
         console: &mut Console<O, E>,
         name: &[u8],
         ended: EditEnd,
         texts: Option<&TextChange>,
     ) -> Result<(), ToolFault>
-        ensures { OnOk result (ShowsEnded self.entry.given.now name.now ended
+        ensures { OnOk result (ShowsEnded self.now.given.now name.now ended
             (O.contents console.old.out) (O.contents console.new.out)) }
     {
         if ended.is_change() {
@@ -439,7 +505,7 @@ impl<R: System + Copy> Editing<'_, '_, '_, '_, R> {
     }
 
     // Says how many files were edited.
-    fn tell_tally<E: Write + Drop>(self, voice: &mut Voice<E>, tally: EditTally) {
+    fn tell_tally<E: Write + Drop>(&self, voice: &mut Voice<E>, tally: EditTally) {
         let EditTally {
             files,
             changed,
@@ -455,13 +521,13 @@ impl<R: System + Copy> Editing<'_, '_, '_, '_, R> {
 
     // Edits the next file, unless it is left as it is.
     fn edit_next<O: Write + Drop, E: Write + Drop>(
-        self,
+        &self,
         console: &mut Console<O, E>,
         folders: &mut Folders,
         file: &ChosenFile,
         tally: EditTally,
     ) -> Result<EditTally, ToolFault>
-        ensures { IfOk result (EditsNext self.entry.given.now self.entry.job file.now
+        ensures { IfOk result (EditsNext self.now.given.now self.now.job file.now
             (O.contents console.old.out) (O.contents console.new.out) tally) }
     {
         if self.is_left(&mut console.voice, file)? {
@@ -473,12 +539,12 @@ impl<R: System + Copy> Editing<'_, '_, '_, '_, R> {
 
     // Edits each file in turn; one that fails is left as it was, and the others go on.
     fn edit_all<O: Write + Drop, E: Write + Drop>(
-        self,
+        &self,
         console: &mut Console<O, E>,
         folders: &mut Folders,
         files: &[ChosenFile],
     ) -> Result<EditTally, ToolFault>
-        ensures { EditsAll self.entry.given.now self.entry.job files.now
+        ensures { EditsAll self.now.given.now self.now.job files.now
             (O.contents console.old.out) (O.contents console.new.out) result }
     {
         let mut tally = NONE;
@@ -501,10 +567,10 @@ impl<R: System + Copy> Editing<'_, '_, '_, '_, R> {
 
     // Edits each file in turn, and says how many were edited.
     fn edit_each<O: Write + Drop, E: Write + Drop>(
-        self,
+        &self,
         console: &mut Console<O, E>,
     ) -> Result<Outcome, ToolFault>
-        ensures { EditsFiles self.entry.given.now self.entry.job
+        ensures { EditsFiles self.now.given.now self.now.job
             (O.contents console.old.out) (O.contents console.new.out) result }
     {
         let mut folders = Folders::new(console.alloc);

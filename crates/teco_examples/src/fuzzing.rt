@@ -72,14 +72,17 @@ fn push_pieces(alloc: Global, pieces: &mut Vec<Vec<u8>>, text: &[u8]) -> Result<
 }
 
 // The pieces that texts are made of, where these are looked for.
-fn pieces_of(alloc: Global, texts: &[Vec<u8>]) -> Result<Vec<Vec<u8>>, AllocError> {
-    let mut pieces = Vec::new(alloc);
-    push_copy(alloc, &mut pieces, b"x")?;
-    push_copy(alloc, &mut pieces, b"\n")?;
+fn push_all_pieces(
+    alloc: Global,
+    pieces: &mut Vec<Vec<u8>>,
+    texts: &[Vec<u8>],
+) -> Result<(), AllocError> {
+    push_copy(alloc, pieces, b"x")?;
+    push_copy(alloc, pieces, b"\n")?;
     for text in texts.iter().take(PIECES) {
-        push_pieces(alloc, &mut pieces, text)?;
+        push_pieces(alloc, pieces, text)?;
     }
-    Ok(pieces)
+    Ok(())
 }
 
 impl SoughtTexts {
@@ -113,6 +116,14 @@ impl SoughtTexts {
         Ok(())
     }
 
+    // What the macros of a library look for too, and the pieces that come of all that is looked for.
+    fn take_all(&mut self, alloc: Global, library: &Library) -> Result<(), AllocError> {
+        for text in library.texts() {
+            self.take(alloc, text.unwrap_or(&[]))?;
+        }
+        push_all_pieces(alloc, &mut self.pieces, &self.texts)
+    }
+
     // What the macros of a library look for.
     fn of(alloc: Global, library: &Library) -> Result<SoughtTexts, AllocError> {
         let mut wanted = SoughtTexts {
@@ -120,10 +131,7 @@ impl SoughtTexts {
             has_others: false,
             pieces: Vec::new(alloc),
         };
-        for text in library.texts() {
-            wanted.take(alloc, text.unwrap_or(&[]))?;
-        }
-        wanted.pieces = pieces_of(alloc, &wanted.texts)?;
+        wanted.take_all(alloc, library)?;
         Ok(wanted)
     }
 
@@ -300,15 +308,25 @@ impl Doubts {
     }
 
     // Runs the macro on all texts of few pieces.
-    fn of(library: &Library, subject: &TextRun) -> Result<Doubts, ToolFault> {
-        let wanted = SoughtTexts::of(subject.alloc, library)?;
+    fn try_all(
+        &mut self,
+        library: &Library,
+        subject: &TextRun,
+        wanted: &SoughtTexts,
+    ) -> Result<(), ToolFault> {
+        for length in 0..=LONGEST {
+            self.try_length(library, subject, wanted, length)?;
+        }
+        Ok(())
+    }
+
+    // The texts that are found by runs of the macro on texts of what is looked for.
+    fn of(library: &Library, subject: &TextRun, wanted: &SoughtTexts) -> Result<Doubts, ToolFault> {
         let mut doubts = Doubts {
             changes: None,
             repeats: None,
         };
-        for length in 0..=LONGEST {
-            doubts.try_length(library, subject, &wanted, length)?;
-        }
+        doubts.try_all(library, subject, wanted)?;
         Ok(doubts)
     }
 
@@ -317,14 +335,14 @@ impl Doubts {
         &self,
         console: &mut Console<O, E>,
         name: char,
-    ) -> Result<(), ToolFault> {
+    ) -> Result<Outcome, ToolFault> {
         if let Some(doubt) = &self.changes {
             tell_change(console, name, doubt)?;
         }
         if let Some(doubt) = &self.repeats {
             tell_repeat(console, name, doubt)?;
         }
-        Ok(())
+        Ok(Outcome::Done)
     }
 }
 
@@ -367,9 +385,9 @@ fn fuzz_accepted<O: Write + Drop, E: Write + Drop>(
     case: Option<LetterCase>,
 ) -> Result<Outcome, ToolFault> {
     let subject = TextRun::of(console.alloc, sourced, entry, case);
-    let doubts = Doubts::of(&sourced.library, &subject)?;
-    doubts.tell(console, char::from(entry.name()))?;
-    Ok(Outcome::Done)
+    let wanted = SoughtTexts::of(console.alloc, &sourced.library)?;
+    let doubts = Doubts::of(&sourced.library, &subject, &wanted)?;
+    doubts.tell(console, char::from(entry.name()))
 }
 
 // Runs a macro of a library on texts, or says why it is refused.

@@ -149,15 +149,26 @@ fn run_on_host(
 }
 
 // The text of the file that was written.
-fn written(alloc: Global, host: &MemHost) -> Result<Vec<u8>, AllocError> {
-    host.file(b"out").unwrap_or(&[]).to_vec(alloc)
+fn written(alloc: Global, host: &MemHost) -> Result<Came, AllocError> {
+    let text = host.file(b"out").unwrap_or(&[]).to_vec(alloc)?;
+    Ok(Came::Text(text))
+}
+
+// Runs a macro of a library on the files of a host, and says what came of it.
+fn came_on(
+    library: &Library,
+    subject: &TextRun,
+    example: &Example,
+    host: &mut MemHost,
+) -> Result<Came, ToolFault> {
+    match run_on_host(library, subject, example, host)? {
+        None => Ok(written(subject.alloc, host)?),
+        Some(code) => Ok(Came::Code(code)),
+    }
 }
 
 /// Runs a macro of a library on the text of an example.
 pub fn run_on(library: &Library, subject: &TextRun, example: &Example) -> Result<Came, ToolFault> {
     let mut host = host_with(subject.alloc, &example.before)?;
-    match run_on_host(library, subject, example, &mut host)? {
-        None => Ok(Came::Text(written(subject.alloc, &host)?)),
-        Some(code) => Ok(Came::Code(code)),
-    }
+    came_on(library, subject, example, &mut host)
 }

@@ -161,16 +161,36 @@ fn try_all<O: Write + Drop, E: Write + Drop>(
     tests: &Tests,
 ) -> Result<ExampleTally, ToolFault> {
     let found = examples_of(console.alloc, sourced.source.text())?;
+    try_found(console, sourced, tests, &found)
+}
+
+// Tries those of the comments that were found which are asked for.
+fn try_found<O: Write + Drop, E: Write + Drop>(
+    console: &mut Console<O, E>,
+    sourced: &Sourced,
+    tests: &Tests,
+    found: &[FoundComment],
+) -> Result<ExampleTally, ToolFault> {
     let mut tally = ExampleTally {
         tried: 0,
         failed: 0,
     };
-    for finding in &found {
+    for finding in found {
         if tests.has(finding.register) {
             tally = tally.with(try_finding(console, sourced, tests, finding)?);
         }
     }
     Ok(tally)
+}
+
+// Tries the examples of a library that are asked for, and says how many that were.
+fn test_library<O: Write + Drop, E: Write + Drop>(
+    console: &mut Console<O, E>,
+    sourced: &Sourced,
+    tests: &Tests,
+) -> Result<Outcome, ToolFault> {
+    let tally = try_all(console, sourced, tests)?;
+    Ok(tell_tally(console, tally))
 }
 
 // Says how many examples were tried.
@@ -195,9 +215,8 @@ pub fn test_examples<R: Files + Input, O: Write + Drop, E: Write + Drop>(
     request: Request<'_>,
     tests: Tests,
 ) -> Result<Outcome, ToolFault> {
-    let Some(sourced) = read_library(rt, console, request)? else {
-        return Ok(Outcome::Refused);
-    };
-    let tally = try_all(console, &sourced, &tests)?;
-    Ok(tell_tally(console, tally))
+    match read_library(rt, console, request)? {
+        Some(sourced) => test_library(console, &sourced, &tests),
+        None => Ok(Outcome::Refused),
+    }
 }

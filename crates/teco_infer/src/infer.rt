@@ -8,9 +8,10 @@ use teco_base::LIMIT;
 use teco_bounds::cuts::{Cuts, first_cuts, kind_at};
 use teco_bounds::fault::{SearchRefusal, SearchStop};
 use teco_bounds::keys::Flag;
+use teco_bounds::legs::Web;
 use teco_bounds::measures::{NUMBER, family_of, place_of, spoken_of, used_of};
 use teco_bounds::pushes::check_pushes;
-use teco_bounds::search::PathSearch;
+use teco_bounds::search::{Keys, PathSearch};
 use teco_claims::Claims;
 use teco_expansion::Nodes;
 use teco_model::kind::{Argument, Command, Query, Storage};
@@ -284,6 +285,27 @@ struct Try {
     is_of_use: bool,
 }
 
+// The claims that are found on the paths between keys, or why there are none.
+fn claims_on(
+    search: &mut PathSearch<'_>,
+    web: &Web,
+    keys: &Keys,
+    known: &mut KnownClaims,
+    report: &mut Report,
+) -> Result<Claims, SearchStop> {
+    let found = all_promises(web, keys, &mut search.tame, known, search.alloc);
+    search.work = known.work;
+    match found {
+        Ok(promises) => claims_of(search, keys, known, &promises),
+        Err(stop) => {
+            if report.is_wanted {
+                report.shortfall = reason_for(search, web, keys, known, stop).unwrap_or(None);
+            }
+            Err(stop)
+        }
+    }
+}
+
 // A try with the cut points so far; where it stops for good, it reports why.
 fn try_once(
     search: &mut PathSearch<'_>,
@@ -299,19 +321,7 @@ fn try_once(
         return Err(SearchStop::Refused(SearchRefusal::Size));
     }
     let mut known = KnownClaims::new(search.work, search.alloc);
-    let found = all_promises(&web, &keys, &mut search.tame, &mut known, search.alloc);
-    search.work = known.work;
-    match found {
-        Ok(promises) => claims_of(search, &keys, &known, &promises),
-        Err(stop) => {
-            if report.is_wanted {
-                report.shortfall = reason_for(search, &web, &keys, &mut known, stop).unwrap_or(
-                    None,
-                );
-            }
-            Err(stop)
-        }
-    }
+    claims_on(search, &web, &keys, &mut known, report)
 }
 
 // Tries, with a cut point more where one is asked for. A way that wants cut points is of no use until

@@ -1,6 +1,7 @@
 //! What was found as claims of a certificate.
 use crate::known_claims::KnownClaims;
 use crate::promises::Promises;
+use std::alloc::Global;
 use teco_base::Reg;
 use teco_bounds::bounds::{Bounds, NONE};
 use teco_bounds::fault::{SearchRefusal, SearchStop};
@@ -148,6 +149,28 @@ fn leave_out(facts: &mut Bounds, always: &Bounds, with_limits: bool) {
     }
 }
 
+// Takes the forms of bounds that no chain of the others implies; the others are taken out.
+fn take_unchained(
+    left: &mut Bounds,
+    always: &Bounds,
+    forms: &mut Vec<Form>,
+    alloc: Global,
+) -> Result<(), SearchStop> {
+    for row in 0..left.size() {
+        for column in 0..left.size() {
+            if row == column || left.at(row, column) == NONE {
+                continue;
+            }
+            if is_chained(left, always, row, column) {
+                left.set(row, column, NONE);
+            } else {
+                forms.push(bound_form(left, row, column, alloc)?)?;
+            }
+        }
+    }
+    Ok(())
+}
+
 // The facts of a key that are claimed, with limits or without.
 fn claimed_facts(
     search: &PathSearch<'_>,
@@ -160,18 +183,7 @@ fn claimed_facts(
     let mut left = facts.copied(alloc)?;
     leave_out(&mut left, &always, with_limits);
     let mut forms = Vec::new(alloc);
-    for row in 0..left.size() {
-        for column in 0..left.size() {
-            if row == column || left.at(row, column) == NONE {
-                continue;
-            }
-            if is_chained(&left, &always, row, column) {
-                left.set(row, column, NONE);
-            } else {
-                forms.push(bound_form(&left, row, column, alloc)?)?;
-            }
-        }
-    }
+    take_unchained(&mut left, &always, &mut forms, alloc)?;
     Ok(forms)
 }
 
@@ -218,6 +230,23 @@ fn cut(
     }))
 }
 
+// The cut points of the keys, in order.
+fn cuts_of(
+    search: &PathSearch<'_>,
+    keys: &Keys,
+    known: &KnownClaims,
+) -> Result<Vec<Cut>, SearchStop> {
+    let with_limits = has_limits(search, keys)?;
+    let mut cuts: Vec<Cut> = Vec::new(search.alloc);
+    for place in 1..keys.keys.len() {
+        if let Some(cut) = cut(search, keys, place, known, with_limits)? {
+            cuts.push(cut)?;
+        }
+    }
+    cuts.sort_by_key(|cut| cut.point)?;
+    Ok(cuts)
+}
+
 // The claims.
 pub fn claims_of(
     search: &PathSearch<'_>,
@@ -233,14 +262,7 @@ pub fn claims_of(
         Some(types) => polynomial(types),
         None => None,
     };
-    let with_limits = has_limits(search, keys)?;
-    let mut cuts: Vec<Cut> = Vec::new(search.alloc);
-    for place in 1..keys.keys.len() {
-        if let Some(cut) = cut(search, keys, place, known, with_limits)? {
-            cuts.push(cut)?;
-        }
-    }
-    cuts.sort_by_key(|cut| cut.point)?;
+    let cuts = cuts_of(search, keys, known)?;
     Ok(Claims {
         commands,
         size,

@@ -2,19 +2,19 @@
 use Rattle.teco_outcomes.proofs.Prelude.{◌≡◌, ℕ, zero, suc, ◌+◌, ◌<◌, ◌≤◌, inl, inr, ℤ, pos, negsuc, List, [], ◌∷◌}
 use Rattle.teco_outcomes.proofs.Prelude.{◌++◌, length, Bool, true, false, Option, Some, None, Result, Ok, Err}
 use Rattle.teco_outcomes.proofs.Prelude.{if◌then◌else◌, get_or, slice_index_or, refl, sym, ap, subst, ◌∙◌, arith, ◌⊎◌}
-use Rattle.teco_outcomes.proofs.Prelude.{FitsSigned, w32, neg_ℤ, ◌-ℤ◌, ◌≤ℤ◌, nat_tests, ints, All, is_line_end}
+use Rattle.teco_outcomes.proofs.Prelude.{FitsSigned, w32, neg_ℤ, ◌-ℤ◌, nat_tests, ints, All, is_line_end}
 use Rattle.teco_outcomes.proofs.Prelude.{line_place, Code, Term, Valuation, value, level_with, levels_after_answer}
 use Rattle.teco_outcomes.proofs.Prelude.{levels_after_taking, value_beside, ◌>>=◌, Effect, after, Kept}
 use Rattle.teco_outcomes.proofs.Prelude.{after_query_with, Level, Operator, IsWhole, Case, Value, One, Single, Steps}
 use Rattle.teco_outcomes.proofs.Prelude.{Pointer, Size, Held, LineEnd, LineStart, LastLength, CodeHere, CodeBefore}
-use Rattle.teco_outcomes.proofs.Prelude.{Typed, Guarded, Outcomes, Clause, Places, value_if, AreCommanded, Leads}
+use Rattle.teco_outcomes.proofs.Prelude.{Typed, Guarded, Outcomes, Clause, Places, value_if, Leads}
 use Rattle.teco_outcomes.proofs.Prelude.{commanded, Describe, GivesAny, Succeeds, with_level, Before, changed, Point}
 use Rattle.teco_outcomes.proofs.Prelude.{IsShape, IsTrueOf, Describes, behind, code_here, each, single, read_at, IsEnd}
-use Rattle.teco_outcomes.proofs.Prelude.{above_or, clash, ends, line_begin, line_end, value_there, IsWay, by, Asks}
+use Rattle.teco_outcomes.proofs.Prelude.{above_or, clash, ends, line_begin, line_end, value_there, Asks}
 use Rattle.std.proofs.Common.{◌-◌, ◌^◌, ◌%◌}
 use Rattle.std.proofs.Common.{take, drop, codes}
 use Rattle.std.proofs.Common.{length-append, length-drop, length-take}
-use Rattle.std.proofs.lemmas.List.Elements.{All-pop, All-push}
+use Rattle.std.proofs.lemmas.List.Elements.{All-more, All-pop, All-push, All-weaker}
 use Rattle.std.proofs.lemmas.Fmt.{decimal_by_steps, decimal_nonempty, length-decimal-le}
 use Rattle.std.proofs.lemmas.Int.{SFits-int_wrap}
 use Rattle.std.proofs.lemmas.List.{get_or-append_right, get_or-drop, get_or_append_left}
@@ -28,25 +28,25 @@ use Rattle.teco_base.specs.Text.{text_after_insertion}
 use Rattle.teco_base.specs.declared.TheConstants.{LIMIT}
 use Rattle.teco_linear.specs.Implied as linear
 use Rattle.teco_model.specs.Conversion.{is_minus, number_at, number_here, reading, sign_len, signed_value}
-use Rattle.teco_model.specs.Effect.{no_answer}
 use Rattle.teco_model.specs.Insertion.{insertion_of}
 use Rattle.teco_model.specs.declared.kind.Query.TheVariants.{Conversion}
-use Rattle.teco_rows.specs.declared.commands.Way as command
 use Rattle.teco_rows.specs.declared.levels.TheConstants.{NO}
 use Rattle.teco_rows.specs.declared.row.Clause.TheVariants.{Wants}
+use Rattle.teco_rows.specs.Commands.{IsCommanded}
 use Rattle.teco_rows.specs.Foretold.{IsGuarded}
 use Rattle.teco_rows.specs.Rows.{AreMet}
 use Rattle.teco_rows.proofs.Characters.{with_codes}
-use Rattle.teco_rows.proofs.Leading.{leads_singles, performed}
+use Rattle.teco_rows.proofs.Leading.{leads_singles}
 use Rattle.teco_rows.proofs.Lines.{one_begin, one_end}
 use Rattle.teco_outcomes.specs.declared.conversions.NumberSpan.{NumberSpan}
-use Rattle.teco_outcomes.specs.declared.conversions.TheConstants.{ALL, BELOW, FEW, FURTHER, LAST, LONG, LONGER, MANY}
-use Rattle.teco_outcomes.specs.declared.conversions.TheConstants.{MORE, MOVES, NUMBER, ONE, READS}
+use Rattle.teco_outcomes.specs.declared.conversions.TheConstants.{BELOW, FEW, FURTHER, LAST, LONG, LONGER, MANY}
+use Rattle.teco_outcomes.specs.declared.conversions.TheConstants.{MORE, MOST, MOVES, NUMBER, ONE, READS, SPANS}
 use Rattle.teco_outcomes.specs.declared.conversions.TheConstants.{READS_DIGIT, READS_HIGH, READS_LOW}
 use Rattle.teco_command_outcomes.specs.declared.motions.TheConstants.{ANY_BEFORE}
 use Rattle.teco_command_outcomes.specs.Changes.{IsChangedFrom, read_given, with_kept}
-use Rattle.teco_outcomes.specs.Conversions.{AddsRoom, FitsIn, HasRoomFor, IsBehindNumber, IsStanding, ReadsNumber}
-use Rattle.teco_outcomes.specs.Conversions.{WritesNumber, kept_behind_number}
+use Rattle.teco_outcomes.specs.Conversions.{AddsGiven, AreBehindNumber, AreWithin, GivesAmong, HasRoomFor}
+use Rattle.teco_outcomes.specs.Conversions.{HasRoomWithin, IsBehindNumber, IsLeftBehind, IsStanding, IsWithin}
+use Rattle.teco_outcomes.specs.Conversions.{IsWritten, IsWrittenAmong, ReadsNumber, WritesNumber, kept_behind_number}
 use Rattle.teco_command_outcomes.specs.Deletions.{IsDone}
 use Rattle.teco_command_outcomes.proofs.Changing.{changes_plainly, changes_singles}
 use Rattle.teco_command_outcomes.proofs.Codes.{grown_here, here_dropped}
@@ -336,19 +336,12 @@ module _ (s : Point) (here : Places) (given : ℕ → ℤ) (new : List ℕ) (ins
         singles CodeBefore = ap Some (omega (arith, ints))
         singles Typed = refl
 
--- a number is within bounds, and its text is not longer than they say
-pub record IsWithin (span : NumberSpan) (x : ℤ) : Type 0 where
-  least : span.least ≤ℤ x
-  most : x ≤ℤ span.most
-  some : 1 ≤ length (decimal x)
-  few : length (decimal x) ≤ span.long
-
 -- each number of 32 bits is within the bounds of one of these
 data IsOneOf (x : ℤ) : Type 0 where
   is_one : IsWithin ONE x → IsOneOf x
   is_few : IsWithin FEW x → IsOneOf x
   is_many : IsWithin MANY x → IsOneOf x
-  is_most : IsWithin ALL x → IsOneOf x
+  is_most : IsWithin MOST x → IsOneOf x
   is_below : IsWithin BELOW x → IsOneOf x
 
 one_of : (x : ℤ) → FitsSigned w32 x → IsOneOf x
@@ -391,90 +384,136 @@ one_of (negsuc m) fits =
       few = omega (arith, most);
     })
 
--- what is asked and done of a number within bounds
-pub record IsWritten (case : Case) (ways : List command.Way) (form : List Term) (all : Outcomes) (span : NumberSpan) :
-    Type 0 where
-  pub room : (n : ℕ) (v : Valuation) (s : Point)
-      → IsTrueOf n v case s → All (IsGuarded n v) all.guarded.items → FitsIn span n v form s
-  pub place : ℕ
-  pub row : List Clause
-  pub way : IsWay ways place row
-  pub is : row ≡ written (neg_ℤ span.least) span.most (negsuc 0) (pos span.long)
+-- the case behind a row for a number within bounds
+pub is_written : (case made : Case) (given : List (List Term)) (span : NumberSpan) (here : Places) (row : List Clause)
+    (low high size : ℤ) → IsCommanded case row given here made → row ≡ written low high (negsuc 0) size
+    → low ≡ neg_ℤ span.least → high ≡ span.most → size ≡ pos span.long
+    → IsWritten case (slice_index_or given 0 []) span made
+is_written case made given span here row low high size leads_to e same_low same_high same_size n v s true_of whole fits
+    w room =
+    let form = slice_index_or given 0 [] in
+    let new = decimal (value form n v) in
+    let plain : line_place new (length new) (pos 0) ≡ 0 = one_line new (written_plain (value form n v) fits) in
+    let small : length (text_after_insertion s.kept.text s.kept.pointer new) ≤ LIMIT =
+    omega (arith, grown_long s.kept.text new s.kept.pointer whole.inside, w.few, room) in
+    let behind_it : Describes n made (commanded s (kept_with new s.kept) None) =
+    leads_to n v s (kept_with new s.kept) None (written_behind s.kept new) true_of
+    (writes s here (λ i. value (slice_index_or given i []) n v) new whole.inside plain row low high (negsuc 0) size
+    e (
+      omega (arith, ints, same_low, w.least),
+      (
+        omega (arith, ints, same_high, w.most),
+        (omega (arith, ints, w.some), (omega (arith, ints, same_size, w.few), tt)),
+      ),
+    )) in
+    subst (Succeeds (λ effect. Describes n made (commanded s effect.kept effect.answer)))
+    (sym (inserted new s.kept small)) behind_it
 
-pub record AreWritten (case : Case) (ways : List command.Way) (form : List Term) (all : Outcomes) : Type 0 where
-  pub one : IsWritten case ways form all ONE
-  pub few : IsWritten case ways form all FEW
-  pub many : IsWritten case ways form all MANY
-  pub most : IsWritten case ways form all ALL
-  pub below : IsWritten case ways form all BELOW
+succeeds_more : {X : Type 0} (P Q : X → Type 0) (r : Result X Code) → ((x : X) → P x → Q x) → Succeeds P r
+    → Succeeds Q r
+succeeds_more P Q (Ok x) f h = f x h
+succeeds_more P Q (Err c) f h = h
 
-pub writes_number : (case : Case) (ways : List command.Way) (form : List Term) (here : Places) (all : Outcomes)
-    → AreCommanded case ways (form ∷ []) here all.cases.items → AreWritten case ways form all
+-- one of two lists of cases has one that describes a state
+in_first : (n : ℕ) (s : Point) (a b : List Case) → Any (λ case. Describes n case s) a
+    → Any (λ case. Describes n case s) (a ++ b)
+in_first n s a b h =
+    (h.0, h.1, omega (arith, h.2, length-append a b), get_or_append_left a b h.1 h.0 h.2 ∙ h.3, h.4)
+
+in_second : (n : ℕ) (s : Point) (a b : List Case) → Any (λ case. Describes n case s) b
+    → Any (λ case. Describes n case s) (a ++ b)
+in_second n s a b h =
+    let same : length a + h.0 - length a ≡ h.0 = omega arith in (
+      length a + h.0,
+      h.1,
+      omega (arith, h.2, length-append a b),
+      get_or-append_right a b (length a) (length a + h.0) h.1 refl (omega arith) ∙ ap (λ k. get_or b k h.1) same ∙ h.3,
+      h.4,
+    )
+
+in_last : (n : ℕ) (s : Point) (cases more : List Case) (last : Case) → more ≡ cases ++ last ∷ []
+    → Describes n last s → Any (λ case. Describes n case s) more
+in_last n s cases more last items d =
+    subst (Any (λ case. Describes n case s)) (sym items)
+    (in_second n s cases (last ∷ []) (0, last, omega arith, refl, d))
+
+in_more : (n : ℕ) (s : Point) (cases rest more : List Case) → more ≡ cases ++ rest
+    → Any (λ case. Describes n case s) cases → Any (λ case. Describes n case s) more
+in_more n s cases rest more items h =
+    subst (Any (λ case. Describes n case s)) (sym items) (in_first n s cases rest h)
+
+pub more_written : (case : Case) (form : List Term) (spans : List NumberSpan) (i : ℕ) (d : NumberSpan)
+    (cases more : List Case) (after : Case) → i < length spans → more ≡ cases ++ after ∷ []
+    → All (IsWrittenAmong case form cases) (take i spans) → IsWritten case form (get_or spans i d) after
+    → All (IsWrittenAmong case form more) (take (i + 1) spans)
+more_written case form spans i d cases more after less items all last =
+    All-more (IsWrittenAmong case form more) spans i d less
+    (All-weaker (IsWrittenAmong case form cases) (IsWrittenAmong case form more)
+    (λ span is n v s t whole fits w room.
+    succeeds_more _ _ (insertion_of (decimal (value form n v)) s.kept)
+    (λ effect. in_more n (commanded s effect.kept effect.answer) cases (after ∷ []) more items)
+    (is n v s t whole fits w room)) (take i spans) all)
+    (λ n v s t whole fits w room.
+    succeeds_more _ _ (insertion_of (decimal (value form n v)) s.kept)
+    (λ effect. in_last n (commanded s effect.kept effect.answer) cases more after items)
+    (last n v s t whole fits w room))
+
+pub writes_number : (case : Case) (form : List Term) (all : Outcomes)
+    → All (HasRoomWithin case form all.guarded.items) SPANS → All (IsWrittenAmong case form all.cases.items) SPANS
     → ((n : ℕ) (v : Valuation) → All (linear.Holds n v) all.conditions.items → FitsSigned w32 (value form n v))
     → WritesNumber form case all
-writes_number case ways form here all are spans fits n v s begins = by_span (one_of x r) where
+writes_number case form all has are fits n v s begins = by_span (one_of x r) where
   x : ℤ
   x = value form n v
-
-  new : List ℕ
-  new = decimal x
 
   r : FitsSigned w32 x
   r = fits n v begins.conditions
 
-  plain : line_place new (length new) (pos 0) ≡ 0
-  plain = one_line new (written_plain x r)
-
-  within : (span : NumberSpan) → IsWritten case ways form all span → IsWithin span x
+  within : (span : NumberSpan) → HasRoomWithin case form all.guarded.items span
+      → IsWrittenAmong case form all.cases.items span → IsWithin span x
       → IsDone n all s (insertion_of (decimal x) s.kept)
-  within span is w =
-      let room : length s.kept.text + span.long ≤ LIMIT =
-      is.room n v s begins.true_of begins.guarded w.least w.most in
-      let small : length (text_after_insertion s.kept.text s.kept.pointer new) ≤ LIMIT =
-      omega (arith, grown_long s.kept.text new s.kept.pointer begins.whole.inside, w.few) in
-      performed n all s _ (no_answer (kept_with new s.kept)) (inserted new s.kept small)
-      (by n v case ways (form ∷ []) here all is.place is.row s (kept_with new s.kept) None
-      (written_behind s.kept new) are
-      is.way begins.true_of
-      (writes s here (λ i. value (slice_index_or (form ∷ []) i []) n v) new begins.whole.inside plain is.row
-      (neg_ℤ span.least) span.most (negsuc 0) (pos span.long) is.is (
-        omega (arith, ints, w.least),
-        (omega (arith, ints, w.most), (omega (arith, ints, w.some), (omega (arith, ints, w.few), tt))),
-      )))
+  within span room is w =
+      is n v s begins.true_of begins.whole r w (room n v s begins.true_of begins.guarded w.least w.most)
 
   by_span : IsOneOf x → IsDone n all s (insertion_of (decimal x) s.kept)
-  by_span (is_one w) = within ONE spans.one w
-  by_span (is_few w) = within FEW spans.few w
-  by_span (is_many w) = within MANY spans.many w
-  by_span (is_most w) = within ALL spans.most w
-  by_span (is_below w) = within BELOW spans.below w
+  by_span (is_one w) = within ONE (has 0 ONE (omega arith)) (are 0 ONE (omega arith)) w
+  by_span (is_few w) = within FEW (has 1 ONE (omega arith)) (are 1 ONE (omega arith)) w
+  by_span (is_many w) = within MANY (has 2 ONE (omega arith)) (are 2 ONE (omega arith)) w
+  by_span (is_most w) = within MOST (has 3 ONE (omega arith)) (are 3 ONE (omega arith)) w
+  by_span (is_below w) = within BELOW (has 4 ONE (omega arith)) (are 4 ONE (omega arith)) w
 
 -- ---- room
-pub has_room : (case : Case) (form : List Term) (span : NumberSpan) (guarded : Guarded) (least most : List Term)
-    (others : List (List Term)) → guarded.symbols ≡ case.symbols
+pub are_within : (case : Case) (form : List Term) (span : NumberSpan) (least most : List Term)
+    (others constraints : List (List Term))
     → ((n : ℕ) (v : Valuation) → All (linear.Holds n v) case.constraints.items → All (linear.Holds n v) others)
     → ((n : ℕ) (v : Valuation) → value least n v ≡ value form n v -ℤ span.least)
     → ((n : ℕ) (v : Valuation) → value most n v ≡ span.most -ℤ value form n v)
-    → guarded.constraints.items ≡ (others ++ least ∷ []) ++ most ∷ []
-    → ((n : ℕ) (v : Valuation) (s : Point) → IsTrueOf n v case s
-    → value guarded.wanted n v ≡ pos LIMIT -ℤ pos (length s.kept.text) -ℤ pos span.long)
-    → HasRoomFor case form span guarded
-has_room case form span guarded least most others symbols copies least_is most_is items wanted n v s true_of holds low
-    high =
+    → constraints ≡ (others ++ least ∷ []) ++ most ∷ [] → AreWithin case form span constraints
+are_within case form span least most others constraints copies least_is most_is items n v known low high =
     let H = linear.Holds n v in
-    let known = copies n v true_of.fits.constraints in
     let above : H least = omega (arith, ints, least_is n v, low) in
     let below : H most = omega (arith, ints, most_is n v, high) in
-    let asked = All-push H (others ++ least ∷ []) most (All-push H others least known above) below in
-    let so : H guarded.wanted = holds v (λ symbol h. refl) (subst (All H) (sym items) asked) in
-    omega (arith, ints, so, wanted n v s true_of)
+    subst (All H) (sym items)
+    (All-push H (others ++ least ∷ []) most (All-push H others least (copies n v known) above) below)
 
-pub adds_room : (case : Case) (form : List Term) (span : NumberSpan) (asked all : List Guarded) (guarded : Guarded)
-    → all ≡ asked ++ guarded ∷ [] → HasRoomFor case form span guarded → AddsRoom case form span asked all
-adds_room case form span asked all guarded items has = record {
-  others = λ n v h. (All-pop (IsGuarded n v) all asked (Some guarded) items h).0;
-  room = λ n v s t h. has n v s t (All-pop (IsGuarded n v) all asked (Some guarded) items h).1;
-}
+pub has_room : (case : Case) (form : List Term) (span : NumberSpan) (guarded : Guarded)
+    → AreWithin case form span guarded.constraints.items → IsLeftBehind case span.long guarded.wanted
+    → HasRoomFor case form span guarded
+has_room case form span guarded within left n v s true_of holds low high =
+    let so : linear.Holds n v guarded.wanted =
+    holds v (λ symbol h. refl) (within n v true_of.fits.constraints low high) in
+    omega (arith, ints, so, left n v s true_of)
+
+pub more_rooms : (case : Case) (form : List Term) (spans : List NumberSpan) (i : ℕ) (d : NumberSpan)
+    (asked more : List Guarded) (guarded : Guarded) → i < length spans → more ≡ asked ++ guarded ∷ []
+    → All (HasRoomWithin case form asked) (take i spans) → HasRoomFor case form (get_or spans i d) guarded
+    → All (HasRoomWithin case form more) (take (i + 1) spans)
+more_rooms case form spans i d asked more guarded less items all last =
+    All-more (HasRoomWithin case form more) spans i d less
+    (All-weaker (HasRoomWithin case form asked) (HasRoomWithin case form more)
+    (λ span has n v s t h. has n v s t (All-pop (IsGuarded n v) more asked (Some guarded) items h).0)
+    (take i spans) all)
+    (λ n v s t h. last n v s t (All-pop (IsGuarded n v) more asked (Some guarded) items h).1)
 
 -- ---- what is asked
 pub stands_alone : (case : Case) (form : Option (List Term)) (operator : Option Operator) → operator ≡ None
@@ -536,49 +575,40 @@ digit_or k = elim (above_or 49 k) [
   | inr h ↦ inr (inl (omega arith))
 ]
 
--- one of two lists of cases has one that describes a state
-in_first : (n : ℕ) (s : Point) (a b : List Case) → Any (λ case. Describes n case s) a
-    → Any (λ case. Describes n case s) (a ++ b)
-in_first n s a b h =
-    (h.0, h.1, omega (arith, h.2, length-append a b), get_or_append_left a b h.1 h.0 h.2 ∙ h.3, h.4)
+pub more_given : (cases made more : List Case) (i : ℕ) (d : Case) → i < length made
+    → All (GivesAmong cases) (take i made) → AddsGiven (get_or made i d) cases more
+    → All (GivesAmong more) (take (i + 1) made)
+more_given cases made more i d less all adds =
+    All-more (GivesAmong more) made i d less
+    (All-weaker (GivesAmong cases) (GivesAmong more)
+    (λ case gives n v s x t fits.
+    succeeds_more _ _ (level_with x s.arguments.level)
+    (λ level. in_more n (behind_with s level) cases adds.given more adds.items)
+    (gives n v s x t fits)) (take i made) all)
+    (λ n v s x t fits.
+    succeeds_more _ _ (level_with x s.arguments.level)
+    (λ level h. subst (Any (λ case. Describes n case (behind_with s level)))
+    (sym adds.items) (in_second n (behind_with s level) cases adds.given h))
+    (adds.gives n v s x t fits)) where
+      behind_with : Point → Level → Point
+      behind_with s level = behind s (with_level s level)
 
-in_second : (n : ℕ) (s : Point) (a b : List Case) → Any (λ case. Describes n case s) b
-    → Any (λ case. Describes n case s) (a ++ b)
-in_second n s a b h =
-    let same : length a + h.0 - length a ≡ h.0 = omega arith in (
-      length a + h.0,
-      h.1,
-      omega (arith, h.2, length-append a b),
-      get_or-append_right a b (length a) (length a + h.0) h.1 refl (omega arith) ∙ ap (λ k. get_or b k h.1) same ∙ h.3,
-      h.4,
-    )
+pub reads_known : (case : Case) (made : List Case) (all : Outcomes) → AreBehindNumber case made
+    → All (GivesAmong all.cases.items) made → ReadsNumber case all
+reads_known case made all are gives n v s begins =
+    let there = are n v s begins.true_of begins.whole in
+    let same : get_or made there.0 there.1 ≡ there.1 = there.3 in
+    let given : GivesAmong all.cases.items there.1 =
+    subst (GivesAmong all.cases.items) same (gives there.0 there.1 there.2) in
+    given n there.4.0 (with_kept s (kept_behind_number s.kept)) (number_here s.kept).number there.4.1
+    (number_fits (drop s.kept.pointer s.kept.text))
 
-succeeds_more : {X : Type 0} (P Q : X → Type 0) (r : Result X Code) → ((x : X) → P x → Q x) → Succeeds P r
-    → Succeeds Q r
-succeeds_more P Q (Ok x) f h = f x h
-succeeds_more P Q (Err c) f h = h
-
-pub reads_known : (case digit low high : Case) (one two three all : Outcomes) → IsChangedFrom case READS_DIGIT [] digit
-    → IsChangedFrom case READS_LOW [] low → IsChangedFrom case READS_HIGH [] high → GivesAny digit one
-    → GivesAny low two → GivesAny high three
-    → all.cases.items ≡ one.cases.items ++ (two.cases.items ++ three.cases.items) → ReadsNumber case all
-reads_known case digit low high one two three all at_digit at_low at_high gives_one gives_two gives_three items n v s
-    begins = by_code (digit_or (code_here s.kept.text s.kept.pointer)) where
-      whole : IsWhole s.kept
-      whole = begins.whole
-
-      x : ℤ
-      x = (number_here s.kept).number
-
-      fits : FitsSigned w32 x
-      fits = number_fits (drop s.kept.pointer s.kept.text)
-
-      next : Level → Point
-      next level = behind (with_kept s (kept s whole)) (with_level (with_kept s (kept s whole)) level)
-
-      Given : Type 0
-      Given = Succeeds (λ level. Describe n all (next level)) (level_with x s.arguments.level)
-
+pub behind_known : (case digit low high : Case) (made : List Case) → IsChangedFrom case READS_DIGIT [] digit
+    → IsChangedFrom case READS_LOW [] low → IsChangedFrom case READS_HIGH [] high
+    → made ≡ digit ∷ low ∷ high ∷ [] → AreBehindNumber case made
+behind_known case digit low high made at_digit at_low at_high items n v s true_of whole =
+    subst (Any (λ case. Describes n case (with_kept s (kept_behind_number s.kept)))) (sym items)
+    (by_code (digit_or (code_here s.kept.text s.kept.pointer))) where
       moved : 49 ≤ code_here s.kept.text s.kept.pointer → code_here s.kept.text s.kept.pointer ≤ 58
           → s.kept.pointer + 1 ≤ (kept s whole).pointer
       moved l h =
@@ -586,42 +616,29 @@ reads_known case digit low high one two three all at_digit at_low at_high gives_
           omega (arith, digit_read (drop s.kept.pointer s.kept.text) (omega (arith, same, l)) (omega (arith, same, h)))
 
       by_code : ((49 ≤ code_here s.kept.text s.kept.pointer) × (code_here s.kept.text s.kept.pointer ≤ 58))
-          ⊎ ((code_here s.kept.text s.kept.pointer ≤ 48) ⊎ (59 ≤ code_here s.kept.text s.kept.pointer)) → Given
+          ⊎ ((code_here s.kept.text s.kept.pointer ≤ 48) ⊎ (59 ≤ code_here s.kept.text s.kept.pointer))
+          → Any (λ case. Describes n case (with_kept s (kept s whole))) (digit ∷ low ∷ high ∷ [])
       by_code (inl c) =
           let d = changes_plainly case digit READS_DIGIT [] at_digit n v s (kept s whole) s.unread (behind_it s whole)
-          begins.true_of (λ here. changes_singles READS_DIGIT (read_given [] n v s (behind_it s whole) here) s
+          true_of (λ here. changes_singles READS_DIGIT (read_given [] n v s (behind_it s whole) here) s
           (kept s whole) s.unread refl refl (
             omega (arith, ints, moved c.0 c.1),
             (omega (arith, ints, in_line s whole), (omega (arith, ints, c.0), (omega (arith, ints, c.1), tt))),
-          ) (digit_singles s whole n v here)) in
-          succeeds_more _ _ (level_with x s.arguments.level)
-          (λ level h. subst (Any (λ case. Describes n case (next level)))
-          (sym items) (in_first n (next level) one.cases.items (two.cases.items ++ three.cases.items) h))
-          (gives_one n d.0 (with_kept s (kept s whole)) x d.1 fits)
+          ) (digit_singles s whole n v here)) in (0, digit, omega arith, refl, d)
       by_code (inr (inl c)) =
           let d = changes_plainly case low READS_LOW [] at_low n v s (kept s whole) s.unread (behind_it s whole)
-          begins.true_of (λ here. changes_singles READS_LOW (read_given [] n v s (behind_it s whole) here) s
+          true_of (λ here. changes_singles READS_LOW (read_given [] n v s (behind_it s whole) here) s
           (kept s whole) s.unread refl refl (
             omega (arith, ints, order s whole),
             (omega (arith, ints, in_line s whole), (omega (arith, ints, c), tt)),
-          ) (low_singles s whole n v here)) in
-          succeeds_more _ _ (level_with x s.arguments.level)
-          (λ level h. subst (Any (λ case. Describes n case (next level)))
-          (sym items) (in_second n (next level) one.cases.items (two.cases.items ++ three.cases.items)
-          (in_first n (next level) two.cases.items three.cases.items h)))
-          (gives_two n d.0 (with_kept s (kept s whole)) x d.1 fits)
+          ) (low_singles s whole n v here)) in (1, low, omega arith, refl, d)
       by_code (inr (inr c)) =
           let d = changes_plainly case high READS_HIGH [] at_high n v s (kept s whole) s.unread (behind_it s whole)
-          begins.true_of (λ here. changes_singles READS_HIGH (read_given [] n v s (behind_it s whole) here) s
+          true_of (λ here. changes_singles READS_HIGH (read_given [] n v s (behind_it s whole) here) s
           (kept s whole) s.unread refl refl (
             omega (arith, ints, order s whole),
             (omega (arith, ints, in_line s whole), (omega (arith, ints, c), tt)),
-          ) (high_singles s whole n v here)) in
-          succeeds_more _ _ (level_with x s.arguments.level)
-          (λ level h. subst (Any (λ case. Describes n case (next level)))
-          (sym items) (in_second n (next level) one.cases.items (two.cases.items ++ three.cases.items)
-          (in_second n (next level) two.cases.items three.cases.items h)))
-          (gives_three n d.0 (with_kept s (kept s whole)) x d.1 fits)
+          ) (high_singles s whole n v here)) in (2, high, omega arith, refl, d)
 
 pub read_asked : (case : Case) (form : Option (List Term)) (all : Outcomes) → form ≡ None → IsStanding case form
     → ReadsNumber case all → (colons : ℕ) → Asks Conversion colons case all

@@ -5,15 +5,16 @@ ghost use Rattle.teco_model.specs.declared.kind.Kind.TheVariants as kinds;
 ghost use Rattle.teco_outcomes.specs.Characters.{AnswersCode, GivesCharacter};
 ghost use Rattle.teco_flow_outcomes.specs.Law.{Law};
 
+use crate::ways::any_way;
 use std::alloc::Global;
 use teco_command_outcomes::motions::{CODE_BEFORE, CODE_HERE, LINE_END, LINE_START, POINTER, SIZE};
 use teco_linear::Form;
 use teco_model::kind::Page;
 use teco_rows::case::Case;
-use teco_rows::commands::{TakenForms, Way, commands, take_arguments};
+use teco_rows::commands::{TakenForms, Way, take_arguments};
 use teco_rows::fault::RowFault;
 use teco_rows::forms::is_number;
-use teco_rows::levels::{NO, VALUE, at_level};
+use teco_rows::levels::{NO, VALUE};
 use teco_rows::outcomes::Outcomes;
 use teco_rows::row::{Clause, Of};
 
@@ -129,7 +130,6 @@ const HIGH_THERE: [Clause; 4] = [GIVES_THERE, HIGH_FROM_THERE, HIGH_TO_THERE, SA
 fn character_here(case: &Case, alloc: Global) -> Result<Outcomes, RowFault>
     ensures { IfOk result (λ all. AnswersCode (pos 0) case.now all) }
 {
-    let here = at_level(case)?;
     let ways = [
         Way {
             answers: &ENDS_HERE,
@@ -148,20 +148,13 @@ fn character_here(case: &Case, alloc: Global) -> Result<Outcomes, RowFault>
             does: &[],
         },
     ];
-    let cases = commands(case, &ways, &[], here, alloc)?;
-    Ok(Outcomes {
-        conditions: Vec::new(alloc),
-        guarded: Vec::new(alloc),
-        cases,
-        away: Vec::new(alloc),
-    })
+    any_way(case, &ways, &[], alloc)
 }
 
 // So is that of the one before it. It says whether the line starts at the pointer.
 fn character_before(case: &Case, alloc: Global) -> Result<Outcomes, RowFault>
     ensures { IfOk result (λ all. AnswersCode (negsuc 0) case.now all) }
 {
-    let here = at_level(case)?;
     let ways = [
         Way {
             answers: &ENDS_THERE,
@@ -180,20 +173,13 @@ fn character_before(case: &Case, alloc: Global) -> Result<Outcomes, RowFault>
             does: &[],
         },
     ];
-    let cases = commands(case, &ways, &[], here, alloc)?;
-    Ok(Outcomes {
-        conditions: Vec::new(alloc),
-        guarded: Vec::new(alloc),
-        cases,
-        away: Vec::new(alloc),
-    })
+    any_way(case, &ways, &[], alloc)
 }
 
 // The code of a character so far from the pointer is answered, or -1.
 fn character_at(case: &Case, by: Form, alloc: Global) -> Result<Outcomes, RowFault>
     ensures { IfOk result (λ all. GivesCharacter by case.now all) }
 {
-    let here = at_level(case)?;
     let ways = [
         Way {
             answers: &INSIDE,
@@ -208,13 +194,7 @@ fn character_at(case: &Case, by: Form, alloc: Global) -> Result<Outcomes, RowFau
             does: &[],
         },
     ];
-    let cases = commands(case, &ways, &[by], here, alloc)?;
-    Ok(Outcomes {
-        conditions: Vec::new(alloc),
-        guarded: Vec::new(alloc),
-        cases,
-        away: Vec::new(alloc),
-    })
+    any_way(case, &ways, &[by], alloc)
 }
 
 // The code of a character is answered; of those at the pointer and before it more is known.

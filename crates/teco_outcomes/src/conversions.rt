@@ -1,8 +1,11 @@
 //! What comes of `\`, which reads a number at the pointer, or writes one.
-ghost use Rattle.std.specs.Prelude.{◌≡◌, ◌++◌, ℕ, IfOk};
-ghost use Rattle.teco_outcomes.specs.Conversions.{AddsRoom, IsBehindNumber, IsStanding, ReadsNumber};
-ghost use Rattle.teco_outcomes.specs.Conversions.{HasRoomFor, WritesNumber};
+ghost use Rattle.std.specs.Prelude.{[], ℕ, IfOk, OnOk, slice_index_or};
+ghost use Rattle.std.specs.List.{All};
+ghost use Rattle.teco_outcomes.specs.Conversions.{AddsChanged, AddsGiven, AreBehindNumber, AreWithin, GivesAmong};
+ghost use Rattle.teco_outcomes.specs.Conversions.{HasRoomFor, HasRoomWithin, IsBehindNumber, IsLeftBehind, IsStanding};
+ghost use Rattle.teco_outcomes.specs.Conversions.{IsWritten, IsWrittenAmong, ReadsNumber, WritesNumber};
 ghost use Rattle.teco_outcomes.specs.Queries.{Asks};
+ghost use Rattle.teco_rows.specs.Commands.{IsAtLevel};
 
 use std::alloc::Global;
 use teco_base::LIMIT;
@@ -16,13 +19,13 @@ use teco_linear::Form;
 use teco_model::kind::Query;
 use teco_rows::applied::copied_constraints;
 use teco_rows::case::Case;
-use teco_rows::commands::{Way, commands};
+use teco_rows::commands::{Way, command};
 use teco_rows::fault::RowFault;
 use teco_rows::forms::{single, within_32_bits};
 use teco_rows::levels::{NO, at_level, give_any, pending, waiting};
 use teco_rows::measure::{Family, Single};
 use teco_rows::outcomes::{Guarded, Outcomes};
-use teco_rows::row::{Clause, Mark, Of};
+use teco_rows::row::{Clause, Mark, Of, Places};
 
 // Where the number ends.
 const PLACE: Of = Of::Unknown(0);
@@ -84,9 +87,9 @@ const LAST: Clause = Clause::Sets(Mark::One(Single::LastLength), 0, [(1, LONG), 
 // The bounds of a number, and the most characters that one within them has.
 #[derive(Clone, Copy)]
 struct NumberSpan {
-    least: i64,
-    most: i64,
-    long: usize,
+    least: i32,
+    most: i32,
+    long: u8,
 }
 
 const ONE: NumberSpan = NumberSpan {
@@ -107,7 +110,7 @@ const MANY: NumberSpan = NumberSpan {
     long: 9,
 };
 
-const ALL: NumberSpan = NumberSpan {
+const MOST: NumberSpan = NumberSpan {
     least: 1_000_000_000,
     most: 2_147_483_647,
     long: 10,
@@ -119,71 +122,8 @@ const BELOW: NumberSpan = NumberSpan {
     long: 11,
 };
 
-// What is written of a number within those bounds.
-const WRITES_ONE: [Clause; 10] = [
-    ANY_BEFORE,
-    MOVES,
-    LONGER,
-    MORE,
-    FURTHER,
-    LAST,
-    Clause::Wants(0, [(1, NUMBER), NO, NO, NO]),
-    Clause::Wants(9, [(-1, NUMBER), NO, NO, NO]),
-    Clause::Wants(-1, [(1, LONG), NO, NO, NO]),
-    Clause::Wants(1, [(-1, LONG), NO, NO, NO]),
-];
-
-const WRITES_FEW: [Clause; 10] = [
-    ANY_BEFORE,
-    MOVES,
-    LONGER,
-    MORE,
-    FURTHER,
-    LAST,
-    Clause::Wants(-10, [(1, NUMBER), NO, NO, NO]),
-    Clause::Wants(999, [(-1, NUMBER), NO, NO, NO]),
-    Clause::Wants(-1, [(1, LONG), NO, NO, NO]),
-    Clause::Wants(3, [(-1, LONG), NO, NO, NO]),
-];
-
-const WRITES_MANY: [Clause; 10] = [
-    ANY_BEFORE,
-    MOVES,
-    LONGER,
-    MORE,
-    FURTHER,
-    LAST,
-    Clause::Wants(-1_000, [(1, NUMBER), NO, NO, NO]),
-    Clause::Wants(999_999_999, [(-1, NUMBER), NO, NO, NO]),
-    Clause::Wants(-1, [(1, LONG), NO, NO, NO]),
-    Clause::Wants(9, [(-1, LONG), NO, NO, NO]),
-];
-
-const WRITES_ALL: [Clause; 10] = [
-    ANY_BEFORE,
-    MOVES,
-    LONGER,
-    MORE,
-    FURTHER,
-    LAST,
-    Clause::Wants(-1_000_000_000, [(1, NUMBER), NO, NO, NO]),
-    Clause::Wants(2_147_483_647, [(-1, NUMBER), NO, NO, NO]),
-    Clause::Wants(-1, [(1, LONG), NO, NO, NO]),
-    Clause::Wants(10, [(-1, LONG), NO, NO, NO]),
-];
-
-const WRITES_BELOW: [Clause; 10] = [
-    ANY_BEFORE,
-    MOVES,
-    LONGER,
-    MORE,
-    FURTHER,
-    LAST,
-    Clause::Wants(2_147_483_648, [(1, NUMBER), NO, NO, NO]),
-    Clause::Wants(-1, [(-1, NUMBER), NO, NO, NO]),
-    Clause::Wants(-1, [(1, LONG), NO, NO, NO]),
-    Clause::Wants(11, [(-1, LONG), NO, NO, NO]),
-];
+// Each number of 32 bits is within the bounds of one of these.
+const SPANS: [NumberSpan; 5] = [ONE, FEW, MANY, MOST, BELOW];
 
 // The value that stands, if one does.
 fn standing(case: &Case, alloc: Global) -> Result<Option<Form>, RowFault>
@@ -202,28 +142,53 @@ fn behind_number(case: &Case, alloc: Global) -> Result<Case, RowFault>
     changed(case, &READS, &[], alloc)
 }
 
-// The outcomes of any of two cases.
-fn either(one: Outcomes, other: Outcomes) -> Result<Outcomes, RowFault>
-    ensures { IfOk result (λ all. all.cases.items ≡ one.cases.items ++ other.cases.items) }
+// Adds the case behind a row.
+fn add_changed(
+    case: &Case,
+    row: &[Clause],
+    cases: &mut Vec<Case>,
+    alloc: Global,
+) -> Result<(), RowFault>
+    ensures { OnOk result (AddsChanged case.now row.now cases.old.items cases.new.items) }
 {
-    let Outcomes {
-        conditions,
-        guarded,
-        mut cases,
-        away,
-    } = one;
-    let Outcomes {
-        conditions: _conditions,
-        guarded: _guarded,
-        cases: mut more,
-        away: _away,
-    } = other;
-    cases.append(&mut more)?;
+    let made = changed(case, row, &[], alloc)?;
+    cases.push(made)?;
+    Ok(())
+}
+
+// The cases behind the number at the pointer: with a digit there, and below the digits and above.
+fn behind_known(case: &Case, alloc: Global) -> Result<Vec<Case>, RowFault>
+    ensures { IfOk result (λ cases. AreBehindNumber case.now cases.items) }
+{
+    let mut cases = Vec::new(alloc);
+    add_changed(case, &READS_DIGIT, &mut cases, alloc)?;
+    add_changed(case, &READS_LOW, &mut cases, alloc)?;
+    add_changed(case, &READS_HIGH, &mut cases, alloc)?;
+    Ok(cases)
+}
+
+// Adds the cases where some number is given.
+fn add_given(case: &Case, cases: &mut Vec<Case>, alloc: Global) -> Result<(), RowFault>
+    ensures { OnOk result (AddsGiven case.now cases.old.items cases.new.items) }
+{
+    let mut given = give_any(case, alloc)?;
+    cases.append(&mut given.cases)?;
+    Ok(())
+}
+
+// What comes of any of some cases where some number is given.
+fn give_each(behind: &[Case], alloc: Global) -> Result<Outcomes, RowFault>
+    ensures { IfOk result (λ all. All (GivesAmong all.cases.items) behind.now) }
+{
+    let mut cases = Vec::new(alloc);
+    for case in behind {
+        add_given(case, &mut cases, alloc)?;
+    }
     Ok(Outcomes {
-        conditions,
-        guarded,
+        conditions: Vec::new(alloc),
+        guarded: Vec::new(alloc),
         cases,
-        away,
+        away: Vec::new(alloc),
     })
 }
 
@@ -231,15 +196,8 @@ fn either(one: Outcomes, other: Outcomes) -> Result<Outcomes, RowFault>
 fn read_known(case: &Case, alloc: Global) -> Result<Outcomes, RowFault>
     ensures { IfOk result (λ all. ReadsNumber case.now all) }
 {
-    let digit = changed(case, &READS_DIGIT, &[], alloc)?;
-    let low = changed(case, &READS_LOW, &[], alloc)?;
-    let high = changed(case, &READS_HIGH, &[], alloc)?;
-    let at_digit = give_any(&digit, alloc)?;
-    let at_low = give_any(&low, alloc)?;
-    let at_high = give_any(&high, alloc)?;
-    let others = either(at_low, at_high)?;
-    let all = either(at_digit, others)?;
-    Ok(all)
+    let behind = behind_known(case, alloc)?;
+    give_each(&behind, alloc)
 }
 
 // The number at the pointer, which is not known, is given.
@@ -253,9 +211,14 @@ fn read_number(case: &Case, alloc: Global) -> Result<Outcomes, RowFault>
     give_any(&behind, alloc)
 }
 
-// The condition that the buffer has room for a number, asked where that is within bounds.
-fn room(case: &Case, number: &Form, span: NumberSpan, alloc: Global) -> Result<Guarded, RowFault>
-    ensures { IfOk result (λ guarded. HasRoomFor case.now number.now span guarded) }
+// The constraints of a case, and those that a number is within bounds.
+fn bounded(
+    case: &Case,
+    number: &Form,
+    span: NumberSpan,
+    alloc: Global,
+) -> Result<Vec<Form>, RowFault>
+    ensures { IfOk result (λ constraints. AreWithin case.now number.now span constraints.items) }
 {
     let least = Form::constant(i128::from(span.least), alloc)?;
     let most = Form::constant(i128::from(span.most), alloc)?;
@@ -264,11 +227,27 @@ fn room(case: &Case, number: &Form, span: NumberSpan, alloc: Global) -> Result<G
     let mut constraints = copied_constraints(&case.constraints, alloc)?;
     constraints.push(above)?;
     constraints.push(below)?;
+    Ok(constraints)
+}
+
+// How many characters the buffer has room for when it has so many more.
+fn left_behind(case: &Case, long: u8, alloc: Global) -> Result<Form, RowFault>
+    ensures { IfOk result (λ left. IsLeftBehind case.now long left) }
+{
     let size = single(case, Single::Size, alloc)?;
     let limit = counted(LIMIT, alloc)?;
-    let long = counted(span.long, alloc)?;
+    let more = counted(usize::from(long), alloc)?;
     let free = limit.sub(&size, alloc)?;
-    let wanted = free.sub(&long, alloc)?;
+    let left = free.sub(&more, alloc)?;
+    Ok(left)
+}
+
+// The condition that the buffer has room for a number, asked where that is within bounds.
+fn room(case: &Case, number: &Form, span: NumberSpan, alloc: Global) -> Result<Guarded, RowFault>
+    ensures { IfOk result (λ guarded. HasRoomFor case.now number.now span guarded) }
+{
+    let constraints = bounded(case, number, span, alloc)?;
+    let wanted = left_behind(case, span.long, alloc)?;
     Ok(Guarded {
         symbols: case.symbols,
         constraints,
@@ -276,20 +255,62 @@ fn room(case: &Case, number: &Form, span: NumberSpan, alloc: Global) -> Result<G
     })
 }
 
-// With what is asked of others.
-fn with_room(
-    case: &Case,
-    number: &Form,
-    span: NumberSpan,
-    asked: Vec<Guarded>,
-    alloc: Global,
-) -> Result<Vec<Guarded>, RowFault>
-    ensures { IfOk result (λ all. AddsRoom case.now number.now span asked.items all.items) }
+// The conditions that it has, whatever the number.
+fn rooms(case: &Case, number: &Form, alloc: Global) -> Result<Vec<Guarded>, RowFault>
+    ensures { IfOk result (λ asked. All (HasRoomWithin case.now number.now asked.items) SPANS) }
 {
-    let guarded = room(case, number, span, alloc)?;
-    let mut all = asked;
-    all.push(guarded)?;
-    Ok(all)
+    let mut asked = Vec::new(alloc);
+    for span in &SPANS {
+        asked.push(room(case, number, *span, alloc)?)?;
+    }
+    Ok(asked)
+}
+
+// The case behind a number within bounds that is inserted.
+fn written(
+    case: &Case,
+    number: &[Form],
+    span: NumberSpan,
+    here: Places,
+    alloc: Global,
+) -> Result<Case, RowFault>
+    requires level { IsAtLevel here case.now }
+    ensures { IfOk result (λ after. IsWritten case.now (slice_index_or number.now 0 []) span after) }
+{
+    let row = [
+        ANY_BEFORE,
+        MOVES,
+        LONGER,
+        MORE,
+        FURTHER,
+        LAST,
+        Clause::Wants(-i64::from(span.least), [(1, NUMBER), NO, NO, NO]),
+        Clause::Wants(i64::from(span.most), [(-1, NUMBER), NO, NO, NO]),
+        Clause::Wants(-1, [(1, LONG), NO, NO, NO]),
+        Clause::Wants(i64::from(span.long), [(-1, LONG), NO, NO, NO]),
+    ];
+    let inserts = Way {
+        answers: &[],
+        does: &row,
+    };
+    command(case, &inserts, number, here, alloc)
+}
+
+// The cases behind it, by its bounds.
+fn all_written(
+    case: &Case,
+    number: &[Form],
+    here: Places,
+    alloc: Global,
+) -> Result<Vec<Case>, RowFault>
+    requires level { IsAtLevel here case.now }
+    ensures { IfOk result (λ cases. All (IsWrittenAmong case.now (slice_index_or number.now 0 []) cases.items) SPANS) }
+{
+    let mut cases = Vec::new(alloc);
+    for span in &SPANS {
+        cases.push(written(case, number, *span, here, alloc)?)?;
+    }
+    Ok(cases)
 }
 
 // A number is inserted in decimal, where it is one of 32 bits.
@@ -298,34 +319,8 @@ fn write_number(case: &Case, number: Form, alloc: Global) -> Result<Outcomes, Ro
 {
     let here = at_level(case)?;
     let conditions = within_32_bits(&number, alloc)?;
-    let one = with_room(case, &number, ONE, Vec::new(alloc), alloc)?;
-    let few = with_room(case, &number, FEW, one, alloc)?;
-    let many = with_room(case, &number, MANY, few, alloc)?;
-    let most = with_room(case, &number, ALL, many, alloc)?;
-    let guarded = with_room(case, &number, BELOW, most, alloc)?;
-    let ways = [
-        Way {
-            answers: &[],
-            does: &WRITES_ONE,
-        },
-        Way {
-            answers: &[],
-            does: &WRITES_FEW,
-        },
-        Way {
-            answers: &[],
-            does: &WRITES_MANY,
-        },
-        Way {
-            answers: &[],
-            does: &WRITES_ALL,
-        },
-        Way {
-            answers: &[],
-            does: &WRITES_BELOW,
-        },
-    ];
-    let cases = commands(case, &ways, &[number], here, alloc)?;
+    let guarded = rooms(case, &number, alloc)?;
+    let cases = all_written(case, &[number], here, alloc)?;
     Ok(Outcomes {
         conditions,
         guarded,

@@ -8,3 +8,4 @@ pub mod elements;
 pub mod pushes;
 pub mod queries;
 pub mod values;
+mod ways;

@@ -205,12 +205,12 @@ impl Pages {
     /// # Examples
     ///
     /// ```
-    /// let mut host = MemHost::new(alloc);
-    /// host.put(b"in", b"first\x0csecond")?;
-    /// let mut pages = Pages::new(alloc);
-    /// pages.open_in(b"in", &mut host)?;
-    /// pages.next_page(&mut host)?;
-    /// Ok(matches!(pages.page(), Some((b"first", true))))
+    /// fn reads_a_page(pages: &mut Pages, host: &mut MemHost) -> Result<bool, Fault> {
+    ///     host.put(b"in", b"first\x0csecond")?;
+    ///     pages.open_in(b"in", host)?;
+    ///     pages.next_page(host)?;
+    ///     Ok(matches!(pages.page(), Some((b"first", true))))
+    /// }
     /// ```
     pub fn next_page<H: Host>(&mut self, host: &mut H) -> Result<(), Fault>
         ensures answer { OkOrCannotRead result (H.failures host.old) (H.failures host.new) }
@@ -315,12 +315,12 @@ impl Pages {
     /// # Examples
     ///
     /// ```
-    /// let mut host = MemHost::new(alloc);
-    /// let mut pages = Pages::new(alloc);
-    /// pages.open_out(b"out", &mut host)?;
-    /// pages.write_page(b"one ", b"two", false, &mut host)?;
-    /// pages.close_out(&mut host)?;
-    /// Ok(matches!(host.file(b"out"), Some(b"one two")))
+    /// fn writes_a_file(pages: &mut Pages, host: &mut MemHost) -> Result<bool, Fault> {
+    ///     pages.open_out(b"out", host)?;
+    ///     pages.write_page(b"one ", b"two", false, host)?;
+    ///     pages.close_out(host)?;
+    ///     Ok(matches!(host.file(b"out"), Some(b"one two")))
+    /// }
     /// ```
     pub fn write_page<H: Host>(
         &self,

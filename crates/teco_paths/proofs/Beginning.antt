@@ -1,5 +1,6 @@
 -- The state at the entry is as the cut point there says.
 use Rattle.teco_paths.proofs.Prelude.{◌≡◌, ℕ, zero, suc, ◌+◌, ◌-◌, ◌*◌, ◌/◌, ◌%◌, ◌<◌, ◌≤◌, refl, sym, ap, ◌∙◌, arith}
+use Rattle.teco_paths.proofs.Prelude.{subst}
 use Rattle.teco_paths.proofs.Prelude.{List, [], ◌∷◌, length, Bool, true, false, Option, Some, None, nat_lt, slice_get}
 use Rattle.teco_paths.proofs.Prelude.{◌==◌, if◌then◌else◌, ℤ, pos, unwrap_or, ◌+ℤ◌, ◌-ℤ◌, ◌≤ℤ◌, is_some}
 use Rattle.teco_paths.proofs.Prelude.{option_and_then, ltb-true, ltb-false, ints, All, REGISTERS, Term, Valuation}
@@ -17,7 +18,7 @@ use Rattle.teco_model.specs.Arguments.{Arguments}
 use Rattle.teco_model.specs.Registers.{empty_pair, held_length_of_pair}
 use Rattle.teco_model.specs.declared.arguments.Level.{Level}
 use Rattle.teco_rows.specs.States.{levels, operators_of}
-use Rattle.teco_paths.specs.Entry.{family_is_there}
+use Rattle.teco_paths.specs.Entry.{IsEntryBound, family_is_there}
 use Rattle.teco_paths.specs.Entry.{length_if}
 use Rattle.teco_paths.proofs.Symbols.{measure_again}
 
@@ -185,25 +186,34 @@ module _ (lengths : List (Option ℕ)) (argument : Option ArgumentRange) (n : �
       there m ∙ sym (are (place m) ∙ ap (is_there (is_some argument)) (measure_again m))
 
 -- ---- the claims
-module _ (lengths : List (Option ℕ)) (argument : Option ArgumentRange) (form : List Term) where
-  pub least_steps_claim : ((n : ℕ) (v : Valuation) → value form n v ≡ v 0 -ℤ pos (steps_before argument))
+module _ (lengths : List (Option ℕ)) (argument : Option ArgumentRange) (symbol least most : ℕ) (form : List Term)
+    (between : IsEntryBound lengths argument symbol least most) where
+  pub least_claim : ((n : ℕ) (v : Valuation) → value form n v ≡ v symbol -ℤ pos least)
       → IsEntryClaim lengths argument form
-  least_steps_claim is n given s e = omega (arith, ints, is n (numbers_of s), e.steps)
+  least_claim is n given s e = omega (arith, ints, is n (numbers_of s), (between n given s e).0)
 
-  pub most_steps_claim : ((n : ℕ) (v : Valuation) → value form n v ≡ pos (steps_before argument) -ℤ v 0)
+  pub most_claim : ((n : ℕ) (v : Valuation) → value form n v ≡ pos most -ℤ v symbol)
       → IsEntryClaim lengths argument form
-  most_steps_claim is n given s e = omega (arith, ints, is n (numbers_of s), e.steps)
+  most_claim is n given s e = omega (arith, ints, is n (numbers_of s), (between n given s e).1)
 
-  pub least_typed_claim : ((n : ℕ) (v : Valuation) → value form n v ≡ v 9 -ℤ pos 0) → IsEntryClaim lengths argument form
-  least_typed_claim is n given s e = omega (arith, ints, is n (numbers_of s), e.typed)
+module _ (lengths : List (Option ℕ)) (argument : Option ArgumentRange) where
+  pub steps_between : (done : ℕ) → done ≡ steps_before argument → IsEntryBound lengths argument 0 done done
+  steps_between done is n given s e = (omega (arith, ints, is, e.steps), omega (arith, ints, is, e.steps))
 
-  pub most_typed_claim : ((n : ℕ) (v : Valuation) → value form n v ≡ pos 0 -ℤ v 9) → IsEntryClaim lengths argument form
-  most_typed_claim is n given s e = omega (arith, ints, is n (numbers_of s), e.typed)
+  pub typed_between : IsEntryBound lengths argument 9 0 0
+  typed_between n given s e = (omega (arith, ints, e.typed), omega (arith, ints, e.typed))
 
-  pub most_held_claim : (used : List Bool)
+  pub length_between : (register long : ℕ) → slice_index_or lengths register None ≡ Some long
+      → IsEntryBound lengths argument (11 + 7 * register) long long
+  length_between register long known n given s e =
+      let held = long_is s register in
+      let same = e.loaded register long known in
+      (omega (arith, ints, held, same), omega (arith, ints, held, same))
+
+  pub most_held_claim : (form : List Term) (used : List Bool)
       → ((n : ℕ) (v : Valuation) → value form n v ≡ (pos n -ℤ v 3) -ℤ used_lengths used v REGISTERS)
       → IsEntryClaim lengths argument form
-  most_held_claim used is n given s e =
+  most_held_claim form used is n given s e =
       omega (
         arith,
         ints,
@@ -213,29 +223,17 @@ module _ (lengths : List (Option ℕ)) (argument : Option ArgumentRange) (form :
         texts_most s.kept.registers.pairs REGISTERS (sym e.whole.count),
       )
 
-  module _ (register long : ℕ) (known : slice_index_or lengths register None ≡ Some long) where
-    pub least_length_claim : ((n : ℕ) (v : Valuation) → value form n v ≡ v (11 + 7 * register) -ℤ pos long)
-        → IsEntryClaim lengths argument form
-    least_length_claim is n given s e =
-        omega (arith, ints, is n (numbers_of s), long_is s register, e.loaded register long known)
+module _ (lengths : List (Option ℕ)) (range : ArgumentRange) (low high : ℕ) (low_is : low ≡ range.low)
+    (high_is : high ≡ range.high) where
+  range_between : IsEntryBound lengths (Some range) 16 low high
+  range_between n None s e = absurd e.asked
+  range_between n (Some given) s e =
+      let same = given_is given s e.arguments in
+      (omega (arith, ints, same, e.asked.low, low_is), omega (arith, ints, same, e.asked.high, high_is))
 
-    pub most_length_claim : ((n : ℕ) (v : Valuation) → value form n v ≡ pos long -ℤ v (11 + 7 * register))
-        → IsEntryClaim lengths argument form
-    most_length_claim is n given s e =
-        omega (arith, ints, is n (numbers_of s), long_is s register, e.loaded register long known)
-
-module _ (lengths : List (Option ℕ)) (range : ArgumentRange) (form : List Term) where
-  pub least_argument_claim : ((n : ℕ) (v : Valuation) → value form n v ≡ v 16 -ℤ pos range.low)
-      → IsEntryClaim lengths (Some range) form
-  least_argument_claim is n None s e = absurd e.asked
-  least_argument_claim is n (Some given) s e =
-      omega (arith, ints, is n (numbers_of s), given_is given s e.arguments, e.asked.low)
-
-  pub most_argument_claim : ((n : ℕ) (v : Valuation) → value form n v ≡ pos range.high -ℤ v 16)
-      → IsEntryClaim lengths (Some range) form
-  most_argument_claim is n None s e = absurd e.asked
-  most_argument_claim is n (Some given) s e =
-      omega (arith, ints, is n (numbers_of s), given_is given s e.arguments, e.asked.high)
+  pub argument_between : (argument : Option ArgumentRange) → argument ≡ Some range
+      → IsEntryBound lengths argument 16 low high
+  argument_between argument is = subst (λ a. IsEntryBound lengths a 16 low high) (sym is) range_between
 
 -- ---- all of it
 waits_none : (given : Option ℕ) (a : Arguments) → a ≡ arguments_given given → None ∷ [] ≡ operators_of (levels a)

@@ -7,6 +7,7 @@ use Rattle.teco_paths.proofs.Prelude.{IsFact, Course, IsTypedWithin, most_typed,
 use Rattle.teco_paths.proofs.Prelude.{Polynomial}
 use Rattle.std.specs.Prelude.{◌+◌, ◌≤◌, slice_index_or}
 use Rattle.teco_rows.specs.declared.case.Shape.{Shape}
+use Rattle.teco_rows.specs.declared.measure.Single.{Single}
 use Rattle.teco_paths.specs.Claims.{AreClaimed, AreKnown, ClaimHolds}
 use Rattle.teco_paths.specs.Claims.{HasPresent}
 use Rattle.teco_paths.proofs.Lists.{all_joined}
@@ -73,26 +74,29 @@ comes case cut filled operators iterations pushes present are claims n v s true_
   claims = claims_hold case n v s true_of filled cut.claims.items are (claims n v true_of.fits.constraints);
 }
 
--- a form that is implied bounds a number of a state
-pub bounded : (case : Case) (most : ℕ → ℕ) (number : Point → ℕ) (bound measured difference : List Term)
-    → ((n : ℕ) (v : Valuation) → value bound n v ≡ pos (most n))
-    → ((n : ℕ) (v : Valuation) (s : Point) → IsTrueOf n v case s → value measured n v ≡ pos (number s))
+-- a form that is implied bounds a measure of a state
+pub measure_within : (case : Case) (which : Single) (most : Polynomial) (bound measured difference : List Term)
+    → ((n : ℕ) (v : Valuation) → value bound n v ≡ pos (poly.value most n))
+    → ((n : ℕ) (v : Valuation) (s : Point) → IsTrueOf n v case s → value measured n v ≡ single s which)
     → ((n : ℕ) (v : Valuation) → value difference n v ≡ value bound n v -ℤ value measured n v)
-    → Implies case.constraints.items difference → (n : ℕ) (s : Point) → Describes n case s → number s ≤ most n
-bounded case most number bound measured difference bound_is measured_is difference_is implied n s d =
+    → Implies case.constraints.items difference → (n : ℕ) (s : Point) → Describes n case s
+    → single s which ≤ℤ pos (poly.value most n)
+measure_within case which most bound measured difference bound_is measured_is difference_is implied n s d =
     let holds : pos 0 ≤ℤ value difference n d.0 = implied n d.0 d.1.fits.constraints in
     omega (arith, ints, holds, bound_is n d.0, measured_is n d.0 s d.1, difference_is n d.0)
 
+-- and what the measure is
+pub number_within : (case : Case) (most : ℕ → ℕ) (number : Point → ℕ)
+    → ((n : ℕ) (s : Point) → Describes n case s → pos (number s) ≤ℤ pos (most n))
+    → (n : ℕ) (s : Point) → Describes n case s → number s ≤ most n
+number_within case most number within n s d = omega (arith, ints, within n s d)
+
 -- how many bytes are typed, where that is bounded
-pub types_within : (course : Course) (case : Case) (most : Polynomial) (bound measured difference : List Term)
-    → course.types ≡ Some most → ((n : ℕ) (v : Valuation) → value bound n v ≡ pos (poly.value most n))
-    → ((n : ℕ) (v : Valuation) (s : Point) → IsTrueOf n v case s → value measured n v ≡ single s Typed)
-    → ((n : ℕ) (v : Valuation) → value difference n v ≡ value bound n v -ℤ value measured n v)
-    → Implies case.constraints.items difference → TypesNoMore course case
-types_within course case most bound measured difference some bound_is measured_is difference_is implied n s d =
+pub types_within : (course : Course) (case : Case) (most : Polynomial) → course.types ≡ Some most
+    → ((n : ℕ) (s : Point) → Describes n case s → single s Typed ≤ℤ pos (poly.value most n)) → TypesNoMore course case
+types_within course case most some within n s d =
     subst (λ types. IsTypedWithin (most_typed types n s.origin.typed) s.kept) (sym some)
-    (let holds : pos 0 ≤ℤ value difference n d.0 = implied n d.0 d.1.fits.constraints in
-    omega (arith, ints, holds, bound_is n d.0, measured_is n d.0 s d.1, difference_is n d.0))
+    (omega (arith, ints, within n s d))
 
 -- a copy of a shape
 pub shaped : (shape copy : Shape) (s : Point) → copy.operators.items ≡ shape.operators.items

@@ -6,10 +6,11 @@ use Rattle.teco_base.specs.Lines.{line_place}
 use Rattle.teco_rows.specs.declared.measure.Single.{Single}
 use Rattle.teco_rows.proofs.Lines.{IsEnd}
 
--- a form is the measure that a state has once
-abbrev Measures : Case → Single → List Term → Type 0
-Measures case which form =
-    (n : ℕ) (v : Valuation) (s : Point) → IsTrueOf n v case s → value form n v ≡ single s which
+-- a form is how far a measure that a state has once is beyond the pointer, less 1
+abbrev IsBeyond : Case → Single → List Term → Type 0
+IsBeyond case which form =
+    (n : ℕ) (v : Valuation) (s : Point)
+    → IsTrueOf n v case s → value form n v ≡ single s which -ℤ single s Pointer -ℤ pos 1
 
 -- in front of the end of the buffer a line goes on
 ends_behind : (text : List ℕ) (p e : ℕ) → IsEnd text p e → p + 1 ≤ length text → p + 1 ≤ e
@@ -20,22 +21,12 @@ ends_behind text p e is before = by (cases_order e (length text))
     by (inr (inl less)) = omega (arith, is.more less)
     by (inr (inr more)) = omega (arith, is.within, more)
 
-pub sharper : (case sharp : Case) (one pointer behind size end ahead more : List Term)
-    → ((n : ℕ) (v : Valuation) → value one n v ≡ pos 1)
-    → Measures case Pointer pointer → Measures case Size size → Measures case LineEnd end
-    → ((n : ℕ) (v : Valuation) → value behind n v ≡ value pointer n v +ℤ value one n v)
-    → ((n : ℕ) (v : Valuation) → value ahead n v ≡ value size n v -ℤ value behind n v)
-    → ((n : ℕ) (v : Valuation) → value more n v ≡ value end n v -ℤ value behind n v)
-    → Implies case.constraints.items ahead → IsWith case more sharp → IsSharper case sharp
-sharper case sharp one pointer behind size end ahead more one_is pointer_is size_is end_is behind_is ahead_is more_is
-    implied with n s whole d =
+pub sharper : (case : Case) (ahead more : List Term) → IsBeyond case Size ahead → IsBeyond case LineEnd more
+    → Implies case.constraints.items ahead → (sharp : Case) → IsWith case more sharp → IsSharper case sharp
+sharper case ahead more ahead_is more_is implied sharp with n s whole d =
     let v = d.0 in
     let room : pos 0 ≤ℤ value ahead n v = implied n v d.1.fits.constraints in
-    let before : s.kept.pointer + 1 ≤ length s.kept.text =
-    omega (arith, ints, room, one_is n v, pointer_is n v s d.1, size_is n v s d.1, behind_is n v, ahead_is n v) in
+    let before : s.kept.pointer + 1 ≤ length s.kept.text = omega (arith, ints, room, ahead_is n v s d.1) in
     let line = ends_behind s.kept.text s.kept.pointer (line_place s.kept.text s.kept.pointer (pos 1))
-    (line_end s.kept.text s.kept.pointer whole.inside) before in (
-      v,
-      with n v s d.1
-          (omega (arith, ints, line, one_is n v, pointer_is n v s d.1, end_is n v s d.1, behind_is n v, more_is n v)),
-    )
+    (line_end s.kept.text s.kept.pointer whole.inside) before in
+    (v, with n v s d.1 (omega (arith, ints, line, more_is n v s d.1)))

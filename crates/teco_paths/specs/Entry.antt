@@ -1,6 +1,6 @@
 -- What is known of a macro's state at its entry.
-use Rattle.std.specs.Prelude.{◌≡◌, ℕ, zero, suc, ◌+◌, ◌*◌, ◌≤◌, nat_lt, ◌&&◌, ◌==◌, ℤ, pos, ◌+ℤ◌, List, [], length}
-use Rattle.std.specs.Prelude.{Bool, true, false, Option, Some, None, slice_index_or}
+use Rattle.std.specs.Prelude.{◌≡◌, ℕ, zero, suc, ◌+◌, ◌*◌, ◌≤◌, nat_lt, ◌&&◌, ◌==◌, ℤ, pos, ◌+ℤ◌, ◌≤ℤ◌, List}
+use Rattle.std.specs.Prelude.{[], length, Bool, true, false, Option, Some, None, slice_index_or}
 use Rattle.teco_base.specs.declared.TheConstants.{REGISTERS}
 use Rattle.teco_linear.specs.declared.term.Term.{Term}
 use Rattle.teco_linear.specs.Form.{Valuation}
@@ -16,7 +16,7 @@ use Rattle.teco_rows.specs.declared.measure.Measure.TheVariants.{One, Each}
 use Rattle.teco_rows.specs.States.{Point}
 use Rattle.teco_paths.specs.declared.cut.CutState.{CutState}
 use Rattle.teco_paths.specs.Claims.{AreClaimed, ClaimHolds}
-use Rattle.teco_paths.specs.Symbols.{measure_of}
+use Rattle.teco_paths.specs.Symbols.{measure_of, numbers_of}
 use Rattle.teco_verifier.specs.facts.Argument.{arguments_given}
 use Rattle.teco_verifier.specs.table.Printed.{steps_before}
 
@@ -54,6 +54,13 @@ used_lengths used v (suc registers) =
 abbrev pub IsEntryClaim : List (Option ℕ) → Option ArgumentRange → List Term → Type 0
 IsEntryClaim lengths argument claim =
     (n : ℕ) (given : Option ℕ) (s : Point) → IsEntered lengths argument n given s → ClaimHolds n s claim
+
+-- the measure of a place is between two numbers at each such state
+abbrev pub IsEntryBound : List (Option ℕ) → Option ArgumentRange → ℕ → ℕ → ℕ → Type 0
+IsEntryBound lengths argument place least most =
+    (n : ℕ) (given : Option ℕ) (s : Point)
+    → IsEntered lengths argument n given s
+    → (pos least ≤ℤ numbers_of s place) × (numbers_of s place ≤ℤ pos most)
 
 abbrev pub family_is_there : Bool → Family → ℕ → Bool
 family_is_there has_argument Number i = nat_lt i REGISTERS

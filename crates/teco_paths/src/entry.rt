@@ -6,7 +6,8 @@ ghost use Rattle.teco_base.specs.declared.TheConstants.{REGISTERS};
 ghost use Rattle.teco_model.specs.Macros.{ArgumentRange};
 ghost use Rattle.std.specs.List.{All};
 ghost use Rattle.teco_linear.specs.Form.{Valuation, value};
-ghost use Rattle.teco_paths.specs.Entry.{AreThere, IsEntryClaim, IsEntryCut, is_there, length_if, used_lengths};
+ghost use Rattle.teco_paths.specs.Entry.{AreThere, IsEntryBound, IsEntryClaim, IsEntryCut, is_there, length_if};
+ghost use Rattle.teco_paths.specs.Entry.{used_lengths};
 ghost use Rattle.teco_paths.specs.Symbols.{measure_of};
 ghost use Rattle.teco_verifier.specs.table.Printed.{steps_before};
 
@@ -88,6 +89,25 @@ fn most_in_all(used: &[bool], alloc: Global) -> Result<Form, PathFault>
     Ok(form)
 }
 
+// Adds that a measure is between two numbers.
+fn add_between(
+    claims: &mut Vec<Form>,
+    symbol: u32,
+    least: u32,
+    most: u32,
+    alloc: Global,
+) -> Result<(), PathFault>
+    ensures { OnOk result ((lengths : List (Option ℕ)) (argument : Option ArgumentRange)
+        → IsEntryBound lengths argument symbol least most → All (IsEntryClaim lengths argument) claims.old.items
+        → All (IsEntryClaim lengths argument) claims.new.items) }
+{
+    let above = no_less(symbol, least, alloc)?;
+    claims.push(above)?;
+    let below = no_more(symbol, most, alloc)?;
+    claims.push(below)?;
+    Ok(())
+}
+
 // Adds that an argument is in its range, if there is one.
 fn add_range(
     claims: &mut Vec<Form>,
@@ -97,11 +117,10 @@ fn add_range(
     ensures { OnOk result ((lengths : List (Option ℕ)) → All (IsEntryClaim lengths argument) claims.old.items
         → All (IsEntryClaim lengths argument) claims.new.items) }
 {
-    if let Some(range) = argument {
-        claims.push(no_less(ARGUMENT, range.low(), alloc)?)?;
-        claims.push(no_more(ARGUMENT, range.high(), alloc)?)?;
+    match argument {
+        Some(range) => add_between(claims, ARGUMENT, range.low(), range.high(), alloc),
+        None => Ok(()),
     }
-    Ok(())
 }
 
 // How long the text of a register is, if that is known.
@@ -128,11 +147,10 @@ fn add_length(
     ensures { OnOk result ((argument : Option ArgumentRange) → All (IsEntryClaim lengths.now argument) claims.old.items
         → All (IsEntryClaim lengths.now argument) claims.new.items) }
 {
-    if let Some(long) = length_at(lengths, register) {
-        claims.push(no_less(FIRST_LENGTH + 7 * register, long, alloc)?)?;
-        claims.push(no_more(FIRST_LENGTH + 7 * register, long, alloc)?)?;
+    match length_at(lengths, register) {
+        Some(long) => add_between(claims, FIRST_LENGTH + 7 * register, long, long, alloc),
+        None => Ok(()),
     }
-    Ok(())
 }
 
 // How long the texts of registers are, where that is known.
@@ -158,10 +176,8 @@ fn entry_claims(
 {
     let done = steps_done(argument);
     let mut claims = length_claims(lengths, alloc)?;
-    claims.push(no_less(STEPS, done, alloc)?)?;
-    claims.push(no_more(STEPS, done, alloc)?)?;
-    claims.push(no_less(TYPED, 0, alloc)?)?;
-    claims.push(no_more(TYPED, 0, alloc)?)?;
+    add_between(&mut claims, STEPS, done, done, alloc)?;
+    add_between(&mut claims, TYPED, 0, 0, alloc)?;
     claims.push(most_in_all(used, alloc)?)?;
     add_range(&mut claims, argument, alloc)?;
     Ok(claims)

@@ -7,6 +7,7 @@ ghost use Rattle.teco_paths.specs.Steps.{AreHalves, IsWith};
 use crate::cut::copied_shape;
 use crate::fault::PathFault;
 use crate::implied::is_so_nearby;
+use crate::sharp::beyond;
 use crate::spot::NodeCase;
 use std::alloc::Global;
 use teco_linear::Form;
@@ -26,14 +27,18 @@ struct Apart {
 fn halves_of(case: &Case, alloc: Global) -> Result<Apart, PathFault>
     ensures { IfOk result (λ apart. AreHalves apart.ahead apart.end) }
 {
-    let one = Form::constant(1, alloc)?;
     let pointer = single(case, Single::Pointer, alloc)?;
     let size = single(case, Single::Size, alloc)?;
-    let behind = pointer.add(&one, alloc)?;
-    Ok(Apart {
-        ahead: size.sub(&behind, alloc)?,
-        end: pointer.sub(&size, alloc)?,
-    })
+    let ahead = beyond(&size, &pointer, alloc)?;
+    let end = pointer.sub(&size, alloc)?;
+    Ok(Apart { ahead, end })
+}
+
+// Whether one of both is known.
+fn is_known(case: &Case, apart: &Apart, alloc: Global) -> Result<bool, PathFault> {
+    let is_ahead = is_so_nearby(case, &apart.ahead, alloc)?;
+    let is_end = is_so_nearby(case, &apart.end, alloc)?;
+    Ok(is_ahead || is_end)
 }
 
 // The case once more, with one constraint more.
@@ -64,20 +69,27 @@ fn spot_with(spot: &NodeCase, form: Form, alloc: Global) -> Result<NodeCase, Pat
     })
 }
 
+// The spot twice, each time with one of both as a constraint more.
+fn spots_with(spot: &NodeCase, apart: Apart, alloc: Global) -> Result<Vec<NodeCase>, PathFault>
+    ensures { IfOk result (λ spots. AreHalves apart.ahead apart.end → (course : Course)
+        → All (LeadsOn course) spots.items → LeadsOn course spot.now) }
+{
+    let Apart { ahead, end } = apart;
+    let mut spots = Vec::new(alloc);
+    spots.push(spot_with(spot, ahead, alloc)?)?;
+    spots.push(spot_with(spot, end, alloc)?)?;
+    Ok(spots)
+}
+
 /// The spot where its pointer is in front of the end of the buffer, and where it is there. Where one of
 /// both is known, there is nothing to tell apart, and what is claimed at the node is not implied.
 pub fn halves(spot: &NodeCase, alloc: Global) -> Result<Vec<NodeCase>, PathFault>
     ensures { IfOk result (λ spots. (course : Course) → All (LeadsOn course) spots.items
         → LeadsOn course spot.now) }
 {
-    let Apart { ahead, end } = halves_of(&spot.case, alloc)?;
-    let is_ahead = is_so_nearby(&spot.case, &ahead, alloc)?;
-    let is_end = is_so_nearby(&spot.case, &end, alloc)?;
-    if is_ahead || is_end {
+    let apart = halves_of(&spot.case, alloc)?;
+    if is_known(&spot.case, &apart, alloc)? {
         return Err(PathFault::Claims(spot.number));
     }
-    let mut spots = Vec::new(alloc);
-    spots.push(spot_with(spot, ahead, alloc)?)?;
-    spots.push(spot_with(spot, end, alloc)?)?;
-    Ok(spots)
+    spots_with(spot, apart, alloc)
 }

@@ -37,27 +37,33 @@ fn is_shown(
 
 // Whether multipliers are found that show it, by way of what shares symbols with the seeds.
 fn is_found(
-    case: &Case,
+    constraints: &[Form],
     seeds: &[Form],
     target: &Form,
     depth: Depth,
     alloc: Global,
 ) -> Result<bool, PathFault>
-    ensures { IfOk result (λ answer. OnTrue answer (Implies case.now.constraints.items target.now)) }
+    ensures { IfOk result (λ answer. OnTrue answer (Implies constraints.now target.now)) }
 {
-    let Some(found) = find(&case.constraints, seeds, target, depth, alloc)? else {
-        return Ok(false);
-    };
-    is_shown(&case.constraints, &found, target, alloc)
+    match find(constraints, seeds, target, depth, alloc)? {
+        Some(found) => is_shown(constraints, &found, target, alloc),
+        None => Ok(false),
+    }
+}
+
+// The seeds: others, and the target behind them.
+fn with_target(others: &[Form], target: &Form, alloc: Global) -> Result<Vec<Form>, PathFault> {
+    let mut seeds = copied_constraints(others, alloc)?;
+    seeds.push(target.add(&Form::zero(alloc), alloc)?)?;
+    Ok(seeds)
 }
 
 // Whether multipliers are sought and found that show it.
 fn is_shown_by(case: &Case, target: &Form, depth: Depth, alloc: Global) -> Result<bool, PathFault>
     ensures { IfOk result (λ answer. OnTrue answer (Implies case.now.constraints.items target.now)) }
 {
-    let mut seeds = Vec::new(alloc);
-    seeds.push(target.add(&Form::zero(alloc), alloc)?)?;
-    is_found(case, &seeds, target, depth, alloc)
+    let seeds = with_target(&[], target, alloc)?;
+    is_found(&case.constraints, &seeds, target, depth, alloc)
 }
 
 /// Whether a form is found to be at least 0 wherever the constraints of a case hold.
@@ -92,19 +98,14 @@ fn is_guarded(guarded: &Guarded, known: usize, alloc: Global) -> Result<bool, Pa
     ensures { IfOk result (λ answer. OnTrue answer (IsKept guarded.now)) }
 {
     let new = guarded.constraints.get(known..).unwrap_or(&[]);
-    let mut seeds = copied_constraints(new, alloc)?;
-    seeds.push(guarded.wanted.add(&Form::zero(alloc), alloc)?)?;
-    let Some(found) = find(
+    let seeds = with_target(new, &guarded.wanted, alloc)?;
+    is_found(
         &guarded.constraints,
         &seeds,
         &guarded.wanted,
         Depth::All,
         alloc,
-    )?
-    else {
-        return Ok(false);
-    };
-    is_shown(&guarded.constraints, &found, &guarded.wanted, alloc)
+    )
 }
 
 // Whether all of these are.
@@ -137,5 +138,5 @@ pub fn is_impossible(case: &Case, known: usize, alloc: Global) -> Result<bool, P
 {
     let below = Form::constant(-1, alloc)?;
     let new = case.constraints.get(known..).unwrap_or(&[]);
-    is_found(case, new, &below, Depth::Near, alloc)
+    is_found(&case.constraints, new, &below, Depth::Near, alloc)
 }

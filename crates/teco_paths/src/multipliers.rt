@@ -131,6 +131,39 @@ fn row_of(kind: Monomial, terms: Vec<teco_simplex::Summand>, target: &Form) -> C
     }
 }
 
+// What the multipliers of these columns do to the terms of each kind.
+fn sums_of(
+    constraints: &[Form],
+    columns: &[ConstraintMultiple],
+    target: &Form,
+    alloc: Global,
+) -> Result<Sums, PathFault> {
+    let mut sums = Sums::of(target, alloc)?;
+    for (variable, column) in columns.iter().enumerate() {
+        if let Some(constraint) = constraints.get(column.constraint) {
+            sums.add(constraint, column.power, variable, alloc)?;
+        }
+    }
+    Ok(sums)
+}
+
+// A program of so many variables, none of which is below 0.
+fn program_with(variables: usize, alloc: Global) -> Result<LinearProgram, PathFault> {
+    let mut program = LinearProgram::new(alloc);
+    for _ in 0..variables {
+        program.add_variable(Sign::NonNegative)?;
+    }
+    Ok(program)
+}
+
+// Adds the rows that sums are.
+fn add_rows(program: &mut LinearProgram, sums: &mut Sums, target: &Form) -> Result<(), PathFault> {
+    for (kind, terms) in sums.kinds.iter().zip(sums.terms.drain(..)) {
+        program.add_row(row_of(*kind, terms, target))?;
+    }
+    Ok(())
+}
+
 // The program whose values are multipliers.
 fn program_of(
     constraints: &[Form],
@@ -138,18 +171,9 @@ fn program_of(
     target: &Form,
     alloc: Global,
 ) -> Result<LinearProgram, PathFault> {
-    let mut sums = Sums::of(target, alloc)?;
-    let mut program = LinearProgram::new(alloc);
-    for (variable, column) in columns.iter().enumerate() {
-        program.add_variable(Sign::NonNegative)?;
-        if let Some(constraint) = constraints.get(column.constraint) {
-            sums.add(constraint, column.power, variable, alloc)?;
-        }
-    }
-    let Sums { kinds, terms } = sums;
-    for (kind, terms) in kinds.into_iter().zip(terms) {
-        program.add_row(row_of(kind, terms, target))?;
-    }
+    let mut sums = sums_of(constraints, columns, target, alloc)?;
+    let mut program = program_with(columns.len(), alloc)?;
+    add_rows(&mut program, &mut sums, target)?;
     Ok(program)
 }
 
@@ -315,9 +339,12 @@ fn are_differences(constraints: &[Form], places: &[usize], target: &Form) -> boo
             .is_some_and(|form| is_difference(form)))
 }
 
-// Which constraints programs are made of: those that say something, and which have limits or none.
+// Which constraints programs are made of: those that the seeds lead to, that say something, and which
+// have limits or none.
 #[derive(Clone, Copy)]
 struct Reach<'a> {
+    constraints: &'a [Form],
+    seeds: &'a [Form],
     depth: Depth,
     has_limits: bool,
     speaking: &'a [bool],
@@ -333,29 +360,29 @@ impl Reach<'_> {
     }
 
     // Whether the constraint at a place may stand in a program.
-    fn takes(self, constraints: &[Form], place: usize) -> bool {
+    fn takes(self, place: usize) -> bool {
         self.speaking.get(place) == Some(&true)
-            && constraints
+            && self
+                .constraints
                 .get(place)
                 .is_some_and(|form| self.has_limits || !is_limit(form))
     }
-}
 
-// The constraints that so many steps from the seeds lead to, or all that are connected with them.
-fn reached(
-    constraints: &[Form],
-    seeds: &[Form],
-    steps: usize,
-    reach: Reach<'_>,
-    alloc: Global,
-) -> Result<Vec<usize>, PathFault> {
-    let mut places = if steps < NEAR {
-        near(constraints, seeds, steps, alloc)?
-    } else {
-        relevant(constraints, seeds, alloc)?
-    };
-    places.retain(|place| reach.takes(constraints, *place));
-    Ok(places)
+    // The constraints that so many steps from the seeds lead to, or all that are connected with them.
+    fn places(self, steps: usize, alloc: Global) -> Result<Vec<usize>, PathFault> {
+        let mut places = if steps < NEAR {
+            near(self.constraints, self.seeds, steps, alloc)?
+        } else {
+            relevant(self.constraints, self.seeds, alloc)?
+        };
+        places.retain(|place| self.takes(*place));
+        Ok(places)
+    }
+
+    // Whether programs of these constraints were not tried without limits before.
+    fn is_new(self, places: &[usize]) -> bool {
+        !self.has_limits || is_any_limit(self.constraints, places)
+    }
 }
 
 // Whether differences alone can't all hold, so that there may be multipliers where there is no chain.
@@ -366,32 +393,41 @@ fn is_round(constraints: &[Form], seeds: &[Form], alloc: Global) -> Result<bool,
     Ok(graph.chain(&below, alloc)?.is_some())
 }
 
-// By linear programs of more and more constraints: first of those that speak of the seeds' symbols
-// alone, and last, if that is wanted, of all that are connected with the seeds. What has no limits was
-// tried without them before.
-fn by_steps(
-    constraints: &[Form],
-    seeds: &[Form],
-    target: &Form,
+// By linear programs of the constraints at these places that are of use.
+fn by_places(
     reach: Reach<'_>,
+    places: &[usize],
+    target: &Form,
+    has_more: bool,
+    alloc: Global,
+) -> Result<Option<Combination>, PathFault> {
+    if are_differences(reach.constraints, places, target)
+        && !is_round(reach.constraints, reach.seeds, alloc)?
+    {
+        return Ok(None);
+    }
+    match useful(reach.constraints, places, target, alloc)? {
+        Some(useful) => by_program(reach.constraints, &useful, target, has_more, alloc),
+        None => Ok(None),
+    }
+}
+
+// By linear programs of more and more constraints: first of those that speak of the seeds' symbols
+// alone, and last, if that is wanted, of all that are connected with the seeds.
+fn by_steps(
+    reach: Reach<'_>,
+    target: &Form,
     alloc: Global,
 ) -> Result<Option<Combination>, PathFault> {
     let mut tried = 0;
     for steps in 0..=reach.most() {
-        let places = reached(constraints, seeds, steps, reach, alloc)?;
-        let is_new = !reach.has_limits || is_any_limit(constraints, &places);
-        if places.len() <= tried || !is_new {
+        let places = reach.places(steps, alloc)?;
+        if places.len() <= tried || !reach.is_new(&places) {
             continue;
         }
         tried = places.len();
-        if are_differences(constraints, &places, target) && !is_round(constraints, seeds, alloc)? {
-            continue;
-        }
-        let Some(useful) = useful(constraints, &places, target, alloc)? else {
-            continue;
-        };
         let has_more = steps == NEAR && !reach.has_limits;
-        let found = by_program(constraints, &useful, target, has_more, alloc)?;
+        let found = by_places(reach, &places, target, has_more, alloc)?;
         if found.is_some() {
             return Ok(found);
         }
@@ -410,16 +446,66 @@ fn by_programs(
     let speaking = speaking(constraints, alloc)?;
     for has_limits in [false, true] {
         let reach = Reach {
+            constraints,
+            seeds,
             depth,
             has_limits,
             speaking: &speaking,
         };
-        let found = by_steps(constraints, seeds, target, reach, alloc)?;
+        let found = by_steps(reach, target, alloc)?;
         if found.is_some() {
             return Ok(found);
         }
     }
     Ok(None)
+}
+
+// By no constraint, or by one that says what the target does.
+fn at_once(
+    constraints: &[Form],
+    target: &Form,
+    alloc: Global,
+) -> Result<Option<Combination>, PathFault> {
+    if target.is_harmless() {
+        return Ok(Some(once(&[], alloc)?));
+    }
+    match constraints
+        .iter()
+        .position(|form| form.terms() == target.terms())
+    {
+        Some(place) => Ok(Some(once(&[place], alloc)?)),
+        None => Ok(None),
+    }
+}
+
+// By a chain of differences.
+fn by_chain(
+    graph: &mut Graph,
+    target: &Form,
+    alloc: Global,
+) -> Result<Option<Combination>, PathFault> {
+    match graph.chain(target, alloc)? {
+        Some(chain) => Ok(Some(once(&chain, alloc)?)),
+        None => Ok(None),
+    }
+}
+
+// By a chain of differences, or by one with another constraint.
+fn by_chains(
+    constraints: &[Form],
+    places: &[usize],
+    target: &Form,
+    alloc: Global,
+) -> Result<Option<Combination>, PathFault> {
+    let mut graph = Graph::of(constraints, places, alloc)?;
+    let found = by_chain(&mut graph, target, alloc)?;
+    if found.is_some() {
+        return Ok(found);
+    }
+    match with_chain(constraints, places, target, &mut graph, alloc)? {
+        Some(shifted) => Ok(Some(of_shifted(&shifted, alloc)?)),
+        None => Ok(None),
+    }
 }
 
 /// Looks for multipliers that show a target, by way of the constraints that are connected with the
@@ -432,25 +518,14 @@ pub fn find(
     depth: Depth,
     alloc: Global,
 ) -> Result<Option<Combination>, PathFault> {
-    if target.is_harmless() {
-        return Ok(Some(once(&[], alloc)?));
-    }
-    if let Some(place) = constraints
-        .iter()
-        .position(|form| form.terms() == target.terms())
-    {
-        return Ok(Some(once(&[place], alloc)?));
+    let found = at_once(constraints, target, alloc)?;
+    if found.is_some() {
+        return Ok(found);
     }
     let places = relevant(constraints, seeds, alloc)?;
-    let mut graph = Graph::of(constraints, &places, alloc)?;
-    if let Some(found) = graph.chain(target, alloc)? {
-        return Ok(Some(once(&found, alloc)?));
-    }
-    if let Some(found) = with_chain(constraints, &places, target, &mut graph, alloc)? {
-        return Ok(Some(of_shifted(&found, alloc)?));
-    }
-    if is_refuted(constraints, &places, target, alloc)? {
-        return Ok(None);
+    let found = by_chains(constraints, &places, target, alloc)?;
+    if found.is_some() || is_refuted(constraints, &places, target, alloc)? {
+        return Ok(found);
     }
     by_programs(constraints, seeds, target, depth, alloc)
 }

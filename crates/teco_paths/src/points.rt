@@ -2,8 +2,9 @@
 
 use crate::fault::PathFault;
 use crate::relevant::{greatest_symbol, most_symbol};
+use crate::shifted::less;
 use std::alloc::Global;
-use teco_linear::{Form, LinearFault, Term};
+use teco_linear::{Form, Term};
 
 // How often all constraints are gone through.
 const PASSES: usize = 8;
@@ -24,6 +25,11 @@ fn factor_of(term: &Term) -> Option<i64> {
         factor = factor.checked_mul(LENGTH)?;
     }
     Some(factor)
+}
+
+// How often a number above 0 is taken to come to another or beyond.
+fn rounded_up(more: i64, size: i64) -> Option<i64> {
+    more.checked_add(size.checked_sub(1)?)?.checked_div(size)
 }
 
 impl Point {
@@ -57,14 +63,14 @@ impl Point {
     fn change(&mut self, term: &Term, more: i64) -> Option<()> {
         let symbol = term.symbol?;
         let factor = factor_of(term)?;
-        let size = factor.checked_abs()?;
-        let steps = more.checked_add(size.checked_sub(1)?)?.checked_div(size)?;
+        let steps = rounded_up(more, factor.checked_abs()?)?;
         let slot = self.values.get_mut(symbol as usize)?;
-        *slot = if factor > 0 {
-            slot.checked_add(steps)?
+        let changed = if factor > 0 {
+            slot.checked_add(steps)
         } else {
-            slot.checked_sub(steps)?
+            slot.checked_sub(steps)
         };
+        *slot = changed?;
         Some(())
     }
 
@@ -99,6 +105,18 @@ impl Point {
         }
         Some(is_mended)
     }
+
+    // Whether all constraints and another are mended, and none is below 0 then.
+    fn is_mended(&mut self, constraints: &[Form], places: &[usize], other: &Form) -> bool {
+        for _ in 0..PASSES {
+            match self.pass(constraints, places, other) {
+                Some(true) => {}
+                Some(false) => return true,
+                None => return false,
+            }
+        }
+        false
+    }
 }
 
 /// Whether values are found at which the constraints at these places hold, and the target does not.
@@ -112,17 +130,9 @@ pub fn is_refuted(
     let mut point = Point {
         values: Vec::from_elem(alloc, 0i64, most as usize + 1)?,
     };
-    let below = match Form::constant(-1, alloc)?.sub(target, alloc) {
-        Ok(below) => below,
-        Err(LinearFault::Memory) => return Err(PathFault::Memory),
-        Err(_) => return Ok(false),
-    };
-    for _ in 0..PASSES {
-        match point.pass(constraints, places, &below) {
-            Some(true) => {}
-            Some(false) => return Ok(true),
-            None => return Ok(false),
-        }
+    let one_below = Form::constant(-1, alloc)?;
+    match less(&one_below, target, alloc)? {
+        Some(below) => Ok(point.is_mended(constraints, places, &below)),
+        None => Ok(false),
     }
-    Ok(false)
 }

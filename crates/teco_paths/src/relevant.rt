@@ -12,13 +12,17 @@ struct Reached {
 }
 
 impl Reached {
-    // Nothing is reached yet of these constraints and the seeds.
-    fn none(constraints: &[Form], seeds: &[Form], alloc: Global) -> Result<Reached, PathFault> {
+    // What the terms of the seeds are multiples of is reached, and nothing else of these constraints.
+    fn by(constraints: &[Form], seeds: &[Form], alloc: Global) -> Result<Reached, PathFault> {
         let most = most_symbol(constraints).max(most_symbol(seeds));
-        Ok(Reached {
+        let mut reached = Reached {
             symbols: Vec::from_elem(alloc, false, most as usize + 1)?,
             is_n: false,
-        })
+        };
+        for seed in seeds {
+            reached.add(seed);
+        }
+        Ok(reached)
     }
 
     // Whether what a term is a multiple of is reached.
@@ -84,12 +88,10 @@ pub fn most_symbol(forms: &[Form]) -> u32 {
 // Takes the constraints that touch what is reached, and says whether there were some.
 fn spread(constraints: &[Form], reached: &mut Reached, taken: &mut [bool]) -> bool {
     let mut is_more = false;
-    for place in 0..constraints.len() {
-        if taken.get(place) == Some(&false) && reached.touches(&constraints[place]) {
-            if let Some(mark) = taken.get_mut(place) {
-                *mark = true;
-            }
-            reached.add(&constraints[place]);
+    for (constraint, mark) in constraints.iter().zip(taken.iter_mut()) {
+        if !*mark && reached.touches(constraint) {
+            *mark = true;
+            reached.add(constraint);
             is_more = true;
         }
     }
@@ -112,21 +114,12 @@ fn widen(constraints: &[Form], reached: &mut Reached, alloc: Global) -> Result<(
     Ok(())
 }
 
-/// The places of the constraints that speak only of symbols of the seeds, or of those that so many
-/// steps by way of constraints lead to.
-pub fn near(
+// The places of the constraints all of whose symbols are reached.
+fn covered(
     constraints: &[Form],
-    seeds: &[Form],
-    steps: usize,
+    reached: &Reached,
     alloc: Global,
 ) -> Result<Vec<usize>, PathFault> {
-    let mut reached = Reached::none(constraints, seeds, alloc)?;
-    for seed in seeds {
-        reached.add(seed);
-    }
-    for _ in 0..steps {
-        widen(constraints, &mut reached, alloc)?;
-    }
     let mut places = Vec::new(alloc);
     for place in 0..constraints.len() {
         if reached.covers(&constraints[place]) {
@@ -136,22 +129,8 @@ pub fn near(
     Ok(places)
 }
 
-/// The places of the constraints that share a symbol with the seeds, or with another that does.
-pub fn relevant(
-    constraints: &[Form],
-    seeds: &[Form],
-    alloc: Global,
-) -> Result<Vec<usize>, PathFault> {
-    let mut reached = Reached::none(constraints, seeds, alloc)?;
-    for seed in seeds {
-        reached.add(seed);
-    }
-    let mut taken = Vec::from_elem(alloc, false, constraints.len())?;
-    for _ in 0..constraints.len() {
-        if !spread(constraints, &mut reached, &mut taken) {
-            break;
-        }
-    }
+// The places that are marked.
+fn marked(taken: &[bool], alloc: Global) -> Result<Vec<usize>, PathFault> {
     let mut places = Vec::new(alloc);
     for place in 0..taken.len() {
         if taken[place] {
@@ -159,4 +138,35 @@ pub fn relevant(
         }
     }
     Ok(places)
+}
+
+/// The places of the constraints that speak only of symbols of the seeds, or of those that so many
+/// steps by way of constraints lead to.
+pub fn near(
+    constraints: &[Form],
+    seeds: &[Form],
+    steps: usize,
+    alloc: Global,
+) -> Result<Vec<usize>, PathFault> {
+    let mut reached = Reached::by(constraints, seeds, alloc)?;
+    for _ in 0..steps {
+        widen(constraints, &mut reached, alloc)?;
+    }
+    covered(constraints, &reached, alloc)
+}
+
+/// The places of the constraints that share a symbol with the seeds, or with another that does.
+pub fn relevant(
+    constraints: &[Form],
+    seeds: &[Form],
+    alloc: Global,
+) -> Result<Vec<usize>, PathFault> {
+    let mut reached = Reached::by(constraints, seeds, alloc)?;
+    let mut taken = Vec::from_elem(alloc, false, constraints.len())?;
+    for _ in 0..constraints.len() {
+        if !spread(constraints, &mut reached, &mut taken) {
+            break;
+        }
+    }
+    marked(&taken, alloc)
 }

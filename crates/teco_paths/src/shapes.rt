@@ -53,13 +53,18 @@ fn stand_of(spot: &NodeCase, alloc: Global) -> Result<CutState, PathFault> {
     })
 }
 
-// Whether it is among those that were found.
-fn is_known(found: &[CutState], stand: &CutState) -> bool {
-    found.iter().any(|other| {
+// Whether the cut point of a spot is a new one among those that were found, where it is added.
+fn is_added(found: &mut Vec<CutState>, spot: &NodeCase, alloc: Global) -> Result<bool, PathFault> {
+    let stand = stand_of(spot, alloc)?;
+    let is_known = found.iter().any(|other| {
         other.number == stand.number
             && is_same_shape(&other.shape, &stand.shape)
             && are_same(&other.present, &stand.present)
-    })
+    });
+    if !is_known {
+        found.push(stand)?;
+    }
+    Ok(!is_known)
 }
 
 // What comes of the element of a node, or of the end of a text.
@@ -81,25 +86,79 @@ fn outcomes_behind(
     }
 }
 
-// Adds the spots of cases. Where it is not told to which node a way leads, it is left out.
-fn add_spots(
+// Adds the spot of a case. Where it is not told to which node a way leads, it is left out.
+fn add_spot(
     spots: &mut Vec<NodeCase>,
     nodes: &Nodes<'_>,
     number: usize,
     is_away: bool,
-    cases: Vec<Case>,
+    case: Case,
 ) -> Result<(), PathFault>
     requires one { 0 < number }
     requires last { number ≤ length nodes.now }
 {
-    let mut cases = cases;
-    for case in cases.iter_mut() {
-        case.constraints.clear();
+    let Ok(number) = target(nodes, number, is_away, &case) else {
+        return Ok(());
+    };
+    let mut case = case;
+    case.constraints.clear();
+    spots.push(NodeCase { number, case })?;
+    Ok(())
+}
+
+// Adds the spots of outcomes.
+fn add_spots(
+    spots: &mut Vec<NodeCase>,
+    nodes: &Nodes<'_>,
+    number: usize,
+    outcomes: &mut Outcomes,
+) -> Result<(), PathFault>
+    requires one { 0 < number }
+    requires last { number ≤ length nodes.now }
+{
+    for case in outcomes.cases.drain(..) {
+        add_spot(spots, nodes, number, false, case)?;
     }
-    for case in cases.into_iter() {
-        if let Ok(number) = target(nodes, number, is_away, &case) {
-            spots.push(NodeCase { number, case })?;
-        }
+    for case in outcomes.away.drain(..) {
+        add_spot(spots, nodes, number, true, case)?;
+    }
+    Ok(())
+}
+
+// Adds the spots behind one.
+fn add_behind(
+    spots: &mut Vec<NodeCase>,
+    course: &MacroGraph<'_>,
+    spot: &NodeCase,
+    alloc: Global,
+) -> Result<(), PathFault>
+    requires one { 0 < spot.now.number }
+    requires last { spot.now.number ≤ length course.now.nodes }
+{
+    match outcomes_behind(course, spot.number, &spot.case, alloc) {
+        Ok(mut outcomes) => add_spots(spots, course.nodes, spot.number, &mut outcomes),
+        Err(PathFault::Memory) => Err(PathFault::Memory),
+        // no shapes are known behind it
+        Err(_) => Ok(()),
+    }
+}
+
+// Adds what a spot leads to: its cut point, and, where that is a new one, the spots behind it.
+fn visit(
+    course: &MacroGraph<'_>,
+    spot: &NodeCase,
+    found: &mut Vec<CutState>,
+    ahead: &mut Vec<NodeCase>,
+    alloc: Global,
+) -> Result<(), PathFault> {
+    if spot.number == 0 || spot.number > course.nodes.len() {
+        return Ok(());
+    }
+    if spot.case.shape.pushes > MOST_PUSHES {
+        return Err(PathFault::TooLong);
+    }
+    if is_added(found, spot, alloc)? {
+        add_behind(ahead, course, spot, alloc)?;
     }
     Ok(())
 }
@@ -121,31 +180,7 @@ pub fn shapes(
         let Some(spot) = ahead.pop() else {
             return Ok(found);
         };
-        if spot.number == 0 || spot.number > course.nodes.len() {
-            continue;
-        }
-        if spot.case.shape.pushes > MOST_PUSHES {
-            return Err(PathFault::TooLong);
-        }
-        let stand = stand_of(&spot, alloc)?;
-        if is_known(&found, &stand) {
-            continue;
-        }
-        found.push(stand)?;
-        let outcomes = match outcomes_behind(course, spot.number, &spot.case, alloc) {
-            Ok(outcomes) => outcomes,
-            Err(PathFault::Memory) => return Err(PathFault::Memory),
-            // no shapes are known behind it
-            Err(_) => continue,
-        };
-        let Outcomes {
-            conditions: _conditions,
-            guarded: _guarded,
-            cases,
-            away,
-        } = outcomes;
-        add_spots(&mut ahead, course.nodes, spot.number, false, cases)?;
-        add_spots(&mut ahead, course.nodes, spot.number, true, away)?;
+        visit(course, &spot, &mut found, &mut ahead, alloc)?;
     }
     Err(PathFault::TooLong)
 }

@@ -14,6 +14,15 @@ pub struct Shifted {
     pub times: u64,
 }
 
+/// A form less another, if numbers hold it.
+pub fn less(form: &Form, other: &Form, alloc: Global) -> Result<Option<Form>, PathFault> {
+    match form.sub(other, alloc) {
+        Ok(left) => Ok(Some(left)),
+        Err(LinearFault::Memory) => Err(PathFault::Memory),
+        Err(_) => Ok(None),
+    }
+}
+
 // How often a form bounds a difference, if it does that times a number.
 fn times_of(form: &Form) -> Option<i128> {
     for term in form.terms() {
@@ -76,6 +85,19 @@ fn chain_for(
     }
 }
 
+// What of a target is left behind a constraint that is no bound on a difference.
+fn left_behind(
+    constraints: &[Form],
+    place: usize,
+    target: &Form,
+    alloc: Global,
+) -> Result<Option<Form>, PathFault> {
+    match constraints.get(place) {
+        Some(constraint) if !is_difference(constraint) => less(target, constraint, alloc),
+        _ => Ok(None),
+    }
+}
+
 /// Looks for a constraint at these places that shows a target, once a chain is added.
 pub fn with_chain(
     constraints: &[Form],
@@ -85,16 +107,8 @@ pub fn with_chain(
     alloc: Global,
 ) -> Result<Option<Shifted>, PathFault> {
     for place in places {
-        let Some(constraint) = constraints.get(*place) else {
+        let Some(left) = left_behind(constraints, *place, target, alloc)? else {
             continue;
-        };
-        if is_difference(constraint) {
-            continue;
-        }
-        let left = match target.sub(constraint, alloc) {
-            Ok(left) => left,
-            Err(LinearFault::Memory) => return Err(PathFault::Memory),
-            Err(_) => continue,
         };
         if let Some((chain, times)) = chain_for(graph, &left, alloc)? {
             return Ok(Some(Shifted {

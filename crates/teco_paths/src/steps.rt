@@ -1,8 +1,10 @@
 //! One step of a path.
-ghost use Rattle.std.specs.Prelude.{◌≡◌, ◌<◌, ◌≤◌, ◌++◌, length, IfOk};
+ghost use Rattle.std.specs.Prelude.{◌≡◌, ◌<◌, ◌≤◌, ◌≤ℤ◌, ◌++◌, ℕ, length, pos, IfOk};
 ghost use Rattle.std.specs.Bool.{OnTrue};
 ghost use Rattle.std.specs.List.{All};
 ghost use Rattle.teco_model.specs.Element.{seen};
+ghost use Rattle.teco_poly.specs.Polynomial.{value};
+ghost use Rattle.teco_rows.specs.States.{Describes, Point, single as measure};
 ghost use Rattle.teco_paths.specs.Paths.{Leads, LeadsOn};
 ghost use Rattle.teco_paths.specs.Steps.{AreKept, AreSpots, GoOn, IsAskedAt, IsInTime, IsPlain, IsRead};
 ghost use Rattle.teco_paths.specs.Steps.{IsSmall, IsTextEnd, TypesNoMore};
@@ -63,34 +65,43 @@ pub fn is_plain(nodes: &Nodes<'_>, number: usize, kind: Kind) -> bool
     }
 }
 
+// Whether what a case says of a measure is within a polynomial in N.
+fn is_bounded(
+    polynomial: &[u64],
+    case: &Case,
+    which: Single,
+    alloc: Global,
+) -> Result<bool, PathFault>
+    ensures { IfOk result (λ answer. OnTrue answer ((n : ℕ) (s : Point) → Describes n case.now s
+        → measure s which ≤ℤ pos (value polynomial.now n))) }
+{
+    let most = form_of(polynomial, alloc)?;
+    let measured = single(case, which, alloc)?;
+    is_so(case, &most.sub(&measured, alloc)?, alloc)
+}
+
 /// Whether what a case says of how much is held is within the size that is claimed.
 pub fn is_small(course: &MacroGraph<'_>, case: &Case, alloc: Global) -> Result<bool, PathFault>
     ensures { IfOk result (λ answer. OnTrue answer (IsSmall course.now case.now)) }
 {
-    let size = form_of(course.size, alloc)?;
-    let held = single(case, Single::Held, alloc)?;
-    is_so(case, &size.sub(&held, alloc)?, alloc)
+    is_bounded(course.size, case, Single::Held, alloc)
 }
 
 /// Whether the steps that a case says are within the commands that are claimed.
 pub fn is_in_time(course: &MacroGraph<'_>, case: &Case, alloc: Global) -> Result<bool, PathFault>
     ensures { IfOk result (λ answer. OnTrue answer (IsInTime course.now case.now)) }
 {
-    let commands = form_of(course.commands, alloc)?;
-    let steps = single(case, Single::Steps, alloc)?;
-    is_so(case, &commands.sub(&steps, alloc)?, alloc)
+    is_bounded(course.commands, case, Single::Steps, alloc)
 }
 
 /// Whether the bytes that a case says were typed are within the bound that is claimed, if one is.
 pub fn types_no_more(course: &MacroGraph<'_>, case: &Case, alloc: Global) -> Result<bool, PathFault>
     ensures { IfOk result (λ answer. OnTrue answer (TypesNoMore course.now case.now)) }
 {
-    let Some(types) = course.types else {
-        return Ok(true);
-    };
-    let most = form_of(types, alloc)?;
-    let typed = single(case, Single::Typed, alloc)?;
-    is_so(case, &most.sub(&typed, alloc)?, alloc)
+    match course.types {
+        Some(types) => is_bounded(types, case, Single::Typed, alloc),
+        None => Ok(true),
+    }
 }
 
 // The spots of both ways.

@@ -135,6 +135,23 @@ fn term_of(
     })
 }
 
+// A term as a form of one term.
+fn form_of_term(
+    nodes: &Nodes<'_>,
+    number: usize,
+    term: &teco_claims::ClaimTerm,
+    times: u128,
+    alloc: Global,
+) -> Result<Form, PathFault>
+    requires one { 0 < number }
+    requires last { number ≤ length nodes.now }
+{
+    match term_of(nodes, number, term, times) {
+        Some(term) => Ok(Form::term(term, alloc)?),
+        None => Err(PathFault::Unread(number)),
+    }
+}
+
 // A claim at a node as a form.
 fn form_of(
     nodes: &Nodes<'_>,
@@ -150,12 +167,27 @@ fn form_of(
     };
     let mut form = Form::zero(alloc);
     for term in &claim.terms {
-        let Some(term) = term_of(nodes, number, term, times) else {
-            return Err(PathFault::Unread(number));
-        };
-        form = form.add(&Form::term(term, alloc)?, alloc)?;
+        let more = form_of_term(nodes, number, term, times, alloc)?;
+        form = form.add(&more, alloc)?;
     }
     Ok(form)
+}
+
+// The claims at a node as forms.
+fn forms_of(
+    nodes: &Nodes<'_>,
+    cut: &teco_claims::Cut,
+    alloc: Global,
+) -> Result<Vec<Form>, PathFault> {
+    let number = cut.point;
+    if number == 0 || number > nodes.len() {
+        return Err(PathFault::NoElement(number));
+    }
+    let mut claims = Vec::new(alloc);
+    for claim in &cut.claims {
+        claims.push(form_of(nodes, number, claim, alloc)?)?;
+    }
+    Ok(claims)
 }
 
 // A cut point with the shape that was found there.
@@ -166,24 +198,34 @@ fn cut_of(
     used: &[bool],
     alloc: Global,
 ) -> Result<CutState, PathFault> {
-    let number = cut.point;
-    if number == 0 || number > nodes.len() {
-        return Err(PathFault::NoElement(number));
-    }
-    let mut claims = Vec::new(alloc);
-    for claim in &cut.claims {
-        claims.push(form_of(nodes, number, claim, alloc)?)?;
-    }
-    let mut present = Vec::new(alloc);
-    present.extend_from_slice(&stand.present)?;
+    let claims = forms_of(nodes, cut, alloc)?;
+    let present = Vec::from_slice(alloc, &stand.present)?;
     let told = both(&present, used, alloc)?;
+    let shape = copied_shape(&stand.shape, alloc)?;
     Ok(CutState {
-        number,
-        shape: copied_shape(&stand.shape, alloc)?,
+        number: cut.point,
+        shape,
         present,
         told,
         claims,
     })
+}
+
+// The cut point of claims, with each of the shapes that were found at its node.
+fn cuts_at(
+    nodes: &Nodes<'_>,
+    cut: &teco_claims::Cut,
+    stands: &[CutState],
+    used: &[bool],
+    alloc: Global,
+) -> Result<Vec<CutState>, PathFault> {
+    let mut cuts = Vec::new(alloc);
+    for stand in stands {
+        if stand.number == cut.point {
+            cuts.push(cut_of(nodes, cut, stand, used, alloc)?)?;
+        }
+    }
+    Ok(cuts)
 }
 
 /// The cut points of claims, each with the shapes that were found at its node. Those at the first
@@ -197,10 +239,9 @@ pub fn cuts_of(
 ) -> Result<Vec<CutState>, PathFault> {
     let mut cuts = Vec::new(alloc);
     for cut in &claimed.cuts {
-        for stand in stands {
-            if stand.number == cut.point && cut.point != 1 {
-                cuts.push(cut_of(nodes, cut, stand, used, alloc)?)?;
-            }
+        if cut.point != 1 {
+            let mut more = cuts_at(nodes, cut, stands, used, alloc)?;
+            cuts.append(&mut more)?;
         }
     }
     Ok(cuts)

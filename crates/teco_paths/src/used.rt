@@ -72,20 +72,31 @@ fn mark_claimed(used: &mut [bool], measure: Option<ClaimMeasure>) {
     }
 }
 
-/// Marks the places of all measures but those of registers that neither an element nor a claim
-/// names.
-pub fn used(nodes: &Nodes<'_>, claimed: &Claims, alloc: Global) -> Result<Vec<bool>, PathFault> {
+// Marks the registers that claims speak of.
+fn mark_all_claimed(used: &mut [bool], claimed: &Claims) {
+    for cut in &claimed.cuts {
+        for claim in &cut.claims {
+            for term in &claim.terms {
+                mark_claimed(used, term.measure);
+            }
+        }
+    }
+}
+
+// Marks the places of all measures but those of registers.
+fn without_registers(alloc: Global) -> Result<Vec<bool>, PathFault> {
     let mut used = Vec::new(alloc);
     for place in 0..PLACES {
         used.push(place < 10 || (place - 10) % 7 > 1)?;
     }
+    Ok(used)
+}
+
+/// Marks the places of all measures but those of registers that neither an element nor a claim
+/// names.
+pub fn used(nodes: &Nodes<'_>, claimed: &Claims, alloc: Global) -> Result<Vec<bool>, PathFault> {
+    let mut used = without_registers(alloc)?;
     mark_named(&mut used, nodes);
-    for cut in &claimed.cuts {
-        for claim in &cut.claims {
-            for term in &claim.terms {
-                mark_claimed(&mut used, term.measure);
-            }
-        }
-    }
+    mark_all_claimed(&mut used, claimed);
     Ok(used)
 }

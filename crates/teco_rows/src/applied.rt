@@ -129,6 +129,9 @@ fn sum(
 {
     let mut sum = Form::constant(i128::from(constant), alloc)?;
     for (times, of) in parts {
+        if *times == 0 {
+            continue;
+        }
         let scale = Scale {
             factor: i128::from(*times),
             power: 0,

@@ -267,11 +267,12 @@ fn answer<T: TextStore, W: Write, H: Host, L: Listener<H>>(
 /// # Examples
 ///
 /// ```
-/// let mut machine = Machine::new(alloc, GapText::new(alloc));
-/// let (mut keys, mut typed) = (b"Iabc\x1bHT\x1b\x1b".as_slice(), Vec::new(alloc));
-/// let (from, to, host) = (&mut keys, &mut typed, &mut MemHost::new(alloc));
-/// let done = session(alloc, &mut machine, from, to, host, 1_000)?;
-/// Ok(!done.coded && typed.as_slice() == b"abc".as_slice())
+/// fn types_abc(alloc: Global, machine: &mut Machine<GapText>) -> Result<bool, SessionFault> {
+///     let (mut keys, mut typed) = (b"Iabc\x1bHT\x1b\x1b".as_slice(), Vec::new(alloc));
+///     let (from, to, host) = (&mut keys, &mut typed, &mut MemHost::new(alloc));
+///     let done = session(alloc, machine, from, to, host, 1_000)?;
+///     Ok(!done.coded && typed.as_slice() == b"abc".as_slice())
+/// }
 /// ```
 pub fn session<T: TextStore, R: Read, W: Write, H: Host>(
     alloc: Global,

@@ -1,6 +1,9 @@
 //! Equations in whole numbers: a sum of terms equals a constant.
+use crate::counts::{count_less, count_more};
 use crate::exact::{common_divisor, difference, product, quotient, sum};
 use crate::fault::SimplexFault;
+use crate::narrow::Narrow;
+use crate::outline::Outline;
 use crate::program::Summand;
 
 // The terms are in the order of their variables, each variable in one term at most. The basic
@@ -11,37 +14,23 @@ pub struct Equation {
     pub basic: Option<usize>,
     pub terms: Vec<Summand>,
     pub constant: i128,
-    // The marks of its variables, and maybe of others: one that has no mark is in no term.
-    pub marks: u64,
-}
-
-// The mark of a variable, which some others have too.
-fn mark_of(variable: usize) -> u64 {
-    1 << (variable % 64)
-}
-
-// The marks of the variables of terms.
-fn marks_of(terms: &[Summand]) -> u64 {
-    let mut marks = 0;
-    for term in terms {
-        marks |= mark_of(term.variable);
-    }
-    marks
+    // The outline of its terms, and maybe of others that were among them.
+    pub outline: Outline,
 }
 
 impl Equation {
     pub fn new(terms: Vec<Summand>, constant: i128) -> Equation {
-        let marks = marks_of(&terms);
+        let outline = Outline::of(&terms);
         Equation {
             basic: None,
             terms,
             constant,
-            marks,
+            outline,
         }
     }
 
     pub fn coefficient(&self, variable: usize) -> i128 {
-        if self.marks & mark_of(variable) == 0 {
+        if !self.outline.may_have(variable) {
             return 0;
         }
         let found = self
@@ -89,37 +78,36 @@ impl Equation {
             return Ok(());
         }
         let shared = common_divisor(own, pivot.leading)?;
-        let kept = Scaled {
-            terms: &self.terms,
-            factor: quotient(pivot.leading, shared)?,
-        };
-        let taken = Scaled {
-            terms: &pivot.equation.terms,
-            factor: difference(0, quotient(own, shared)?)?,
-        };
+        let kept = self.scaled(quotient(pivot.leading, shared)?);
+        let taken = pivot
+            .equation
+            .scaled(difference(0, quotient(own, shared)?)?);
         let constant = sum(
             product(kept.factor, self.constant)?,
             product(taken.factor, pivot.equation.constant)?,
         )?;
         spare.clear();
         spare.reserve(self.terms.len().saturating_add(pivot.equation.terms.len()))?;
-        append_sum(spare, &kept, &taken)?;
+        let outline = kept.add_to(spare, &taken, counts)?;
         std::mem::swap(&mut self.terms, spare);
-        recount(counts, spare, &self.terms);
         self.constant = constant;
-        self.marks = marks_of(&self.terms);
+        self.outline = outline;
+        if outline.has_unit {
+            return Ok(());
+        }
         self.reduce()
+    }
+
+    fn scaled(&self, factor: i128) -> Scaled<'_> {
+        Scaled {
+            terms: &self.terms,
+            outline: self.outline,
+            factor,
+        }
     }
 
     // Divides the equation by the greatest number that divides all of it.
     pub fn reduce(&mut self) -> Result<(), SimplexFault> {
-        let has_unit = self
-            .terms
-            .iter()
-            .any(|term| term.coefficient == 1 || term.coefficient == -1);
-        if has_unit {
-            return Ok(());
-        }
         let mut divisor = self.constant;
         for term in &self.terms {
             if divisor == 1 {
@@ -132,25 +120,9 @@ impl Equation {
                 term.coefficient = quotient(term.coefficient, divisor)?;
             }
             self.constant = quotient(self.constant, divisor)?;
+            self.outline = Outline::of(&self.terms);
         }
         Ok(())
-    }
-}
-
-// Takes old terms from the counts of variables, if these are kept, and adds new ones.
-fn recount(counts: &mut [usize], old: &[Summand], new: &[Summand]) {
-    if counts.is_empty() {
-        return;
-    }
-    for term in old {
-        if let Some(count) = counts.get_mut(term.variable) {
-            *count = count.saturating_sub(1);
-        }
-    }
-    for term in new {
-        if let Some(count) = counts.get_mut(term.variable) {
-            *count = count.saturating_add(1);
-        }
     }
 }
 
@@ -177,10 +149,38 @@ impl Pivot<'_> {
 #[derive(Clone, Copy)]
 struct Scaled<'a> {
     terms: &'a [Summand],
+    outline: Outline,
     factor: i128,
 }
 
-impl Scaled<'_> {
+impl<'a> Scaled<'a> {
+    // Appends the sum with other terms, in order, without the terms that cancel. Gives its outline.
+    fn add_to(
+        &self,
+        sum_terms: &mut Vec<Summand>,
+        other: &Scaled<'_>,
+        counts: &mut [usize],
+    ) -> Result<Outline, SimplexFault> {
+        if let (Some(one), Some(other)) = (self.narrow(), other.narrow()) {
+            return one.add_to(sum_terms, &other, counts);
+        }
+        self.add_wide_to(sum_terms, other, counts)?;
+        Ok(Outline::of(sum_terms))
+    }
+
+    // The terms with a factor of 64 bits, where no product takes more than 62 bits.
+    fn narrow(&self) -> Option<Narrow<'a>> {
+        let factor = i64::try_from(self.factor).ok()?;
+        let greatest = self.outline.digits.checked_mul(factor.unsigned_abs())?;
+        if greatest >= 1 << 62 {
+            return None;
+        }
+        Some(Narrow {
+            terms: self.terms,
+            factor,
+        })
+    }
+
     fn times(&self, term: &Summand) -> Result<Summand, SimplexFault> {
         Ok(Summand {
             variable: term.variable,
@@ -188,14 +188,20 @@ impl Scaled<'_> {
         })
     }
 
-    // Appends the sum with other terms, in order, without the terms that cancel.
-    fn add_to(&self, sum_terms: &mut Vec<Summand>, other: &Scaled<'_>) -> Result<(), SimplexFault> {
+    // Appends the sum by numbers of 128 bits.
+    fn add_wide_to(
+        &self,
+        sum_terms: &mut Vec<Summand>,
+        other: &Scaled<'_>,
+        counts: &mut [usize],
+    ) -> Result<(), SimplexFault> {
         let mut rest = other.terms;
         for term in self.terms {
             while let [first, behind @ ..] = rest
                 && first.variable < term.variable
             {
                 sum_terms.push(other.times(first)?)?;
+                count_more(counts, first.variable);
                 rest = behind;
             }
             let mut scaled = self.times(term)?;
@@ -205,126 +211,29 @@ impl Scaled<'_> {
                 scaled.coefficient = sum(scaled.coefficient, other.times(first)?.coefficient)?;
                 rest = behind;
             }
-            if scaled.coefficient != 0 {
+            if scaled.coefficient == 0 {
+                count_less(counts, term.variable);
+            } else {
                 sum_terms.push(scaled)?;
             }
         }
         let tail = Scaled {
             terms: rest,
-            factor: other.factor,
+            ..*other
         };
-        tail.append_to(sum_terms)
+        tail.append_to(sum_terms, counts)
     }
 
-    fn append_to(&self, terms: &mut Vec<Summand>) -> Result<(), SimplexFault> {
+    // Appends the terms, which no term of the sum is like.
+    fn append_to(
+        &self,
+        sum_terms: &mut Vec<Summand>,
+        counts: &mut [usize],
+    ) -> Result<(), SimplexFault> {
         for term in self.terms {
-            terms.push(self.times(term)?)?;
+            sum_terms.push(self.times(term)?)?;
+            count_more(counts, term.variable);
         }
         Ok(())
     }
-}
-
-// Terms times a factor of 64 bits.
-#[derive(Clone, Copy)]
-struct Narrow<'a> {
-    terms: &'a [Summand],
-    factor: i64,
-}
-
-impl<'a> Narrow<'a> {
-    fn of(scaled: &Scaled<'a>) -> Option<Narrow<'a>> {
-        Some(Narrow {
-            terms: scaled.terms,
-            factor: i64::try_from(scaled.factor).ok()?,
-        })
-    }
-
-    // The factor times the term's coefficient, where all fit 64 bits.
-    fn times(&self, term: &Summand) -> Option<i64> {
-        i64::try_from(term.coefficient)
-            .ok()?
-            .checked_mul(self.factor)
-    }
-
-    // Appends the sum with other terms, as long as its numbers fit 64 bits, which takes less time; says
-    // whether all do.
-    fn add_to(
-        &self,
-        sum_terms: &mut Vec<Summand>,
-        other: &Narrow<'_>,
-    ) -> Result<bool, SimplexFault> {
-        let mut rest = other.terms;
-        for term in self.terms {
-            while let [first, behind @ ..] = rest
-                && first.variable < term.variable
-            {
-                if !push_narrow(sum_terms, first.variable, other.times(first))? {
-                    return Ok(false);
-                }
-                rest = behind;
-            }
-            let mut coefficient = self.times(term);
-            if let [first, behind @ ..] = rest
-                && first.variable == term.variable
-            {
-                coefficient = narrow_sum(coefficient, other.times(first));
-                rest = behind;
-            }
-            if !push_narrow(sum_terms, term.variable, coefficient)? {
-                return Ok(false);
-            }
-        }
-        let tail = Narrow {
-            terms: rest,
-            factor: other.factor,
-        };
-        tail.append_to(sum_terms)
-    }
-
-    // Appends the terms, as long as they fit 64 bits; says whether all do.
-    fn append_to(&self, terms: &mut Vec<Summand>) -> Result<bool, SimplexFault> {
-        for term in self.terms {
-            if !push_narrow(terms, term.variable, self.times(term))? {
-                return Ok(false);
-            }
-        }
-        Ok(true)
-    }
-}
-
-fn narrow_sum(left: Option<i64>, right: Option<i64>) -> Option<i64> {
-    left?.checked_add(right?)
-}
-
-// Appends a term, if it is not 0; says whether its coefficient is told.
-fn push_narrow(
-    terms: &mut Vec<Summand>,
-    variable: usize,
-    coefficient: Option<i64>,
-) -> Result<bool, SimplexFault> {
-    let Some(coefficient) = coefficient else {
-        return Ok(false);
-    };
-    if coefficient != 0 {
-        terms.push(Summand {
-            variable,
-            coefficient: i128::from(coefficient),
-        })?;
-    }
-    Ok(true)
-}
-
-// Appends the sum of terms in order, without those that cancel.
-fn append_sum(
-    sum_terms: &mut Vec<Summand>,
-    left: &Scaled<'_>,
-    right: &Scaled<'_>,
-) -> Result<(), SimplexFault> {
-    if let (Some(one), Some(other)) = (Narrow::of(left), Narrow::of(right)) {
-        if one.add_to(sum_terms, &other)? {
-            return Ok(());
-        }
-        sum_terms.clear();
-    }
-    left.add_to(sum_terms, right)
 }

@@ -3,9 +3,12 @@
 #![tactic(auto)]
 
 mod check;
+mod counts;
 mod equation;
 mod exact;
 mod fault;
+mod narrow;
+mod outline;
 mod program;
 mod read;
 mod simplex;

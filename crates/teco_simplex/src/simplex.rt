@@ -7,8 +7,8 @@ use crate::tableau::{Column, Tableau};
 // Which of several pivots is taken.
 #[derive(Clone, Copy, Debug, PartialEq, Eq)]
 pub enum Rule {
-    // The steepest entering variable, and the shortest equation.
-    Steepest,
+    // The entering variable that is in the fewest equations, and the shortest equation.
+    Rarest,
     // The first variables.
     Bland,
 }
@@ -50,7 +50,7 @@ impl Leaving {
         }
         let is_first = self.basic < other.basic;
         Ok(match rule {
-            Rule::Steepest if self.length != other.length => self.length < other.length,
+            Rule::Rarest if self.length != other.length => self.length < other.length,
             _ => is_first,
         })
     }
@@ -59,10 +59,17 @@ impl Leaving {
 impl Tableau {
     // Brings the objective at the place to its least value.
     pub fn minimise(&mut self, objective: usize) -> Result<End, SimplexFault> {
+        self.counts = self.counted()?;
+        let end = self.descend(objective);
+        self.counts.clear();
+        end
+    }
+
+    fn descend(&mut self, objective: usize) -> Result<End, SimplexFault> {
         let mut stalled = 0usize;
         for _ in 0..self.limits.pivots.saturating_add(1) {
             let rule = if stalled < self.limits.patience {
-                Rule::Steepest
+                Rule::Rarest
             } else {
                 Rule::Bland
             };
@@ -84,16 +91,17 @@ impl Tableau {
 
     // A variable whose growth lowers the objective.
     fn entering(&self, objective: usize, rule: Rule) -> Option<usize> {
-        let mut steepest = 0;
         let mut found = None;
+        let mut least = usize::MAX;
         for term in &self.objectives.get(objective)?.terms {
             let lowers = match self.column(term.variable) {
-                Column::Usable => term.coefficient < steepest,
+                Column::Usable => term.coefficient < 0,
                 Column::Free => true,
                 Column::Barred => false,
             };
-            if lowers {
-                steepest = term.coefficient;
+            let count = self.count(term.variable);
+            if lowers && count <= least {
+                least = count;
                 found = Some(term.variable);
                 if rule == Rule::Bland {
                     break;

@@ -2,6 +2,7 @@
 ghost use Rattle.std.specs.Prelude.{IfOk};
 ghost use Rattle.teco_simplex.specs.Satisfaction.{IsSatisfying};
 
+use crate::counts::count_more;
 use crate::equation::{Equation, Pivot};
 use crate::exact::{difference, sum};
 use crate::fault::SimplexFault;
@@ -117,13 +118,11 @@ impl Tableau {
     }
 
     // In how many equations and objectives each variable is.
-    fn counted(&self) -> Result<Vec<usize>, SimplexFault> {
+    pub fn counted(&self) -> Result<Vec<usize>, SimplexFault> {
         let mut counts = Vec::from_elem(self.alloc, 0usize, self.columns.len())?;
         for equation in self.equations.iter().chain(&self.objectives) {
             for term in &equation.terms {
-                if let Some(count) = counts.get_mut(term.variable) {
-                    *count = count.saturating_add(1);
-                }
+                count_more(&mut counts, term.variable);
             }
         }
         Ok(counts)
@@ -136,17 +135,29 @@ impl Tableau {
             let Some(place) = self.unsettled() else {
                 break;
             };
-            match self
-                .equations
-                .get(place)
-                .and_then(|equation| rarest(equation, &self.counts))
-            {
+            match self.rarest(place) {
                 Some(variable) => self.pivot(place, variable)?,
                 None => drop(self.take(place)),
             }
         }
         self.counts.clear();
         Ok(())
+    }
+
+    // The variable of the equation at the place that is in the fewest equations, before others one
+    // with a coefficient of 1 or -1.
+    fn rarest(&self, place: usize) -> Option<usize> {
+        let mut found = None;
+        let mut least = (true, usize::MAX);
+        for term in &self.equations.get(place)?.terms {
+            let is_unit = term.coefficient == 1 || term.coefficient == -1;
+            let cost = (!is_unit, self.count(term.variable));
+            if found.is_none() || cost < least {
+                least = cost;
+                found = Some(term.variable);
+            }
+        }
+        found
     }
 
     // The shortest equation with the constant 0 and no basic variable.
@@ -292,20 +303,4 @@ fn lone(equation: &Equation, counts: &[usize]) -> Option<usize> {
                 && (term.coefficient > 0 || equation.constant == 0)
         })
         .map(|term| term.variable)
-}
-
-// The variable of the equation that is in the fewest equations, before others one with a coefficient
-// of 1 or -1.
-fn rarest(equation: &Equation, counts: &[usize]) -> Option<usize> {
-    let mut found = None;
-    let mut least = (true, usize::MAX);
-    for term in &equation.terms {
-        let count = counts.get(term.variable).copied().unwrap_or(usize::MAX);
-        let cost = (term.coefficient != 1 && term.coefficient != -1, count);
-        if found.is_none() || cost < least {
-            least = cost;
-            found = Some(term.variable);
-        }
-    }
-    found
 }

@@ -120,6 +120,11 @@ impl Tableau {
             .unwrap_or(Column::Barred)
     }
 
+    // In how many equations the variable is, while that is counted.
+    pub fn count(&self, variable: usize) -> usize {
+        self.counts.get(variable).copied().unwrap_or(usize::MAX)
+    }
+
     // Makes the variable basic in the equation at the place: takes it out of all others.
     pub fn pivot(&mut self, place: usize, variable: usize) -> Result<(), SimplexFault> {
         let pivot = self.eliminated(place, variable)?;

@@ -1,4 +1,5 @@
 //! The examples that stand in the documentation of texts, pages, runs and sessions.
+use crate::trial::machine_over;
 use std::alloc::Global;
 use std::process::Abort;
 use teco_pages::{Fault, MemHost, Pages};
@@ -13,22 +14,24 @@ fn edits_a_text(alloc: Global) -> Result<bool, TextFault> {
     Ok(text.dot() == 3 && text.at(0) == Some(b'o') && text.at(3).is_none())
 }
 
-fn reads_a_page(alloc: Global) -> Result<bool, Fault> {
-    let mut host = MemHost::new(alloc);
+fn reads_a_page(pages: &mut Pages, host: &mut MemHost) -> Result<bool, Fault> {
     host.put(b"in", b"first\x0csecond")?;
-    let mut pages = Pages::new(alloc);
-    pages.open_in(b"in", &mut host)?;
-    pages.next_page(&mut host)?;
+    pages.open_in(b"in", host)?;
+    pages.next_page(host)?;
     Ok(matches!(pages.page(), Some((b"first", true))))
 }
 
-fn writes_a_file(alloc: Global) -> Result<bool, Fault> {
-    let mut host = MemHost::new(alloc);
-    let mut pages = Pages::new(alloc);
-    pages.open_out(b"out", &mut host)?;
-    pages.write_page(b"one ", b"two", false, &mut host)?;
-    pages.close_out(&mut host)?;
+fn writes_a_file(pages: &mut Pages, host: &mut MemHost) -> Result<bool, Fault> {
+    pages.open_out(b"out", host)?;
+    pages.write_page(b"one ", b"two", false, host)?;
+    pages.close_out(host)?;
     Ok(matches!(host.file(b"out"), Some(b"one two")))
+}
+
+fn pages_are_moved(alloc: Global) -> bool {
+    let (mut pages, mut host) = (Pages::new(alloc), MemHost::new(alloc));
+    let is_read = matches!(reads_a_page(&mut pages, &mut host), Ok(true));
+    is_read && matches!(writes_a_file(&mut pages, &mut host), Ok(true))
 }
 
 fn runs_a_string(alloc: Global) -> bool {
@@ -38,20 +41,25 @@ fn runs_a_string(alloc: Global) -> bool {
     matches!(stop, Stop::Ended { .. }) && typed.as_slice() == b"abc".as_slice()
 }
 
-fn runs_a_session(alloc: Global) -> Result<bool, SessionFault> {
-    let mut machine = Machine::new(alloc, GapText::new(alloc));
+fn types_abc(alloc: Global, machine: &mut Machine<GapText>) -> Result<bool, SessionFault> {
     let (mut keys, mut typed) = (b"Iabc\x1bHT\x1b\x1b".as_slice(), Vec::new(alloc));
     let (from, to, host) = (&mut keys, &mut typed, &mut MemHost::new(alloc));
-    let done = session(alloc, &mut machine, from, to, host, 1_000)?;
+    let done = session(alloc, machine, from, to, host, 1_000)?;
     Ok(!done.coded && typed.as_slice() == b"abc".as_slice())
+}
+
+fn runs_a_session(alloc: Global) -> bool {
+    match machine_over(alloc, GapText::new(alloc)) {
+        Some(mut machine) => matches!(types_abc(alloc, machine.as_mut()), Ok(true)),
+        None => false,
+    }
 }
 
 fn all_hold(alloc: Global) -> bool {
     matches!(edits_a_text(alloc), Ok(true))
-        && matches!(reads_a_page(alloc), Ok(true))
-        && matches!(writes_a_file(alloc), Ok(true))
+        && pages_are_moved(alloc)
         && runs_a_string(alloc)
-        && matches!(runs_a_session(alloc), Ok(true))
+        && runs_a_session(alloc)
 }
 
 // The second time at the latest: a growth may be refused the first time.

@@ -93,14 +93,13 @@ fn new_machine(alloc: Global) -> Option<Box<Machine<VecText>>> {
 }
 
 // Edits pages of the file `in` of a host into the file `out`. None where there is no end, or an output is left open.
-fn edited_by(
-    alloc: Global,
-    verified: &Verified<'_>,
+fn edited_on(
+    machine: &mut Machine<VecText>,
+    (alloc, verified): (Global, &Verified<'_>),
     (pages, refused): (PageChoice, u128),
     host: &mut TestHost,
     written: &mut Vec<u8>,
 ) -> Option<(EndedEdit, GuardCounts)> {
-    let mut machine = Machine::new(alloc, VecText::new(alloc));
     let mut seen = GuardCounts::default();
     let promise = verified.promise();
     let edit = Edit {
@@ -112,12 +111,23 @@ fn edited_by(
         pages,
         guard: &Refusing(refused),
     };
-    match edit_file(&mut machine, &edit, host, written, &mut seen) {
+    match edit_file(machine, &edit, host, written, &mut seen) {
         Ok(done) if !machine.has_output() => {
             Some(((done.coded, done.refused, done.pages, done.steps), seen))
         }
         _ => None,
     }
+}
+
+fn edited_by(
+    alloc: Global,
+    verified: &Verified<'_>,
+    choice: (PageChoice, u128),
+    host: &mut TestHost,
+    written: &mut Vec<u8>,
+) -> Option<(EndedEdit, GuardCounts)> {
+    let mut machine = new_machine(alloc)?;
+    edited_on(machine.as_mut(), (alloc, verified), choice, host, written)
 }
 
 // Edits the first page alone, and tells no pages and no steps.

@@ -10,27 +10,38 @@ use teco_model::Stop;
 use teco_pages::MemHost;
 use teco_run::Machine;
 use teco_text::GapText;
-use teco_verify::{check_certificate, verify};
+use teco_verify::{Verified, check_certificate, verify};
 
-fn checks_a_certificate(alloc: Global) -> Option<bool> {
-    let library = Library::read(alloc, b"@^UA/J<:Sa\x1b;-D>/").ok()?;
-    let verified = verify(alloc, &library, Reg::of(b'A')?).ok()?;
+fn is_checked(alloc: Global, verified: &Verified<'_>) -> Option<bool> {
     let certificate = verified.certificate(alloc).ok()?;
     if certificate.len() > LIMIT {
         return None;
     }
-    Some(check_certificate(alloc, &library, &certificate).is_ok())
+    Some(check_certificate(alloc, verified.library(), &certificate).is_ok())
+}
+
+fn checks_a_certificate(alloc: Global) -> Option<bool> {
+    let library = Library::read(alloc, b"@^UA/J<:Sa\x1b;-D>/").ok()?;
+    let verified = verify(alloc, &library, Reg::of(b'A')?).ok()?;
+    is_checked(alloc, &verified)
+}
+
+fn types_bnn(
+    machine: &mut Machine<GapText>,
+    verified: &Verified<'_>,
+    host: &mut MemHost,
+) -> Option<bool> {
+    machine.run(b"Ibanana\x1b", 100, host);
+    let stop = run_verified(machine, verified, host).ok()?;
+    let typed = machine.take_typed();
+    Some(matches!(stop, Stop::Ended { .. }) && typed.as_slice() == b"bnn".as_slice())
 }
 
 fn runs_a_verified_macro(alloc: Global) -> Option<bool> {
     let library = Library::read(alloc, b"@^UA/J<:Sa\x1b;-D>HT/").ok()?;
     let verified = verify(alloc, &library, Reg::of(b'A')?).ok()?;
-    let mut machine = Machine::new(alloc, GapText::new(alloc));
-    let mut host = MemHost::new(alloc);
-    machine.run(b"Ibanana\x1b", 100, &mut host);
-    let stop = run_verified(&mut machine, &verified, &mut host).ok()?;
-    let typed = machine.take_typed();
-    Some(matches!(stop, Stop::Ended { .. }) && typed.as_slice() == b"bnn".as_slice())
+    let mut machine = Box::new(alloc, Machine::new(alloc, GapText::new(alloc))).ok()?;
+    types_bnn(machine.as_mut(), &verified, &mut MemHost::new(alloc))
 }
 
 #[test]

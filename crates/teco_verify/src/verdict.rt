@@ -290,13 +290,19 @@ fn verified<'l>(alloc: Global, asked: &AskedMacro<'l>) -> Result<Verified<'l>, R
 /// # Examples
 ///
 /// ```
-/// let library = Library::read(alloc, b"@^UA/J<:Sa\x1b;-D>/").ok()?;
-/// let verified = verify(alloc, &library, Reg::of(b'A')?).ok()?;
-/// let certificate = verified.certificate(alloc).ok()?;
-/// if certificate.len() > LIMIT {
-///     return None;
+/// fn is_checked(alloc: Global, verified: &Verified<'_>) -> Option<bool> {
+///     let certificate = verified.certificate(alloc).ok()?;
+///     if certificate.len() > LIMIT {
+///         return None;
+///     }
+///     Some(check_certificate(alloc, verified.library(), &certificate).is_ok())
 /// }
-/// Some(check_certificate(alloc, &library, &certificate).is_ok())
+///
+/// fn checks_a_certificate(alloc: Global) -> Option<bool> {
+///     let library = Library::read(alloc, b"@^UA/J<:Sa\x1b;-D>/").ok()?;
+///     let verified = verify(alloc, &library, Reg::of(b'A')?).ok()?;
+///     is_checked(alloc, &verified)
+/// }
 /// ```
 pub fn verify<'l>(alloc: Global, library: &'l Library, entry: Reg) -> Result<Verified<'l>, Refusal>
     ensures library { IfOk result (λ verified. verified.library ≡ library.now.texts) }

@@ -39,18 +39,28 @@ fn bare<'a>(alloc: Global, page: &HelpPage) -> Command<'a> {
         .after_help(page.examples)
 }
 
-// A command with its arguments. Where options name the macro, words do not.
+// Adds the arguments of a command to others. Where options name the macro, words do not.
+fn push_page<'a>(
+    alloc: Global,
+    page: &HelpPage,
+    is_by_options: bool,
+    args: &mut Vec<Arg<'a>>,
+) -> Result<(), AllocError> {
+    push_args(alloc, page.options, args)?;
+    if !is_by_options {
+        push_args(alloc, page.library, args)?;
+    }
+    push_args(alloc, page.words, args)
+}
+
+// A command with its arguments.
 fn subcommand<'a>(
     alloc: Global,
     page: &HelpPage,
     is_by_options: bool,
 ) -> Result<Command<'a>, AllocError> {
     let mut args = Vec::new(alloc);
-    push_args(alloc, page.options, &mut args)?;
-    if !is_by_options {
-        push_args(alloc, page.library, &mut args)?;
-    }
-    push_args(alloc, page.words, &mut args)?;
+    push_page(alloc, page, is_by_options, &mut args)?;
     bare(alloc, page).args(args)
 }
 
@@ -103,65 +113,74 @@ fn command_of<'a, S: AsStr>(
     }
 }
 
-// The command `run`.
-fn run_command<'a, S: AsStr>(alloc: Global, words: &[S]) -> Result<Command<'a>, AllocError> {
-    command_of(alloc, words, &RUN_PAGE)
+// Adds a command of the program to others.
+fn add<'a, S: AsStr>(
+    commands: &mut Vec<Command<'a>>,
+    words: &[S],
+    page: &HelpPage,
+) -> Result<(), AllocError> {
+    let alloc = *commands.allocator();
+    commands.push(command_of(alloc, words, page)?)?;
+    Ok(())
 }
 
-// The command `verify`.
-fn verify_command<'a, S: AsStr>(alloc: Global, words: &[S]) -> Result<Command<'a>, AllocError> {
-    command_of(alloc, words, &VERIFY_PAGE)
+// Adds the command `run`.
+fn add_run<S: AsStr>(commands: &mut Vec<Command<'_>>, words: &[S]) -> Result<(), AllocError> {
+    add(commands, words, &RUN_PAGE)
 }
 
-// The command `check`.
-fn check_command<'a, S: AsStr>(alloc: Global, words: &[S]) -> Result<Command<'a>, AllocError> {
-    command_of(alloc, words, &CHECK_PAGE)
+// Adds the command `verify`.
+fn add_verify<S: AsStr>(commands: &mut Vec<Command<'_>>, words: &[S]) -> Result<(), AllocError> {
+    add(commands, words, &VERIFY_PAGE)
 }
 
-// The command `apply`.
-fn apply_command<'a, S: AsStr>(alloc: Global, words: &[S]) -> Result<Command<'a>, AllocError> {
-    command_of(alloc, words, &APPLY_PAGE)
+// Adds the command `check`.
+fn add_check<S: AsStr>(commands: &mut Vec<Command<'_>>, words: &[S]) -> Result<(), AllocError> {
+    add(commands, words, &CHECK_PAGE)
 }
 
-// The command `edit`.
-fn edit_command<'a, S: AsStr>(alloc: Global, words: &[S]) -> Result<Command<'a>, AllocError> {
-    command_of(alloc, words, &EDIT_PAGE)
+// Adds the command `apply`.
+fn add_apply<S: AsStr>(commands: &mut Vec<Command<'_>>, words: &[S]) -> Result<(), AllocError> {
+    add(commands, words, &APPLY_PAGE)
 }
 
-// The command `trace`.
-fn trace_command<'a, S: AsStr>(alloc: Global, words: &[S]) -> Result<Command<'a>, AllocError> {
-    command_of(alloc, words, &TRACE_PAGE)
+// Adds the command `edit`.
+fn add_edit<S: AsStr>(commands: &mut Vec<Command<'_>>, words: &[S]) -> Result<(), AllocError> {
+    add(commands, words, &EDIT_PAGE)
 }
 
-// The command `test`.
-fn test_command<'a, S: AsStr>(alloc: Global, words: &[S]) -> Result<Command<'a>, AllocError> {
-    command_of(alloc, words, &TEST_PAGE)
+// Adds the command `trace`.
+fn add_trace<S: AsStr>(commands: &mut Vec<Command<'_>>, words: &[S]) -> Result<(), AllocError> {
+    add(commands, words, &TRACE_PAGE)
 }
 
-// The command `show`.
-fn show_command<'a, S: AsStr>(alloc: Global, words: &[S]) -> Result<Command<'a>, AllocError> {
-    command_of(alloc, words, &SHOW_PAGE)
+// Adds the command `test`.
+fn add_test<S: AsStr>(commands: &mut Vec<Command<'_>>, words: &[S]) -> Result<(), AllocError> {
+    add(commands, words, &TEST_PAGE)
 }
 
-// The command `explain`.
-fn explain_command<'a, S: AsStr>(alloc: Global, words: &[S]) -> Result<Command<'a>, AllocError> {
-    command_of(alloc, words, &EXPLAIN_PAGE)
+// Adds the command `show`.
+fn add_show<S: AsStr>(commands: &mut Vec<Command<'_>>, words: &[S]) -> Result<(), AllocError> {
+    add(commands, words, &SHOW_PAGE)
 }
 
-// All commands. Each comes from a function of its own: a constant of them all is more than is proved
-// at once.
-fn commands_of<'a, S: AsStr>(alloc: Global, words: &[S]) -> Result<Vec<Command<'a>>, AllocError> {
-    let mut commands = Vec::new(alloc);
-    commands.push(run_command(alloc, words)?)?;
-    commands.push(verify_command(alloc, words)?)?;
-    commands.push(check_command(alloc, words)?)?;
-    commands.push(apply_command(alloc, words)?)?;
-    commands.push(edit_command(alloc, words)?)?;
-    commands.push(trace_command(alloc, words)?)?;
-    commands.push(test_command(alloc, words)?)?;
-    commands.push(show_command(alloc, words)?)?;
-    commands.push(explain_command(alloc, words)?)?;
-    Ok(commands)
+// Adds the command `explain`.
+fn add_explain<S: AsStr>(commands: &mut Vec<Command<'_>>, words: &[S]) -> Result<(), AllocError> {
+    add(commands, words, &EXPLAIN_PAGE)
+}
+
+// Adds all commands. Each comes from a function of its own: a constant of them all is more than is
+// proved at once.
+fn add_all<S: AsStr>(commands: &mut Vec<Command<'_>>, words: &[S]) -> Result<(), AllocError> {
+    add_run(commands, words)?;
+    add_verify(commands, words)?;
+    add_check(commands, words)?;
+    add_apply(commands, words)?;
+    add_edit(commands, words)?;
+    add_trace(commands, words)?;
+    add_test(commands, words)?;
+    add_show(commands, words)?;
+    add_explain(commands, words)
 }
 
 // The program with no commands yet.
@@ -174,5 +193,7 @@ fn program<'a>(alloc: Global) -> Command<'a> {
 
 /// The commands of the program, to read these words. Those that a word names have their arguments.
 pub fn command<'a, S: AsStr>(alloc: Global, words: &[S]) -> Result<Command<'a>, AllocError> {
-    program(alloc).subcommands(commands_of(alloc, words)?)
+    let mut commands = Vec::new(alloc);
+    add_all(&mut commands, words)?;
+    program(alloc).subcommands(commands)
 }

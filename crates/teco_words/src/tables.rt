@@ -1,6 +1,6 @@
 //! The tables of commands and options.
 use crate::commands::HelpPage;
-use crate::rows::{OptionValues, Parameter, ParameterKind, Word};
+use crate::rows::{Parameter, ParameterKind};
 
 /// The command `run`.
 pub const RUN_PAGE: HelpPage = HelpPage {
@@ -212,7 +212,7 @@ const CALLED: Parameter = Parameter {
 
 const LIMIT: Parameter = Parameter {
     id: "limit",
-    kind: ParameterKind::Value("N", OptionValues::Count("100000000")),
+    kind: ParameterKind::Count("N", "100000000"),
     help: "Steps that each command string may take, 1 to 4294967295",
 };
 
@@ -231,7 +231,7 @@ const TEXT: Parameter = Parameter {
 
 const SCRIPTS: Parameter = Parameter {
     id: "FILE",
-    kind: ParameterKind::Word(Word::AtLeast(0)),
+    kind: ParameterKind::Words,
     help: "Files of command strings; standard input where neither a file nor a text is given",
 };
 
@@ -243,13 +243,13 @@ const JSON: Parameter = Parameter {
 
 const OF_EACH: Parameter = Parameter {
     id: "REGISTER",
-    kind: ParameterKind::Word(Word::Optional),
+    kind: ParameterKind::OptionalWord,
     help: "The register of the macro; each macro of LIB where it is left out",
 };
 
 const OF_TESTED: Parameter = Parameter {
     id: "REGISTER",
-    kind: ParameterKind::Word(Word::Optional),
+    kind: ParameterKind::OptionalWord,
     help: "The register of the macro whose examples are tried; those of all where it is left out",
 };
 
@@ -267,19 +267,19 @@ const TESTED: Parameter = Parameter {
 
 const CERTIFICATE: Parameter = Parameter {
     id: "CERT",
-    kind: ParameterKind::Word(Word::Required),
+    kind: ParameterKind::Word,
     help: "A certificate",
 };
 
 const INPUT: Parameter = Parameter {
     id: "IN",
-    kind: ParameterKind::Word(Word::Required),
+    kind: ParameterKind::Word,
     help: "The file that is read, or - for standard input",
 };
 
 const OUTPUT: Parameter = Parameter {
     id: "OUT",
-    kind: ParameterKind::Word(Word::Required),
+    kind: ParameterKind::Word,
     help: "The file that is written, or - for standard output",
 };
 
@@ -347,14 +347,14 @@ const QUIET: Parameter = Parameter {
 
 const BACKUP: Parameter = Parameter {
     id: "backup",
-    kind: ParameterKind::Value("SUFFIX", OptionValues::Text),
+    kind: ParameterKind::Text("SUFFIX"),
     help: "Keep each file that changes as it was, under its name with SUFFIX behind it; a file \
         whose backup has that name already is left as it was",
 };
 
 const FILES: Parameter = Parameter {
     id: "FILE",
-    kind: ParameterKind::Word(Word::AtLeast(0)),
+    kind: ParameterKind::Words,
     help: "The files that are edited, and with --recursive folders",
 };
 
@@ -366,13 +366,13 @@ const DIFF: Parameter = Parameter {
 
 const COLOR: Parameter = Parameter {
     id: "color",
-    kind: ParameterKind::Value("WHEN", OptionValues::Default("auto")),
+    kind: ParameterKind::Default("WHEN", "auto"),
     help: "Colours of --diff: always, never, or auto, at a terminal unless NO_COLOR is set",
 };
 
 const LISTED_FILES: Parameter = Parameter {
     id: "files-from",
-    kind: ParameterKind::Value("LIST", OptionValues::Text),
+    kind: ParameterKind::Text("LIST"),
     help: "Edit the files that this file names too, one a line, or with -0 each ended by a NUL; - \
         for standard input",
 };
@@ -385,13 +385,13 @@ const RECURSIVE: Parameter = Parameter {
 
 const INCLUDED: Parameter = Parameter {
     id: "include",
-    kind: ParameterKind::Value("PATTERN", OptionValues::Texts),
+    kind: ParameterKind::Texts("PATTERN"),
     help: "Of folders, edit the files whose names are of this pattern alone, as *.txt",
 };
 
 const EXCLUDED: Parameter = Parameter {
     id: "exclude",
-    kind: ParameterKind::Value("PATTERN", OptionValues::Texts),
+    kind: ParameterKind::Texts("PATTERN"),
     help: "Of folders, leave out the files and folders whose names are of this pattern",
 };
 
@@ -403,14 +403,14 @@ const BINARY: Parameter = Parameter {
 
 const EDITED: Parameter = Parameter {
     id: "pages",
-    kind: ParameterKind::Value("WHICH", OptionValues::Default("first")),
+    kind: ParameterKind::Default("WHICH", "first"),
     help: "The pages that are edited, which form feeds end: first, and the others are copied; \
         each in turn; or whole, all as one",
 };
 
 const EDITED_WHOLE: Parameter = Parameter {
     id: "pages",
-    kind: ParameterKind::Value("WHICH", OptionValues::Default("whole")),
+    kind: ParameterKind::Default("WHICH", "whole"),
     help: "The pages that are edited, which form feeds end: whole, all as one; first, and the \
         others are copied; or each in turn",
 };
@@ -430,13 +430,13 @@ const STATS: Parameter = Parameter {
 
 const CHECKED: Parameter = Parameter {
     id: "cert",
-    kind: ParameterKind::Value("CERT", OptionValues::Text),
+    kind: ParameterKind::Text("CERT"),
     help: "Check this certificate in place of a search for one",
 };
 
 const LISTED: Parameter = Parameter {
     id: "limit",
-    kind: ParameterKind::Value("N", OptionValues::Count("1000")),
+    kind: ParameterKind::Count("N", "1000"),
     help: "Steps that are listed at most",
 };
 
@@ -448,46 +448,46 @@ const SOURCE: Parameter = Parameter {
 
 const SHOWN: Parameter = Parameter {
     id: "FILE",
-    kind: ParameterKind::Word(Word::Required),
+    kind: ParameterKind::Word,
     help: "A file of TECO text, or - for standard input",
 };
 
 const EXPLAINED: Parameter = Parameter {
     id: "LIB",
-    kind: ParameterKind::Word(Word::Maybe("WORD|LIB")),
+    kind: ParameterKind::NamedWord("WORD|LIB"),
     help: "A code, as POP, a refusal, as X7, a command, as FS, or a file of macros; without it \
         all words are listed",
 };
 
 const IN_LIBRARY: Parameter = Parameter {
     id: "REGISTER",
-    kind: ParameterKind::Word(Word::Optional),
+    kind: ParameterKind::OptionalWord,
     help: "The register of the macro in the file LIB",
 };
 
 const MEMORY: Parameter = Parameter {
     id: "memory",
-    kind: ParameterKind::Value("BYTES", OptionValues::Bytes("1073741824")),
+    kind: ParameterKind::Bytes("BYTES", "1073741824"),
     help: "Bytes that each command string may type, and as many that its calls may take; more \
         is ?MEM",
 };
 
 const ARGUMENT: Parameter = Parameter {
     id: "arg",
-    kind: ParameterKind::Value("N", OptionValues::Text),
+    kind: ParameterKind::Text("N"),
     help: "The argument of the macro, where its library declares one: 0 to 2147483647",
 };
 
 const SETTING: Parameter = Parameter {
     id: "set",
-    kind: ParameterKind::Value("Q=TEXT", OptionValues::Texts),
+    kind: ParameterKind::Texts("Q=TEXT"),
     help: "Give register Q this text before the run, in the form of -e. A text that the macro does \
         not write is known to the verifier",
 };
 
 const SETTING_FILE: Parameter = Parameter {
     id: "set-file",
-    kind: ParameterKind::Value("Q=PATH", OptionValues::Texts),
+    kind: ParameterKind::Texts("Q=PATH"),
     help: "Give register Q the bytes of a file before the run",
 };
 
@@ -505,25 +505,25 @@ const ANY_CASE: Parameter = Parameter {
 
 const RULES: Parameter = Parameter {
     id: "rules",
-    kind: ParameterKind::Value("N", OptionValues::Text),
+    kind: ParameterKind::Text("N"),
     help: "The edition of the rules that macros are verified by: 1 or 2",
 };
 
 const ESCAPE: Parameter = Parameter {
     id: "esc",
-    kind: ParameterKind::Value("C", OptionValues::Text),
+    kind: ParameterKind::Text("C"),
     help: "The character that stands for ESC; none for the byte ESC itself. Without it files \
         whose names end in .tes are readable: $ is ESC and ^$ a dollar",
 };
 
 const REGISTER: Parameter = Parameter {
     id: "REGISTER",
-    kind: ParameterKind::Word(Word::Required),
+    kind: ParameterKind::Word,
     help: "The register of the macro",
 };
 
 const LIBRARY: Parameter = Parameter {
     id: "LIB",
-    kind: ParameterKind::Word(Word::Required),
+    kind: ParameterKind::Word,
     help: "A file of macros, or of one macro, which is then A; - for standard input",
 };

@@ -35,6 +35,11 @@ fn place_at(places: &[usize], number: usize) -> usize {
     places.get(number).copied().unwrap_or(usize::MAX)
 }
 
+// The text of a number among texts, none where there is none.
+fn text_at<'a>(texts: &[&'a str], number: usize) -> &'a str {
+    texts.get(number).copied().unwrap_or("")
+}
+
 // Adds the files and the texts in the order of their places.
 fn push_scripts<'a>(
     words: &ArgMatches<'a>,
@@ -48,10 +53,10 @@ fn push_scripts<'a>(
     for number in 0..files.len().saturating_add(texts.len()) {
         let text = number.saturating_sub(file);
         if place_at(file_places, file) < place_at(text_places, text) {
-            scripts.push(Script::File(files.get(file).copied().unwrap_or("")))?;
+            scripts.push(Script::File(text_at(files, file)))?;
             file = file.saturating_add(1);
         } else {
-            scripts.push(Script::Word(texts.get(text).copied().unwrap_or("")))?;
+            scripts.push(Script::Word(text_at(texts, text)))?;
         }
     }
     Ok(())
@@ -231,6 +236,27 @@ fn push_settings(
     Ok(())
 }
 
+// Adds the words of a command that may be no text: they name files that are edited.
+fn push_allowed<'a>(
+    command: &str,
+    words: &ArgMatches<'a>,
+    allowed: &mut Vec<&'a str>,
+) -> Result<(), AllocError> {
+    allowed.extend_from_slice(&[word(words, "IN"), word(words, "OUT")])?;
+    if command == "edit" {
+        allowed.extend_from_slice(words.get_strs("FILE").unwrap_or(&[]))?;
+    }
+    Ok(())
+}
+
+// Refuses a word that is no text.
+fn refuse_word(alloc: Global, word: &[u8]) -> Result<(), WordsFault> {
+    let shown = Shown(word);
+    Err(WordsFault::NotText {
+        word: format!(in alloc; "{shown}")?,
+    })
+}
+
 /// Refuses words of a command that are no text, unless they name files that are edited.
 pub fn check_texts(
     alloc: Global,
@@ -239,22 +265,10 @@ pub fn check_texts(
     arguments: &CommandLine,
 ) -> Result<(), WordsFault> {
     let mut allowed = Vec::new(alloc);
-    for id in ["IN", "OUT"] {
-        allowed.push(words.get_str(id).unwrap_or(""))?;
-    }
-    if command == "edit" {
-        for name in words.get_strs("FILE").unwrap_or(&[]) {
-            allowed.push(*name)?;
-        }
-    }
+    push_allowed(command, words, &mut allowed)?;
     match arguments.other_than(&allowed) {
         None => Ok(()),
-        Some(word) => {
-            let shown = Shown(word);
-            Err(WordsFault::NotText {
-                word: format!(in alloc; "{shown}")?,
-            })
-        }
+        Some(word) => refuse_word(alloc, word),
     }
 }
 
@@ -265,6 +279,11 @@ pub fn file_names<'m>(
     arguments: &'m CommandLine,
 ) -> Result<Vec<&'m [u8]>, WordsFault> {
     Ok(arguments.names(alloc, words.get_strs("FILE").unwrap_or(&[]))?)
+}
+
+// Has one of these patterns a class of characters?
+fn has_class(patterns: &[&str]) -> bool {
+    patterns.iter().any(|pattern| pattern.contains('['))
 }
 
 /// Which files are edited, of these names and of what options say.
@@ -281,11 +300,7 @@ pub fn choice<'m>(
     }
     let included = words.get_strs("include").unwrap_or(&[]);
     let excluded = words.get_strs("exclude").unwrap_or(&[]);
-    if included
-        .iter()
-        .chain(excluded.iter())
-        .any(|pattern| pattern.contains('['))
-    {
+    if has_class(included) || has_class(excluded) {
         return Err(WordsFault::Pattern);
     }
     Ok(FileChoice {

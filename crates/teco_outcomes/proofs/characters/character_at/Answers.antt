@@ -1,8 +1,11 @@
-use Rattle.teco_outcomes.proofs.Prelude.{refl}
+use Rattle.teco_outcomes.proofs.Prelude.{refl, IfOk-weaker}
 use Rattle.teco_outcomes.proofs.Reading.{gives_character}
 use Rattle.teco_outcomes.proofs.characters.character_at.Goals as goal
 
 pub returns : goal.returns
 returns c =
-    gives_character c.args.case.now _ c.args.by c.in_ok-here.here _ c.in_ok-here.ensures c.in_ok-cases.ensures
-    (_, refl, refl) (_, refl, refl) (_, refl, refl)
+    IfOk-weaker c.any_way.result _ _
+    (λ all goes.
+    gives_character c.args.case.now _ c.args.by goes.here all goes.level goes.cases (_, refl, refl) (_, refl, refl)
+    (_, refl, refl))
+    c.any_way.ensures

@@ -1,13 +1,12 @@
-use Rattle.std.proofs.Common.{rules}
-use Rattle.teco_paths.proofs.Halving.{both_lead, halves_lead}
+use Rattle.teco_paths.proofs.Prelude.{All, Course, LeadsOn}
+use Rattle.teco_paths.proofs.Answered.{if_ok}
+use Rattle.teco_paths.specs.Steps.{AreHalves}
 use Rattle.teco_paths.proofs.halves.halves.Goals as goal
 
 pub returns : goal.returns
-returns c course all =
-    let one = c.in_ok-spot_with.field-0 in
-    let other = c.in_ok-spot_with-2.field-0 in
-    let both = both_lead course one other c.push-2.new.self.items (search rules) all in
-    halves_lead c.args.spot.now one other c.in_ok-ahead.field-0.ahead c.in_ok-ahead.field-0.end
-    c.in_ok-ahead.ensures
-    c.in_ok-spot_with.ensures.number c.in_ok-spot_with.ensures.case c.in_ok-spot_with-2.ensures.number
-    c.in_ok-spot_with-2.ensures.case course both.0 both.1
+returns c =
+    if_ok
+    (λ spots. AreHalves c.in_ok-apart.apart.ahead c.in_ok-apart.apart.end → (course : Course)
+    → All (LeadsOn course) spots.items → LeadsOn course c.args.spot.now)
+    (λ spots. (course : Course) → All (LeadsOn course) spots.items → LeadsOn course c.args.spot.now)
+    c.spots_with.result (λ spots leads. leads c.in_ok-apart.ensures) c.spots_with.ensures

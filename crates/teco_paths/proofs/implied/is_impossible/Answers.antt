@@ -1,5 +1,5 @@
 use Rattle.teco_paths.proofs.Prelude.{◌≡◌, arith, Bool, true, false, Result, Ok, Err, IfOk, pos, negsuc, ◌≤ℤ◌, ints}
-use Rattle.teco_paths.proofs.Prelude.{OnTrue, Term, Valuation, value, Implies, Case, IsImpossible}
+use Rattle.teco_paths.proofs.Prelude.{subst, OnTrue, Term, Valuation, value, Implies, Case, IsImpossible}
 use Rattle.std.specs.Prelude.{ℕ, List}
 use Rattle.teco_paths.specs.declared.fault.PathFault.{PathFault}
 use Rattle.teco_paths.proofs.implied.is_impossible.Goals as goal
@@ -22,4 +22,7 @@ by_result form is case (Ok answer) h = by_answer form is case answer h
 by_result form is case (Err e) h = tt
 
 pub returns : goal.returns
-returns c = by_result c.in_ok-below.below c.in_ok-below.ensures c.args.case.now c.is_found.result c.is_found.ensures
+returns c =
+    by_result c.in_ok-below.below c.in_ok-below.ensures c.args.case.now c.is_found.result
+    (subst (λ cs. IfOk c.is_found.result (λ answer. OnTrue answer (Implies cs c.in_ok-below.below)))
+    c.deref-2.ensures.value c.is_found.ensures)
