@@ -65,7 +65,7 @@ IsChanged case row given made =
 -- the row of an answer
 abbrev pub answer_row : Option ℤ → List Clause
 answer_row None = []
-answer_row (Some x) = Sets VALUE x (NO ∷ NO ∷ NO ∷ NO ∷ []) ∷ []
+answer_row (Some x) = Sets VALUE x (NO, NO, NO, NO) ∷ []
 
 -- a case describes the state a step later, where the arguments are taken and this is answered, or nothing
 abbrev pub IsTold : Case → Option ℤ → Case → Type 0

@@ -46,28 +46,28 @@ const REST: Of = Of::Unknown(2);
 const COUNT: Of = Of::Given(0);
 
 // The first place is before the second.
-const SHORTER: Clause = Clause::Sets(SIZE, 0, [(1, Of::Was(SIZE)), (1, FROM), (-1, TO), NO]);
+const SHORTER: Clause = Clause::Sets(SIZE, 0, ((1, Of::Was(SIZE)), (1, FROM), (-1, TO), NO));
 
-const LESS: Clause = Clause::Sets(HELD, 0, [(1, Of::Was(HELD)), (1, FROM), (-1, TO), NO]);
+const LESS: Clause = Clause::Sets(HELD, 0, ((1, Of::Was(HELD)), (1, FROM), (-1, TO), NO));
 
-const AT_FIRST: Clause = Clause::Sets(POINTER, 0, [(1, FROM), NO, NO, NO]);
+const AT_FIRST: Clause = Clause::Sets(POINTER, 0, ((1, FROM), NO, NO, NO));
 
 // The second is before the first.
-const SHORTER_BACK: Clause = Clause::Sets(SIZE, 0, [(1, Of::Was(SIZE)), (-1, FROM), (1, TO), NO]);
+const SHORTER_BACK: Clause = Clause::Sets(SIZE, 0, ((1, Of::Was(SIZE)), (-1, FROM), (1, TO), NO));
 
-const LESS_BACK: Clause = Clause::Sets(HELD, 0, [(1, Of::Was(HELD)), (-1, FROM), (1, TO), NO]);
+const LESS_BACK: Clause = Clause::Sets(HELD, 0, ((1, Of::Was(HELD)), (-1, FROM), (1, TO), NO));
 
-const AT_SECOND: Clause = Clause::Sets(POINTER, 0, [(1, TO), NO, NO, NO]);
+const AT_SECOND: Clause = Clause::Sets(POINTER, 0, ((1, TO), NO, NO, NO));
 
 const NEARER_BACK: Clause = Clause::Sets(
     LINE_END,
     0,
-    [(1, Of::Was(LINE_END)), (-1, FROM), (1, TO), NO],
+    ((1, Of::Was(LINE_END)), (-1, FROM), (1, TO), NO),
 );
 
-const ENDS: Clause = Clause::Sets(LINE_END, 0, [(1, END), NO, NO, NO]);
+const ENDS: Clause = Clause::Sets(LINE_END, 0, ((1, END), NO, NO, NO));
 
-const STARTS: Clause = Clause::Sets(LINE_START, 0, [(1, OTHER), NO, NO, NO]);
+const STARTS: Clause = Clause::Sets(LINE_START, 0, ((1, OTHER), NO, NO, NO));
 
 // From the pointer on, within the line: its end comes nearer.
 const CUTS: [Clause; 7] = [
@@ -78,10 +78,10 @@ const CUTS: [Clause; 7] = [
     Clause::Sets(
         LINE_END,
         0,
-        [(1, Of::Was(LINE_END)), (1, FROM), (-1, TO), NO],
+        ((1, Of::Was(LINE_END)), (1, FROM), (-1, TO), NO),
     ),
-    Clause::Wants(0, [(1, TO), (-1, FROM), NO, NO]),
-    Clause::Wants(-1, [(1, Of::Was(LINE_END)), (-1, TO), NO, NO]),
+    Clause::Wants(0, ((1, TO), (-1, FROM), NO, NO)),
+    Clause::Wants(-1, ((1, Of::Was(LINE_END)), (-1, TO), NO, NO)),
 ];
 
 // One character that ends no line: its end comes nearer.
@@ -93,11 +93,11 @@ const CUTS_LOW: [Clause; 8] = [
     Clause::Sets(
         LINE_END,
         0,
-        [(1, Of::Was(LINE_END)), (1, FROM), (-1, TO), NO],
+        ((1, Of::Was(LINE_END)), (1, FROM), (-1, TO), NO),
     ),
-    Clause::Wants(0, [(1, Of::Was(LINE_END)), (-1, TO), NO, NO]),
-    Clause::Wants(-1, [(1, Of::Was(CODE_HERE)), NO, NO, NO]),
-    Clause::Wants(10, [(-1, Of::Was(CODE_HERE)), NO, NO, NO]),
+    Clause::Wants(0, ((1, Of::Was(LINE_END)), (-1, TO), NO, NO)),
+    Clause::Wants(-1, ((1, Of::Was(CODE_HERE)), NO, NO, NO)),
+    Clause::Wants(10, ((-1, Of::Was(CODE_HERE)), NO, NO, NO)),
 ];
 
 const CUTS_HIGH: [Clause; 8] = [
@@ -108,11 +108,11 @@ const CUTS_HIGH: [Clause; 8] = [
     Clause::Sets(
         LINE_END,
         0,
-        [(1, Of::Was(LINE_END)), (1, FROM), (-1, TO), NO],
+        ((1, Of::Was(LINE_END)), (1, FROM), (-1, TO), NO),
     ),
-    Clause::Wants(0, [(1, Of::Was(LINE_END)), (-1, TO), NO, NO]),
-    Clause::Wants(-14, [(1, Of::Was(CODE_HERE)), NO, NO, NO]),
-    Clause::Wants(256, [(-1, Of::Was(CODE_HERE)), NO, NO, NO]),
+    Clause::Wants(0, ((1, Of::Was(LINE_END)), (-1, TO), NO, NO)),
+    Clause::Wants(-14, ((1, Of::Was(CODE_HERE)), NO, NO, NO)),
+    Clause::Wants(256, ((-1, Of::Was(CODE_HERE)), NO, NO, NO)),
 ];
 
 // One that ends a line.
@@ -122,11 +122,11 @@ const CUTS_END: [Clause; 10] = [
     SHORTER,
     LESS,
     ENDS,
-    Clause::Wants(0, [(1, TO), (-1, Of::Was(LINE_END)), NO, NO]),
-    Clause::Wants(0, [(1, END), (-1, FROM), NO, NO]),
-    Clause::Wants(0, [(1, Of::Was(SIZE)), (1, FROM), (-1, TO), (-1, END)]),
-    Clause::Wants(-11, [(1, Of::Was(CODE_HERE)), NO, NO, NO]),
-    Clause::Wants(13, [(-1, Of::Was(CODE_HERE)), NO, NO, NO]),
+    Clause::Wants(0, ((1, TO), (-1, Of::Was(LINE_END)), NO, NO)),
+    Clause::Wants(0, ((1, END), (-1, FROM), NO, NO)),
+    Clause::Wants(0, ((1, Of::Was(SIZE)), (1, FROM), (-1, TO), (-1, END))),
+    Clause::Wants(-11, ((1, Of::Was(CODE_HERE)), NO, NO, NO)),
+    Clause::Wants(13, ((-1, Of::Was(CODE_HERE)), NO, NO, NO)),
 ];
 
 // Past its end: what is behind it follows.
@@ -136,9 +136,9 @@ const CUTS_PAST: [Clause; 8] = [
     SHORTER,
     LESS,
     ENDS,
-    Clause::Wants(0, [(1, TO), (-1, Of::Was(LINE_END)), NO, NO]),
-    Clause::Wants(0, [(1, END), (-1, FROM), NO, NO]),
-    Clause::Wants(0, [(1, Of::Was(SIZE)), (1, FROM), (-1, TO), (-1, END)]),
+    Clause::Wants(0, ((1, TO), (-1, Of::Was(LINE_END)), NO, NO)),
+    Clause::Wants(0, ((1, END), (-1, FROM), NO, NO)),
+    Clause::Wants(0, ((1, Of::Was(SIZE)), (1, FROM), (-1, TO), (-1, END))),
 ];
 
 // Back from the pointer within the line: its start stays.
@@ -148,8 +148,8 @@ const CUTS_BACK: [Clause; 7] = [
     SHORTER_BACK,
     LESS_BACK,
     NEARER_BACK,
-    Clause::Wants(-1, [(1, FROM), (-1, TO), NO, NO]),
-    Clause::Wants(0, [(1, TO), (-1, Of::Was(LINE_START)), NO, NO]),
+    Clause::Wants(-1, ((1, FROM), (-1, TO), NO, NO)),
+    Clause::Wants(0, ((1, TO), (-1, Of::Was(LINE_START)), NO, NO)),
 ];
 
 // Past its start: the line starts further back.
@@ -160,9 +160,9 @@ const CUTS_BACK_PAST: [Clause; 9] = [
     LESS_BACK,
     NEARER_BACK,
     STARTS,
-    Clause::Wants(-1, [(1, Of::Was(LINE_START)), (-1, TO), NO, NO]),
-    Clause::Wants(0, [(1, OTHER), NO, NO, NO]),
-    Clause::Wants(0, [(1, TO), (-1, OTHER), NO, NO]),
+    Clause::Wants(-1, ((1, Of::Was(LINE_START)), (-1, TO), NO, NO)),
+    Clause::Wants(0, ((1, OTHER), NO, NO, NO)),
+    Clause::Wants(0, ((1, TO), (-1, OTHER), NO, NO)),
 ];
 
 // Anywhere, in the order of the places or not.
@@ -174,11 +174,11 @@ const PART: [Clause; 12] = [
     LESS,
     ENDS,
     STARTS,
-    Clause::Wants(0, [(1, TO), (-1, FROM), NO, NO]),
-    Clause::Wants(0, [(1, END), (-1, FROM), NO, NO]),
-    Clause::Wants(0, [(1, Of::Was(SIZE)), (1, FROM), (-1, TO), (-1, END)]),
-    Clause::Wants(0, [(1, OTHER), NO, NO, NO]),
-    Clause::Wants(0, [(1, FROM), (-1, OTHER), NO, NO]),
+    Clause::Wants(0, ((1, TO), (-1, FROM), NO, NO)),
+    Clause::Wants(0, ((1, END), (-1, FROM), NO, NO)),
+    Clause::Wants(0, ((1, Of::Was(SIZE)), (1, FROM), (-1, TO), (-1, END))),
+    Clause::Wants(0, ((1, OTHER), NO, NO, NO)),
+    Clause::Wants(0, ((1, FROM), (-1, OTHER), NO, NO)),
 ];
 
 const PART_BACK: [Clause; 12] = [
@@ -189,154 +189,154 @@ const PART_BACK: [Clause; 12] = [
     LESS_BACK,
     ENDS,
     STARTS,
-    Clause::Wants(-1, [(1, FROM), (-1, TO), NO, NO]),
-    Clause::Wants(0, [(1, END), (-1, TO), NO, NO]),
-    Clause::Wants(0, [(1, Of::Was(SIZE)), (-1, FROM), (1, TO), (-1, END)]),
-    Clause::Wants(0, [(1, OTHER), NO, NO, NO]),
-    Clause::Wants(0, [(1, TO), (-1, OTHER), NO, NO]),
+    Clause::Wants(-1, ((1, FROM), (-1, TO), NO, NO)),
+    Clause::Wants(0, ((1, END), (-1, TO), NO, NO)),
+    Clause::Wants(0, ((1, Of::Was(SIZE)), (-1, FROM), (1, TO), (-1, END))),
+    Clause::Wants(0, ((1, OTHER), NO, NO, NO)),
+    Clause::Wants(0, ((1, TO), (-1, OTHER), NO, NO)),
 ];
 
 // Lines ahead, from the pointer up to the end of its own at least.
 const LINES: [Clause; 8] = [
     ANY_HERE,
-    Clause::Sets(SIZE, 0, [(1, REST), NO, NO, NO]),
+    Clause::Sets(SIZE, 0, ((1, REST), NO, NO, NO)),
     Clause::Sets(
         HELD,
         0,
-        [(1, Of::Was(HELD)), (-1, Of::Was(SIZE)), (1, REST), NO],
+        ((1, Of::Was(HELD)), (-1, Of::Was(SIZE)), (1, REST), NO),
     ),
     ENDS,
-    Clause::Wants(-1, [(1, COUNT), NO, NO, NO]),
+    Clause::Wants(-1, ((1, COUNT), NO, NO, NO)),
     Clause::Wants(
         0,
-        [
+        (
             (1, Of::Was(SIZE)),
             (1, Of::Was(POINTER)),
             (-1, Of::Was(LINE_END)),
             (-1, REST),
-        ],
+        ),
     ),
-    Clause::Wants(0, [(1, END), (-1, Of::Was(POINTER)), NO, NO]),
-    Clause::Wants(0, [(1, REST), (-1, END), NO, NO]),
+    Clause::Wants(0, ((1, END), (-1, Of::Was(POINTER)), NO, NO)),
+    Clause::Wants(0, ((1, REST), (-1, END), NO, NO)),
 ];
 
 // Lines back, from the pointer to the start of its own at least.
 const LINES_BACK: [Clause; 9] = [
     ANY_BEFORE,
-    Clause::Sets(POINTER, 0, [(1, OTHER), NO, NO, NO]),
+    Clause::Sets(POINTER, 0, ((1, OTHER), NO, NO, NO)),
     Clause::Sets(
         SIZE,
         0,
-        [(1, Of::Was(SIZE)), (-1, Of::Was(POINTER)), (1, OTHER), NO],
+        ((1, Of::Was(SIZE)), (-1, Of::Was(POINTER)), (1, OTHER), NO),
     ),
     Clause::Sets(
         HELD,
         0,
-        [(1, Of::Was(HELD)), (-1, Of::Was(POINTER)), (1, OTHER), NO],
+        ((1, Of::Was(HELD)), (-1, Of::Was(POINTER)), (1, OTHER), NO),
     ),
     Clause::Sets(
         LINE_END,
         0,
-        [
+        (
             (1, Of::Was(LINE_END)),
             (-1, Of::Was(POINTER)),
             (1, OTHER),
             NO,
-        ],
+        ),
     ),
     STARTS,
-    Clause::Wants(0, [(-1, COUNT), NO, NO, NO]),
-    Clause::Wants(0, [(1, OTHER), NO, NO, NO]),
-    Clause::Wants(0, [(1, Of::Was(LINE_START)), (-1, OTHER), NO, NO]),
+    Clause::Wants(0, ((-1, COUNT), NO, NO, NO)),
+    Clause::Wants(0, ((1, OTHER), NO, NO, NO)),
+    Clause::Wants(0, ((1, Of::Was(LINE_START)), (-1, OTHER), NO, NO)),
 ];
 
 // The pointer's line to its end. At the end of the buffer there is none.
-const KEEPS: [Clause; 1] = [Clause::Wants(0, [(1, Of::Was(POINTER)), (-1, Of::Was(SIZE)), NO, NO])];
+const KEEPS: [Clause; 1] = [Clause::Wants(0, ((1, Of::Was(POINTER)), (-1, Of::Was(SIZE)), NO, NO))];
 
 const CUTS_LINE: [Clause; 7] = [
     ANY_HERE,
     Clause::Sets(
         SIZE,
         0,
-        [
+        (
             (1, Of::Was(SIZE)),
             (1, Of::Was(POINTER)),
             (-1, Of::Was(LINE_END)),
             NO,
-        ],
+        ),
     ),
     Clause::Sets(
         HELD,
         0,
-        [
+        (
             (1, Of::Was(HELD)),
             (1, Of::Was(POINTER)),
             (-1, Of::Was(LINE_END)),
             NO,
-        ],
+        ),
     ),
     ENDS,
-    Clause::Wants(-1, [(1, Of::Was(LINE_END)), (-1, Of::Was(POINTER)), NO, NO]),
-    Clause::Wants(0, [(1, END), (-1, Of::Was(POINTER)), NO, NO]),
+    Clause::Wants(-1, ((1, Of::Was(LINE_END)), (-1, Of::Was(POINTER)), NO, NO)),
+    Clause::Wants(0, ((1, END), (-1, Of::Was(POINTER)), NO, NO)),
     Clause::Wants(
         0,
-        [
+        (
             (1, Of::Was(SIZE)),
             (1, Of::Was(POINTER)),
             (-1, Of::Was(LINE_END)),
             (-1, END),
-        ],
+        ),
     ),
 ];
 
 // Lines back: in the first line to its start, and else up to where some line before starts.
 const CUTS_TOP: [Clause; 6] = [
     ANY_BEFORE,
-    Clause::Sets(POINTER, 0, [NO, NO, NO, NO]),
+    Clause::Sets(POINTER, 0, (NO, NO, NO, NO)),
     Clause::Sets(
         SIZE,
         0,
-        [(1, Of::Was(SIZE)), (-1, Of::Was(POINTER)), NO, NO],
+        ((1, Of::Was(SIZE)), (-1, Of::Was(POINTER)), NO, NO),
     ),
     Clause::Sets(
         HELD,
         0,
-        [(1, Of::Was(HELD)), (-1, Of::Was(POINTER)), NO, NO],
+        ((1, Of::Was(HELD)), (-1, Of::Was(POINTER)), NO, NO),
     ),
     Clause::Sets(
         LINE_END,
         0,
-        [(1, Of::Was(LINE_END)), (-1, Of::Was(POINTER)), NO, NO],
+        ((1, Of::Was(LINE_END)), (-1, Of::Was(POINTER)), NO, NO),
     ),
-    Clause::Wants(0, [(-1, Of::Was(LINE_START)), NO, NO, NO]),
+    Clause::Wants(0, ((-1, Of::Was(LINE_START)), NO, NO, NO)),
 ];
 
 const CUTS_UP: [Clause; 8] = [
     ANY_BEFORE,
-    Clause::Sets(POINTER, 0, [(1, OTHER), NO, NO, NO]),
+    Clause::Sets(POINTER, 0, ((1, OTHER), NO, NO, NO)),
     Clause::Sets(
         SIZE,
         0,
-        [(1, Of::Was(SIZE)), (-1, Of::Was(POINTER)), (1, OTHER), NO],
+        ((1, Of::Was(SIZE)), (-1, Of::Was(POINTER)), (1, OTHER), NO),
     ),
     Clause::Sets(
         HELD,
         0,
-        [(1, Of::Was(HELD)), (-1, Of::Was(POINTER)), (1, OTHER), NO],
+        ((1, Of::Was(HELD)), (-1, Of::Was(POINTER)), (1, OTHER), NO),
     ),
     Clause::Sets(
         LINE_END,
         0,
-        [
+        (
             (1, Of::Was(LINE_END)),
             (-1, Of::Was(POINTER)),
             (1, OTHER),
             NO,
-        ],
+        ),
     ),
     STARTS,
-    Clause::Wants(0, [(1, OTHER), NO, NO, NO]),
-    Clause::Wants(-1, [(1, Of::Was(LINE_START)), (-1, OTHER), NO, NO]),
+    Clause::Wants(0, ((1, OTHER), NO, NO, NO)),
+    Clause::Wants(-1, ((1, Of::Was(LINE_START)), (-1, OTHER), NO, NO)),
 ];
 
 // The ways of one character ahead.

@@ -36,20 +36,20 @@ const START: Of = Of::Given(1);
 // One more than the code of its last character.
 const END_CODE: Of = Of::Given(2);
 
-const ENDS_WITH: Clause = Clause::Sets(CODE_BEFORE, 0, [(1, END_CODE), NO, NO, NO]);
+const ENDS_WITH: Clause = Clause::Sets(CODE_BEFORE, 0, ((1, END_CODE), NO, NO, NO));
 
 // Where the line starts behind it, if that is not known.
 const BEGIN: Of = Of::Unknown(0);
 
-const MOVES: Clause = Clause::Sets(POINTER, 0, [(1, Of::Was(POINTER)), (1, LONG), NO, NO]);
+const MOVES: Clause = Clause::Sets(POINTER, 0, ((1, Of::Was(POINTER)), (1, LONG), NO, NO));
 
-const LONGER: Clause = Clause::Sets(SIZE, 0, [(1, Of::Was(SIZE)), (1, LONG), NO, NO]);
+const LONGER: Clause = Clause::Sets(SIZE, 0, ((1, Of::Was(SIZE)), (1, LONG), NO, NO));
 
-const MORE: Clause = Clause::Sets(HELD, 0, [(1, Of::Was(HELD)), (1, LONG), NO, NO]);
+const MORE: Clause = Clause::Sets(HELD, 0, ((1, Of::Was(HELD)), (1, LONG), NO, NO));
 
-const FURTHER: Clause = Clause::Sets(LINE_END, 0, [(1, Of::Was(LINE_END)), (1, LONG), NO, NO]);
+const FURTHER: Clause = Clause::Sets(LINE_END, 0, ((1, Of::Was(LINE_END)), (1, LONG), NO, NO));
 
-const LAST: Clause = Clause::Sets(Mark::One(Single::LastLength), 0, [(1, LONG), NO, NO, NO]);
+const LAST: Clause = Clause::Sets(Mark::One(Single::LastLength), 0, ((1, LONG), NO, NO, NO));
 
 // The text ends no line, and the line goes on.
 const GOES_ON: [Clause; 7] = [
@@ -59,7 +59,7 @@ const GOES_ON: [Clause; 7] = [
     MORE,
     FURTHER,
     LAST,
-    Clause::Wants(0, [(-1, START), NO, NO, NO]),
+    Clause::Wants(0, ((-1, START), NO, NO, NO)),
 ];
 
 // The text ends a line, and its last line goes on.
@@ -70,8 +70,8 @@ const STARTS: [Clause; 8] = [
     MORE,
     FURTHER,
     LAST,
-    Clause::Sets(LINE_START, 0, [(1, Of::Was(POINTER)), (1, START), NO, NO]),
-    Clause::Wants(-1, [(1, START), NO, NO, NO]),
+    Clause::Sets(LINE_START, 0, ((1, Of::Was(POINTER)), (1, START), NO, NO)),
+    Clause::Wants(-1, ((1, START), NO, NO, NO)),
 ];
 
 // A text that is not known: its last line starts somewhere behind the start of the line.
@@ -82,9 +82,9 @@ const PUTS: [Clause; 9] = [
     MORE,
     FURTHER,
     LAST,
-    Clause::Sets(LINE_START, 0, [(1, BEGIN), NO, NO, NO]),
-    Clause::Wants(0, [(1, BEGIN), (-1, Of::Was(LINE_START)), NO, NO]),
-    Clause::Wants(0, [(1, Of::Was(POINTER)), (1, LONG), (-1, BEGIN), NO]),
+    Clause::Sets(LINE_START, 0, ((1, BEGIN), NO, NO, NO)),
+    Clause::Wants(0, ((1, BEGIN), (-1, Of::Was(LINE_START)), NO, NO)),
+    Clause::Wants(0, ((1, Of::Was(POINTER)), (1, LONG), (-1, BEGIN), NO)),
 ];
 
 /// Where the last line of a text starts.

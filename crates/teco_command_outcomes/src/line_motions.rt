@@ -28,97 +28,97 @@ const START: Of = Of::Unknown(2);
 // How many lines.
 const BY: Of = Of::Given(0);
 
-const ENDS: Clause = Clause::Sets(LINE_END, 0, [(1, END), NO, NO, NO]);
+const ENDS: Clause = Clause::Sets(LINE_END, 0, ((1, END), NO, NO, NO));
 
 // At the end of the buffer nothing moves.
-const STAYS: [Clause; 1] = [Clause::Wants(0, [(1, Of::Was(POINTER)), (-1, Of::Was(SIZE)), NO, NO])];
+const STAYS: [Clause; 1] = [Clause::Wants(0, ((1, Of::Was(POINTER)), (-1, Of::Was(SIZE)), NO, NO))];
 
 // To the start of the next line.
 const STEPS: [Clause; 8] = [
     ANY_HERE,
     ANY_BEFORE,
-    Clause::Sets(POINTER, 0, [(1, Of::Was(LINE_END)), NO, NO, NO]),
+    Clause::Sets(POINTER, 0, ((1, Of::Was(LINE_END)), NO, NO, NO)),
     ENDS,
-    Clause::Sets(LINE_START, 0, [(1, Of::Was(LINE_END)), NO, NO, NO]),
-    Clause::Wants(-1, [(1, Of::Was(LINE_END)), (-1, Of::Was(POINTER)), NO, NO]),
-    Clause::Wants(0, [(1, END), (-1, Of::Was(LINE_END)), NO, NO]),
-    Clause::Wants(0, [(1, Of::Was(SIZE)), (-1, END), NO, NO]),
+    Clause::Sets(LINE_START, 0, ((1, Of::Was(LINE_END)), NO, NO, NO)),
+    Clause::Wants(-1, ((1, Of::Was(LINE_END)), (-1, Of::Was(POINTER)), NO, NO)),
+    Clause::Wants(0, ((1, END), (-1, Of::Was(LINE_END)), NO, NO)),
+    Clause::Wants(0, ((1, Of::Was(SIZE)), (-1, END), NO, NO)),
 ];
 
 // To the end of the buffer, which ends no line.
 const LAST: [Clause; 5] = [
     ANY_HERE,
     ANY_BEFORE,
-    Clause::Sets(POINTER, 0, [(1, Of::Was(SIZE)), NO, NO, NO]),
-    Clause::Wants(-1, [(1, Of::Was(SIZE)), (-1, Of::Was(POINTER)), NO, NO]),
-    Clause::Wants(0, [(1, Of::Was(LINE_END)), (-1, Of::Was(SIZE)), NO, NO]),
+    Clause::Sets(POINTER, 0, ((1, Of::Was(SIZE)), NO, NO, NO)),
+    Clause::Wants(-1, ((1, Of::Was(SIZE)), (-1, Of::Was(POINTER)), NO, NO)),
+    Clause::Wants(0, ((1, Of::Was(LINE_END)), (-1, Of::Was(SIZE)), NO, NO)),
 ];
 
 // To the start of the line.
 const STARTS: [Clause; 3] = [
     ANY_HERE,
     ANY_BEFORE,
-    Clause::Sets(POINTER, 0, [(1, Of::Was(LINE_START)), NO, NO, NO]),
+    Clause::Sets(POINTER, 0, ((1, Of::Was(LINE_START)), NO, NO, NO)),
 ];
 
 // To some line ahead, or back.
 const AHEAD: [Clause; 11] = [
     ANY_HERE,
     ANY_BEFORE,
-    Clause::Sets(POINTER, 0, [(1, PLACE), NO, NO, NO]),
+    Clause::Sets(POINTER, 0, ((1, PLACE), NO, NO, NO)),
     ENDS,
-    Clause::Sets(LINE_START, 0, [(1, START), NO, NO, NO]),
-    Clause::Wants(-1, [(1, BY), NO, NO, NO]),
-    Clause::Wants(0, [(1, PLACE), (-1, Of::Was(LINE_END)), NO, NO]),
-    Clause::Wants(0, [(1, END), (-1, PLACE), NO, NO]),
-    Clause::Wants(0, [(1, Of::Was(SIZE)), (-1, END), NO, NO]),
-    Clause::Wants(0, [(1, START), (-1, Of::Was(LINE_START)), NO, NO]),
-    Clause::Wants(0, [(1, PLACE), (-1, START), NO, NO]),
+    Clause::Sets(LINE_START, 0, ((1, START), NO, NO, NO)),
+    Clause::Wants(-1, ((1, BY), NO, NO, NO)),
+    Clause::Wants(0, ((1, PLACE), (-1, Of::Was(LINE_END)), NO, NO)),
+    Clause::Wants(0, ((1, END), (-1, PLACE), NO, NO)),
+    Clause::Wants(0, ((1, Of::Was(SIZE)), (-1, END), NO, NO)),
+    Clause::Wants(0, ((1, START), (-1, Of::Was(LINE_START)), NO, NO)),
+    Clause::Wants(0, ((1, PLACE), (-1, START), NO, NO)),
 ];
 
 const BACK: [Clause; 10] = [
     ANY_HERE,
     ANY_BEFORE,
-    Clause::Sets(POINTER, 0, [(1, PLACE), NO, NO, NO]),
+    Clause::Sets(POINTER, 0, ((1, PLACE), NO, NO, NO)),
     ENDS,
-    Clause::Sets(LINE_START, 0, [(1, PLACE), NO, NO, NO]),
-    Clause::Wants(0, [(-1, BY), NO, NO, NO]),
-    Clause::Wants(0, [(1, PLACE), NO, NO, NO]),
-    Clause::Wants(0, [(1, Of::Was(LINE_START)), (-1, PLACE), NO, NO]),
-    Clause::Wants(0, [(1, END), (-1, PLACE), NO, NO]),
-    Clause::Wants(0, [(1, Of::Was(LINE_END)), (-1, END), NO, NO]),
+    Clause::Sets(LINE_START, 0, ((1, PLACE), NO, NO, NO)),
+    Clause::Wants(0, ((-1, BY), NO, NO, NO)),
+    Clause::Wants(0, ((1, PLACE), NO, NO, NO)),
+    Clause::Wants(0, ((1, Of::Was(LINE_START)), (-1, PLACE), NO, NO)),
+    Clause::Wants(0, ((1, END), (-1, PLACE), NO, NO)),
+    Clause::Wants(0, ((1, Of::Was(LINE_END)), (-1, END), NO, NO)),
 ];
 
 // From the first line to its start.
 const TOP: [Clause; 4] = [
     ANY_HERE,
     ANY_BEFORE,
-    Clause::Sets(POINTER, 0, [NO, NO, NO, NO]),
-    Clause::Wants(0, [(-1, Of::Was(LINE_START)), NO, NO, NO]),
+    Clause::Sets(POINTER, 0, (NO, NO, NO, NO)),
+    Clause::Wants(0, ((-1, Of::Was(LINE_START)), NO, NO, NO)),
 ];
 
 // To the line before, which ends where this one starts.
 const UP_ONE: [Clause; 7] = [
     ANY_HERE,
     ANY_BEFORE,
-    Clause::Sets(POINTER, 0, [(1, PLACE), NO, NO, NO]),
-    Clause::Sets(LINE_END, 0, [(1, Of::Was(LINE_START)), NO, NO, NO]),
-    Clause::Sets(LINE_START, 0, [(1, PLACE), NO, NO, NO]),
-    Clause::Wants(0, [(1, PLACE), NO, NO, NO]),
-    Clause::Wants(-1, [(1, Of::Was(LINE_START)), (-1, PLACE), NO, NO]),
+    Clause::Sets(POINTER, 0, ((1, PLACE), NO, NO, NO)),
+    Clause::Sets(LINE_END, 0, ((1, Of::Was(LINE_START)), NO, NO, NO)),
+    Clause::Sets(LINE_START, 0, ((1, PLACE), NO, NO, NO)),
+    Clause::Wants(0, ((1, PLACE), NO, NO, NO)),
+    Clause::Wants(-1, ((1, Of::Was(LINE_START)), (-1, PLACE), NO, NO)),
 ];
 
 // To some line before.
 const UP: [Clause; 9] = [
     ANY_HERE,
     ANY_BEFORE,
-    Clause::Sets(POINTER, 0, [(1, PLACE), NO, NO, NO]),
+    Clause::Sets(POINTER, 0, ((1, PLACE), NO, NO, NO)),
     ENDS,
-    Clause::Sets(LINE_START, 0, [(1, PLACE), NO, NO, NO]),
-    Clause::Wants(0, [(1, PLACE), NO, NO, NO]),
-    Clause::Wants(-1, [(1, Of::Was(LINE_START)), (-1, PLACE), NO, NO]),
-    Clause::Wants(-1, [(1, END), (-1, PLACE), NO, NO]),
-    Clause::Wants(0, [(1, Of::Was(LINE_START)), (-1, END), NO, NO]),
+    Clause::Sets(LINE_START, 0, ((1, PLACE), NO, NO, NO)),
+    Clause::Wants(0, ((1, PLACE), NO, NO, NO)),
+    Clause::Wants(-1, ((1, Of::Was(LINE_START)), (-1, PLACE), NO, NO)),
+    Clause::Wants(-1, ((1, END), (-1, PLACE), NO, NO)),
+    Clause::Wants(0, ((1, Of::Was(LINE_START)), (-1, END), NO, NO)),
 ];
 
 // To the next line.

@@ -39,9 +39,9 @@ pub const HERE: Of = Of::Unknown(4);
 
 pub const THERE: Of = Of::Unknown(5);
 
-pub const ANY_HERE: Clause = Clause::Sets(CODE_HERE, 0, [(1, HERE), NO, NO, NO]);
+pub const ANY_HERE: Clause = Clause::Sets(CODE_HERE, 0, ((1, HERE), NO, NO, NO));
 
-pub const ANY_BEFORE: Clause = Clause::Sets(CODE_BEFORE, 0, [(1, THERE), NO, NO, NO]);
+pub const ANY_BEFORE: Clause = Clause::Sets(CODE_BEFORE, 0, ((1, THERE), NO, NO, NO));
 
 // The place that is gone to, and the line's end and start there.
 const PLACE: Of = Of::Given(0);
@@ -50,11 +50,11 @@ const END: Of = Of::Unknown(0);
 
 const START: Of = Of::Unknown(1);
 
-const GOES: Clause = Clause::Sets(POINTER, 0, [(1, PLACE), NO, NO, NO]);
+const GOES: Clause = Clause::Sets(POINTER, 0, ((1, PLACE), NO, NO, NO));
 
-const ENDS: Clause = Clause::Sets(LINE_END, 0, [(1, END), NO, NO, NO]);
+const ENDS: Clause = Clause::Sets(LINE_END, 0, ((1, END), NO, NO, NO));
 
-const STARTS: Clause = Clause::Sets(LINE_START, 0, [(1, START), NO, NO, NO]);
+const STARTS: Clause = Clause::Sets(LINE_START, 0, ((1, START), NO, NO, NO));
 
 // Ahead: neither the line's end nor its start goes back.
 const AHEAD: [Clause; 11] = [
@@ -63,12 +63,12 @@ const AHEAD: [Clause; 11] = [
     ANY_BEFORE,
     ENDS,
     STARTS,
-    Clause::Wants(-1, [(1, PLACE), (-1, Of::Was(POINTER)), NO, NO]),
-    Clause::Wants(0, [(1, END), (-1, Of::Was(LINE_END)), NO, NO]),
-    Clause::Wants(0, [(1, END), (-1, PLACE), NO, NO]),
-    Clause::Wants(0, [(1, Of::Was(SIZE)), (-1, END), NO, NO]),
-    Clause::Wants(0, [(1, START), (-1, Of::Was(LINE_START)), NO, NO]),
-    Clause::Wants(0, [(1, PLACE), (-1, START), NO, NO]),
+    Clause::Wants(-1, ((1, PLACE), (-1, Of::Was(POINTER)), NO, NO)),
+    Clause::Wants(0, ((1, END), (-1, Of::Was(LINE_END)), NO, NO)),
+    Clause::Wants(0, ((1, END), (-1, PLACE), NO, NO)),
+    Clause::Wants(0, ((1, Of::Was(SIZE)), (-1, END), NO, NO)),
+    Clause::Wants(0, ((1, START), (-1, Of::Was(LINE_START)), NO, NO)),
+    Clause::Wants(0, ((1, PLACE), (-1, START), NO, NO)),
 ];
 
 // Back within the line: its end and start stay.
@@ -76,8 +76,8 @@ const WITHIN: [Clause; 5] = [
     GOES,
     ANY_HERE,
     ANY_BEFORE,
-    Clause::Wants(0, [(1, Of::Was(POINTER)), (-1, PLACE), NO, NO]),
-    Clause::Wants(0, [(1, PLACE), (-1, Of::Was(LINE_START)), NO, NO]),
+    Clause::Wants(0, ((1, Of::Was(POINTER)), (-1, PLACE), NO, NO)),
+    Clause::Wants(0, ((1, PLACE), (-1, Of::Was(LINE_START)), NO, NO)),
 ];
 
 // Back past its start: the line ends there at the latest.
@@ -87,29 +87,29 @@ const BACK: [Clause; 10] = [
     ANY_BEFORE,
     ENDS,
     STARTS,
-    Clause::Wants(-1, [(1, Of::Was(LINE_START)), (-1, PLACE), NO, NO]),
-    Clause::Wants(-1, [(1, END), (-1, PLACE), NO, NO]),
-    Clause::Wants(0, [(1, Of::Was(LINE_START)), (-1, END), NO, NO]),
-    Clause::Wants(0, [(1, START), NO, NO, NO]),
-    Clause::Wants(0, [(1, PLACE), (-1, START), NO, NO]),
+    Clause::Wants(-1, ((1, Of::Was(LINE_START)), (-1, PLACE), NO, NO)),
+    Clause::Wants(-1, ((1, END), (-1, PLACE), NO, NO)),
+    Clause::Wants(0, ((1, Of::Was(LINE_START)), (-1, END), NO, NO)),
+    Clause::Wants(0, ((1, START), NO, NO, NO)),
+    Clause::Wants(0, ((1, PLACE), (-1, START), NO, NO)),
 ];
 
 // One character ahead: that which was at the pointer is before it. It ends no line, or it does.
-const PASSES: Clause = Clause::Sets(CODE_BEFORE, 0, [(1, Of::Was(CODE_HERE)), NO, NO, NO]);
+const PASSES: Clause = Clause::Sets(CODE_BEFORE, 0, ((1, Of::Was(CODE_HERE)), NO, NO, NO));
 
-const IN_LINE: Clause = Clause::Wants(0, [(1, Of::Was(LINE_END)), (-1, PLACE), NO, NO]);
+const IN_LINE: Clause = Clause::Wants(0, ((1, Of::Was(LINE_END)), (-1, PLACE), NO, NO));
 
 const PASSES_END: [Clause; 10] = [
     GOES,
     ANY_HERE,
     PASSES,
     ENDS,
-    Clause::Sets(LINE_START, 0, [(1, PLACE), NO, NO, NO]),
-    Clause::Wants(-11, [(1, Of::Was(CODE_HERE)), NO, NO, NO]),
-    Clause::Wants(13, [(-1, Of::Was(CODE_HERE)), NO, NO, NO]),
-    Clause::Wants(0, [(1, PLACE), (-1, Of::Was(LINE_END)), NO, NO]),
-    Clause::Wants(0, [(1, END), (-1, PLACE), NO, NO]),
-    Clause::Wants(0, [(1, Of::Was(SIZE)), (-1, END), NO, NO]),
+    Clause::Sets(LINE_START, 0, ((1, PLACE), NO, NO, NO)),
+    Clause::Wants(-11, ((1, Of::Was(CODE_HERE)), NO, NO, NO)),
+    Clause::Wants(13, ((-1, Of::Was(CODE_HERE)), NO, NO, NO)),
+    Clause::Wants(0, ((1, PLACE), (-1, Of::Was(LINE_END)), NO, NO)),
+    Clause::Wants(0, ((1, END), (-1, PLACE), NO, NO)),
+    Clause::Wants(0, ((1, Of::Was(SIZE)), (-1, END), NO, NO)),
 ];
 
 const PASSES_LOW: [Clause; 6] = [
@@ -117,8 +117,8 @@ const PASSES_LOW: [Clause; 6] = [
     ANY_HERE,
     PASSES,
     IN_LINE,
-    Clause::Wants(-1, [(1, Of::Was(CODE_HERE)), NO, NO, NO]),
-    Clause::Wants(10, [(-1, Of::Was(CODE_HERE)), NO, NO, NO]),
+    Clause::Wants(-1, ((1, Of::Was(CODE_HERE)), NO, NO, NO)),
+    Clause::Wants(10, ((-1, Of::Was(CODE_HERE)), NO, NO, NO)),
 ];
 
 const PASSES_HIGH: [Clause; 6] = [
@@ -126,25 +126,25 @@ const PASSES_HIGH: [Clause; 6] = [
     ANY_HERE,
     PASSES,
     IN_LINE,
-    Clause::Wants(-14, [(1, Of::Was(CODE_HERE)), NO, NO, NO]),
-    Clause::Wants(256, [(-1, Of::Was(CODE_HERE)), NO, NO, NO]),
+    Clause::Wants(-14, ((1, Of::Was(CODE_HERE)), NO, NO, NO)),
+    Clause::Wants(256, ((-1, Of::Was(CODE_HERE)), NO, NO, NO)),
 ];
 
 // One character back: that which was before the pointer is at it. It ends no line, or it does.
-const RETURNS: Clause = Clause::Sets(CODE_HERE, 0, [(1, Of::Was(CODE_BEFORE)), NO, NO, NO]);
+const RETURNS: Clause = Clause::Sets(CODE_HERE, 0, ((1, Of::Was(CODE_BEFORE)), NO, NO, NO));
 
-const SAME_LINE: Clause = Clause::Wants(0, [(1, PLACE), (-1, Of::Was(LINE_START)), NO, NO]);
+const SAME_LINE: Clause = Clause::Wants(0, ((1, PLACE), (-1, Of::Was(LINE_START)), NO, NO));
 
 const RETURNS_END: [Clause; 9] = [
     GOES,
     RETURNS,
     ANY_BEFORE,
-    Clause::Sets(LINE_END, 0, [(1, Of::Was(POINTER)), NO, NO, NO]),
+    Clause::Sets(LINE_END, 0, ((1, Of::Was(POINTER)), NO, NO, NO)),
     STARTS,
-    Clause::Wants(-11, [(1, Of::Was(CODE_BEFORE)), NO, NO, NO]),
-    Clause::Wants(13, [(-1, Of::Was(CODE_BEFORE)), NO, NO, NO]),
-    Clause::Wants(0, [(1, START), NO, NO, NO]),
-    Clause::Wants(0, [(1, PLACE), (-1, START), NO, NO]),
+    Clause::Wants(-11, ((1, Of::Was(CODE_BEFORE)), NO, NO, NO)),
+    Clause::Wants(13, ((-1, Of::Was(CODE_BEFORE)), NO, NO, NO)),
+    Clause::Wants(0, ((1, START), NO, NO, NO)),
+    Clause::Wants(0, ((1, PLACE), (-1, START), NO, NO)),
 ];
 
 const RETURNS_LOW: [Clause; 6] = [
@@ -152,8 +152,8 @@ const RETURNS_LOW: [Clause; 6] = [
     RETURNS,
     ANY_BEFORE,
     SAME_LINE,
-    Clause::Wants(-1, [(1, Of::Was(CODE_BEFORE)), NO, NO, NO]),
-    Clause::Wants(10, [(-1, Of::Was(CODE_BEFORE)), NO, NO, NO]),
+    Clause::Wants(-1, ((1, Of::Was(CODE_BEFORE)), NO, NO, NO)),
+    Clause::Wants(10, ((-1, Of::Was(CODE_BEFORE)), NO, NO, NO)),
 ];
 
 const RETURNS_HIGH: [Clause; 6] = [
@@ -161,25 +161,25 @@ const RETURNS_HIGH: [Clause; 6] = [
     RETURNS,
     ANY_BEFORE,
     SAME_LINE,
-    Clause::Wants(-14, [(1, Of::Was(CODE_BEFORE)), NO, NO, NO]),
-    Clause::Wants(256, [(-1, Of::Was(CODE_BEFORE)), NO, NO, NO]),
+    Clause::Wants(-14, ((1, Of::Was(CODE_BEFORE)), NO, NO, NO)),
+    Clause::Wants(256, ((-1, Of::Was(CODE_BEFORE)), NO, NO, NO)),
 ];
 
 // It is in the buffer, which is answered; or it is not, and nothing moves.
 const FOUND: [Clause; 3] = [
-    Clause::Sets(VALUE, -1, [NO, NO, NO, NO]),
-    Clause::Wants(0, [(1, PLACE), NO, NO, NO]),
-    Clause::Wants(0, [(1, Of::Was(SIZE)), (-1, PLACE), NO, NO]),
+    Clause::Sets(VALUE, -1, (NO, NO, NO, NO)),
+    Clause::Wants(0, ((1, PLACE), NO, NO, NO)),
+    Clause::Wants(0, ((1, Of::Was(SIZE)), (-1, PLACE), NO, NO)),
 ];
 
 const BEFORE: [Clause; 2] = [
-    Clause::Sets(VALUE, 0, [NO, NO, NO, NO]),
-    Clause::Wants(-1, [(-1, PLACE), NO, NO, NO]),
+    Clause::Sets(VALUE, 0, (NO, NO, NO, NO)),
+    Clause::Wants(-1, ((-1, PLACE), NO, NO, NO)),
 ];
 
 const BEHIND: [Clause; 2] = [
-    Clause::Sets(VALUE, 0, [NO, NO, NO, NO]),
-    Clause::Wants(-1, [(1, PLACE), (-1, Of::Was(SIZE)), NO, NO]),
+    Clause::Sets(VALUE, 0, (NO, NO, NO, NO)),
+    Clause::Wants(-1, ((1, PLACE), (-1, Of::Was(SIZE)), NO, NO)),
 ];
 
 // The place that an argument names.

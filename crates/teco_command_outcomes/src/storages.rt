@@ -20,20 +20,20 @@ use teco_rows::row::{Clause, Mark, Of, Places};
 pub const NUMBER: Mark = Mark::Here(Family::Number);
 
 // The number is stored.
-const STORES: [Clause; 1] = [Clause::Sets(NUMBER, 0, [(1, Of::Given(0)), NO, NO, NO])];
+const STORES: [Clause; 1] = [Clause::Sets(NUMBER, 0, ((1, Of::Given(0)), NO, NO, NO))];
 
 // The sum is stored and answered.
 const ADDS: [Clause; 2] = [
-    Clause::Sets(NUMBER, 0, [(1, Of::Given(0)), NO, NO, NO]),
-    Clause::Sets(VALUE, 0, [(1, Of::Given(0)), NO, NO, NO]),
+    Clause::Sets(NUMBER, 0, ((1, Of::Given(0)), NO, NO, NO)),
+    Clause::Sets(VALUE, 0, ((1, Of::Given(0)), NO, NO, NO)),
 ];
 
 // So it is where it is some number of 32 bits.
 const ADDS_WRAPPED: [Clause; 4] = [
-    Clause::Sets(NUMBER, 0, [(1, Of::Unknown(0)), NO, NO, NO]),
-    Clause::Sets(VALUE, 0, [(1, Of::Unknown(0)), NO, NO, NO]),
-    Clause::Wants(1 << 31, [(1, Of::Unknown(0)), NO, NO, NO]),
-    Clause::Wants((1 << 31) - 1, [(-1, Of::Unknown(0)), NO, NO, NO]),
+    Clause::Sets(NUMBER, 0, ((1, Of::Unknown(0)), NO, NO, NO)),
+    Clause::Sets(VALUE, 0, ((1, Of::Unknown(0)), NO, NO, NO)),
+    Clause::Wants(1 << 31, ((1, Of::Unknown(0)), NO, NO, NO)),
+    Clause::Wants((1 << 31) - 1, ((-1, Of::Unknown(0)), NO, NO, NO)),
 ];
 
 /// The places at hand where an element names a register.

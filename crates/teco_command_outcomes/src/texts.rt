@@ -49,17 +49,17 @@ struct PlaceRange {
 }
 
 // The text is as long as is given.
-const STORES: [Clause; 1] = [Clause::Sets(LENGTH, 0, [(1, REST), NO, NO, NO])];
+const STORES: [Clause; 1] = [Clause::Sets(LENGTH, 0, ((1, REST), NO, NO, NO))];
 
 // A part is copied, whose ends are in order, or are not.
 const COPIES: [Clause; 2] = [
-    Clause::Sets(LENGTH, 0, [(1, REST), (1, TO), (-1, FROM), NO]),
-    Clause::Wants(0, [(1, TO), (-1, FROM), NO, NO]),
+    Clause::Sets(LENGTH, 0, ((1, REST), (1, TO), (-1, FROM), NO)),
+    Clause::Wants(0, ((1, TO), (-1, FROM), NO, NO)),
 ];
 
 const COPIES_BACK: [Clause; 2] = [
-    Clause::Sets(LENGTH, 0, [(1, REST), (1, FROM), (-1, TO), NO]),
-    Clause::Wants(-1, [(1, FROM), (-1, TO), NO, NO]),
+    Clause::Sets(LENGTH, 0, ((1, REST), (1, FROM), (-1, TO), NO)),
+    Clause::Wants(-1, ((1, FROM), (-1, TO), NO, NO)),
 ];
 
 // Lines are copied, from the pointer on, or up to it.
@@ -67,22 +67,22 @@ const LINES: [Clause; 4] = [
     Clause::Sets(
         LENGTH,
         0,
-        [(1, REST), (1, OTHER), (-1, Of::Was(POINTER)), NO],
+        ((1, REST), (1, OTHER), (-1, Of::Was(POINTER)), NO),
     ),
-    Clause::Wants(-1, [(1, COUNT), NO, NO, NO]),
-    Clause::Wants(0, [(1, OTHER), (-1, Of::Was(LINE_END)), NO, NO]),
-    Clause::Wants(0, [(1, Of::Was(SIZE)), (-1, OTHER), NO, NO]),
+    Clause::Wants(-1, ((1, COUNT), NO, NO, NO)),
+    Clause::Wants(0, ((1, OTHER), (-1, Of::Was(LINE_END)), NO, NO)),
+    Clause::Wants(0, ((1, Of::Was(SIZE)), (-1, OTHER), NO, NO)),
 ];
 
 const LINES_BACK: [Clause; 4] = [
     Clause::Sets(
         LENGTH,
         0,
-        [(1, REST), (1, Of::Was(POINTER)), (-1, OTHER), NO],
+        ((1, REST), (1, Of::Was(POINTER)), (-1, OTHER), NO),
     ),
-    Clause::Wants(0, [(-1, COUNT), NO, NO, NO]),
-    Clause::Wants(0, [(1, OTHER), NO, NO, NO]),
-    Clause::Wants(0, [(1, Of::Was(LINE_START)), (-1, OTHER), NO, NO]),
+    Clause::Wants(0, ((-1, COUNT), NO, NO, NO)),
+    Clause::Wants(0, ((1, OTHER), NO, NO, NO)),
+    Clause::Wants(0, ((1, Of::Was(LINE_START)), (-1, OTHER), NO, NO)),
 ];
 
 // How much of the text stays: all where the new text is appended, as with a colon, and else nothing.

@@ -46,24 +46,24 @@ const FROM: Of = Of::Given(0);
 const TO: Of = Of::Given(1);
 
 // So many bytes are typed.
-const TYPES: [Clause; 1] = [Clause::Sets(TYPED, 0, [(1, Of::Was(TYPED)), (1, COUNT), NO, NO])];
+const TYPES: [Clause; 1] = [Clause::Sets(TYPED, 0, ((1, Of::Was(TYPED)), (1, COUNT), NO, NO))];
 
 // At most so many are.
 const TYPES_SOME: [Clause; 3] = [
-    Clause::Sets(TYPED, 0, [(1, Of::Was(TYPED)), (1, SOME), NO, NO]),
-    Clause::Wants(0, [(1, SOME), NO, NO, NO]),
-    Clause::Wants(0, [(1, COUNT), (-1, SOME), NO, NO]),
+    Clause::Sets(TYPED, 0, ((1, Of::Was(TYPED)), (1, SOME), NO, NO)),
+    Clause::Wants(0, ((1, SOME), NO, NO, NO)),
+    Clause::Wants(0, ((1, COUNT), (-1, SOME), NO, NO)),
 ];
 
 // A part is typed, whose ends are in order, or are not.
 const TYPES_PART: [Clause; 2] = [
-    Clause::Sets(TYPED, 0, [(1, Of::Was(TYPED)), (1, TO), (-1, FROM), NO]),
-    Clause::Wants(0, [(1, TO), (-1, FROM), NO, NO]),
+    Clause::Sets(TYPED, 0, ((1, Of::Was(TYPED)), (1, TO), (-1, FROM), NO)),
+    Clause::Wants(0, ((1, TO), (-1, FROM), NO, NO)),
 ];
 
 const TYPES_BACK: [Clause; 2] = [
-    Clause::Sets(TYPED, 0, [(1, Of::Was(TYPED)), (1, FROM), (-1, TO), NO]),
-    Clause::Wants(-1, [(1, FROM), (-1, TO), NO, NO]),
+    Clause::Sets(TYPED, 0, ((1, Of::Was(TYPED)), (1, FROM), (-1, TO), NO)),
+    Clause::Wants(-1, ((1, FROM), (-1, TO), NO, NO)),
 ];
 
 // The case a step later, where the arguments are taken and so many bytes are typed.

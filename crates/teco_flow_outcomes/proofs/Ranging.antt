@@ -87,10 +87,10 @@ upper c e = (grind (arith, nat_tests), grind (arith, nat_tests))
 
 -- ---- rows
 abbrev from_row : ℤ → List Clause
-from_row least = Wants (neg_ℤ least) ((pos 1, Given 0) ∷ NO ∷ NO ∷ NO ∷ []) ∷ []
+from_row least = Wants (neg_ℤ least) ((pos 1, Given 0), NO, NO, NO) ∷ []
 
 abbrev up_to_row : ℤ → List Clause
-up_to_row most = Wants most ((negsuc 0, Given 0) ∷ NO ∷ NO ∷ NO ∷ []) ∷ []
+up_to_row most = Wants most ((negsuc 0, Given 0), NO, NO, NO) ∷ []
 
 pub says_any : Says Any []
 says_any b h = (tt, λ m x. refl)

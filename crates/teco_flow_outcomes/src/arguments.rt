@@ -27,7 +27,7 @@ pub const STEPS: [Clause; 1] = [STEP];
 // The value is the first one of a pair.
 const PARTS: [Clause; 3] = [
     STEP,
-    Clause::Sets(FIRST, 0, [(1, Of::Given(0)), NO, NO, NO]),
+    Clause::Sets(FIRST, 0, ((1, Of::Given(0)), NO, NO, NO)),
     Clause::Drops(VALUE),
 ];
 

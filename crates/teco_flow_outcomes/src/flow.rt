@@ -27,21 +27,21 @@ const TURNS: Mark = Mark::Here(Family::Turns);
 
 // The turns of a new iteration: n - 1 come after the first, or they are not counted.
 const COUNTS: [Clause; 2] = [
-    Clause::Sets(TURNS, -1, [(1, Of::Given(0)), NO, NO, NO]),
-    Clause::Wants(-1, [(1, Of::Given(0)), NO, NO, NO]),
+    Clause::Sets(TURNS, -1, ((1, Of::Given(0)), NO, NO, NO)),
+    Clause::Wants(-1, ((1, Of::Given(0)), NO, NO, NO)),
 ];
 
 const COUNTS_NOT: [Clause; 1] = [Clause::Drops(TURNS)];
 
 // One turn fewer is left, or there was none.
 const AGAIN: [Clause; 2] = [
-    Clause::Sets(TURNS, -1, [(1, Of::Was(TURNS)), NO, NO, NO]),
-    Clause::Wants(-1, [(1, Of::Was(TURNS)), NO, NO, NO]),
+    Clause::Sets(TURNS, -1, ((1, Of::Was(TURNS)), NO, NO, NO)),
+    Clause::Wants(-1, ((1, Of::Was(TURNS)), NO, NO, NO)),
 ];
 
 const ENDS: [Clause; 2] = [
     Clause::Drops(TURNS),
-    Clause::Wants(0, [(-1, Of::Was(TURNS)), NO, NO, NO]),
+    Clause::Wants(0, ((-1, Of::Was(TURNS)), NO, NO, NO)),
 ];
 
 // The number that an element needs.

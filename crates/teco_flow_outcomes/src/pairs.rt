@@ -18,8 +18,8 @@ use teco_rows::row::{Clause, Of, RowStep};
 // Both values are there.
 const PAIRS: [Clause; 3] = [
     STEP,
-    Clause::Sets(FIRST, 0, [(1, Of::Given(0)), NO, NO, NO]),
-    Clause::Sets(VALUE, 0, [(1, Of::Given(1)), NO, NO, NO]),
+    Clause::Sets(FIRST, 0, ((1, Of::Given(0)), NO, NO, NO)),
+    Clause::Sets(VALUE, 0, ((1, Of::Given(1)), NO, NO, NO)),
 ];
 
 // The value that is left where a number is given, under conditions.

@@ -80,16 +80,16 @@ pub fn where_it_fails(test: Test) -> Ranges
 
 // The number that is given is at least this.
 fn at_least(least: i32) -> Clause
-    ensures { result ≡ Clause.Wants (neg_ℤ least) ((pos 1, Of.Given 0) ∷ NO ∷ NO ∷ NO ∷ []) }
+    ensures { result ≡ Clause.Wants (neg_ℤ least) ((pos 1, Of.Given 0), NO, NO, NO) }
 {
-    Clause::Wants(-i64::from(least), [(1, Of::Given(0)), NO, NO, NO])
+    Clause::Wants(-i64::from(least), ((1, Of::Given(0)), NO, NO, NO))
 }
 
 // The number is at most this.
 fn at_most(most: i32) -> Clause
-    ensures { result ≡ Clause.Wants most ((negsuc 0, Of.Given 0) ∷ NO ∷ NO ∷ NO ∷ []) }
+    ensures { result ≡ Clause.Wants most ((negsuc 0, Of.Given 0), NO, NO, NO) }
 {
-    Clause::Wants(i64::from(most), [(-1, Of::Given(0)), NO, NO, NO])
+    Clause::Wants(i64::from(most), ((-1, Of::Given(0)), NO, NO, NO))
 }
 
 /// The row that says that the number that is given is in a range.

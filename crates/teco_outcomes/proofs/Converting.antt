@@ -297,9 +297,9 @@ some_digits m h = omega (arith, decimal_nonempty m h)
 -- what is written of a number within bounds, by a text of so few or many characters
 abbrev pub written : ℤ → ℤ → ℤ → ℤ → List Clause
 written least most few many =
-    ANY_BEFORE ∷ MOVES ∷ LONGER ∷ MORE ∷ FURTHER ∷ LAST ∷ Wants least ((pos 1, NUMBER) ∷ NO ∷ NO ∷ NO ∷ [])
-    ∷ Wants most ((negsuc 0, NUMBER) ∷ NO ∷ NO ∷ NO ∷ []) ∷ Wants few ((pos 1, LONG) ∷ NO ∷ NO ∷ NO ∷ [])
-    ∷ Wants many ((negsuc 0, LONG) ∷ NO ∷ NO ∷ NO ∷ []) ∷ []
+    ANY_BEFORE ∷ MOVES ∷ LONGER ∷ MORE ∷ FURTHER ∷ LAST ∷ Wants least ((pos 1, NUMBER), NO, NO, NO)
+    ∷ Wants most ((negsuc 0, NUMBER), NO, NO, NO) ∷ Wants few ((pos 1, LONG), NO, NO, NO)
+    ∷ Wants many ((negsuc 0, LONG), NO, NO, NO) ∷ []
 
 -- what is not known of the state behind
 abbrev written_behind : Kept → List ℕ → ℕ → ℤ

@@ -25,72 +25,72 @@ const CODE: Of = Of::Unknown(0);
 
 // In the buffer there is a character.
 const INSIDE: [Clause; 5] = [
-    Clause::Sets(VALUE, 0, [(1, CODE), NO, NO, NO]),
-    Clause::Wants(0, [(1, CODE), NO, NO, NO]),
-    Clause::Wants(255, [(-1, CODE), NO, NO, NO]),
-    Clause::Wants(0, [(1, Of::Was(POINTER)), (1, BY), NO, NO]),
+    Clause::Sets(VALUE, 0, ((1, CODE), NO, NO, NO)),
+    Clause::Wants(0, ((1, CODE), NO, NO, NO)),
+    Clause::Wants(255, ((-1, CODE), NO, NO, NO)),
+    Clause::Wants(0, ((1, Of::Was(POINTER)), (1, BY), NO, NO)),
     Clause::Wants(
         -1,
-        [(1, Of::Was(SIZE)), (-1, Of::Was(POINTER)), (-1, BY), NO],
+        ((1, Of::Was(SIZE)), (-1, Of::Was(POINTER)), (-1, BY), NO),
     ),
 ];
 
 // Before it and behind it there is none.
 const BEFORE: [Clause; 2] = [
-    Clause::Sets(VALUE, -1, [NO, NO, NO, NO]),
-    Clause::Wants(-1, [(-1, Of::Was(POINTER)), (-1, BY), NO, NO]),
+    Clause::Sets(VALUE, -1, (NO, NO, NO, NO)),
+    Clause::Wants(-1, ((-1, Of::Was(POINTER)), (-1, BY), NO, NO)),
 ];
 
 const BEHIND: [Clause; 2] = [
-    Clause::Sets(VALUE, -1, [NO, NO, NO, NO]),
-    Clause::Wants(0, [(1, Of::Was(POINTER)), (1, BY), (-1, Of::Was(SIZE)), NO]),
+    Clause::Sets(VALUE, -1, (NO, NO, NO, NO)),
+    Clause::Wants(0, ((1, Of::Was(POINTER)), (1, BY), (-1, Of::Was(SIZE)), NO)),
 ];
 
 // At the start of the buffer none is before the pointer, and at its end none is at it.
 const AT_FIRST: [Clause; 3] = [
-    Clause::Wants(0, [(-1, Of::Was(CODE_BEFORE)), NO, NO, NO]),
-    Clause::Sets(VALUE, -1, [NO, NO, NO, NO]),
-    Clause::Wants(0, [(-1, Of::Was(POINTER)), NO, NO, NO]),
+    Clause::Wants(0, ((-1, Of::Was(CODE_BEFORE)), NO, NO, NO)),
+    Clause::Sets(VALUE, -1, (NO, NO, NO, NO)),
+    Clause::Wants(0, ((-1, Of::Was(POINTER)), NO, NO, NO)),
 ];
 
 const AT_LAST: [Clause; 3] = [
-    Clause::Wants(0, [(-1, Of::Was(CODE_HERE)), NO, NO, NO]),
-    Clause::Sets(VALUE, -1, [NO, NO, NO, NO]),
-    Clause::Wants(0, [(1, Of::Was(POINTER)), (-1, Of::Was(SIZE)), NO, NO]),
+    Clause::Wants(0, ((-1, Of::Was(CODE_HERE)), NO, NO, NO)),
+    Clause::Sets(VALUE, -1, (NO, NO, NO, NO)),
+    Clause::Wants(0, ((1, Of::Was(POINTER)), (-1, Of::Was(SIZE)), NO, NO)),
 ];
 
 // The code of the character at the pointer is that of a line end, or below those, or above them.
-const GIVES_HERE: Clause = Clause::Sets(VALUE, -1, [(1, Of::Was(CODE_HERE)), NO, NO, NO]);
+const GIVES_HERE: Clause = Clause::Sets(VALUE, -1, ((1, Of::Was(CODE_HERE)), NO, NO, NO));
 
-const ENDS_FROM_HERE: Clause = Clause::Wants(-11, [(1, Of::Was(CODE_HERE)), NO, NO, NO]);
+const ENDS_FROM_HERE: Clause = Clause::Wants(-11, ((1, Of::Was(CODE_HERE)), NO, NO, NO));
 
-const ENDS_TO_HERE: Clause = Clause::Wants(13, [(-1, Of::Was(CODE_HERE)), NO, NO, NO]);
+const ENDS_TO_HERE: Clause = Clause::Wants(13, ((-1, Of::Was(CODE_HERE)), NO, NO, NO));
 
-const LOW_FROM_HERE: Clause = Clause::Wants(-1, [(1, Of::Was(CODE_HERE)), NO, NO, NO]);
+const LOW_FROM_HERE: Clause = Clause::Wants(-1, ((1, Of::Was(CODE_HERE)), NO, NO, NO));
 
-const LOW_TO_HERE: Clause = Clause::Wants(10, [(-1, Of::Was(CODE_HERE)), NO, NO, NO]);
+const LOW_TO_HERE: Clause = Clause::Wants(10, ((-1, Of::Was(CODE_HERE)), NO, NO, NO));
 
-const HIGH_FROM_HERE: Clause = Clause::Wants(-14, [(1, Of::Was(CODE_HERE)), NO, NO, NO]);
+const HIGH_FROM_HERE: Clause = Clause::Wants(-14, ((1, Of::Was(CODE_HERE)), NO, NO, NO));
 
-const HIGH_TO_HERE: Clause = Clause::Wants(256, [(-1, Of::Was(CODE_HERE)), NO, NO, NO]);
+const HIGH_TO_HERE: Clause = Clause::Wants(256, ((-1, Of::Was(CODE_HERE)), NO, NO, NO));
 
 // The code of the character before the pointer, likewise.
-const GIVES_THERE: Clause = Clause::Sets(VALUE, -1, [(1, Of::Was(CODE_BEFORE)), NO, NO, NO]);
+const GIVES_THERE: Clause = Clause::Sets(VALUE, -1, ((1, Of::Was(CODE_BEFORE)), NO, NO, NO));
 
-const ENDS_FROM_THERE: Clause = Clause::Wants(-11, [(1, Of::Was(CODE_BEFORE)), NO, NO, NO]);
+const ENDS_FROM_THERE: Clause = Clause::Wants(-11, ((1, Of::Was(CODE_BEFORE)), NO, NO, NO));
 
-const ENDS_TO_THERE: Clause = Clause::Wants(13, [(-1, Of::Was(CODE_BEFORE)), NO, NO, NO]);
+const ENDS_TO_THERE: Clause = Clause::Wants(13, ((-1, Of::Was(CODE_BEFORE)), NO, NO, NO));
 
-const LOW_FROM_THERE: Clause = Clause::Wants(-1, [(1, Of::Was(CODE_BEFORE)), NO, NO, NO]);
+const LOW_FROM_THERE: Clause = Clause::Wants(-1, ((1, Of::Was(CODE_BEFORE)), NO, NO, NO));
 
-const LOW_TO_THERE: Clause = Clause::Wants(10, [(-1, Of::Was(CODE_BEFORE)), NO, NO, NO]);
+const LOW_TO_THERE: Clause = Clause::Wants(10, ((-1, Of::Was(CODE_BEFORE)), NO, NO, NO));
 
-const HIGH_FROM_THERE: Clause = Clause::Wants(-14, [(1, Of::Was(CODE_BEFORE)), NO, NO, NO]);
+const HIGH_FROM_THERE: Clause = Clause::Wants(-14, ((1, Of::Was(CODE_BEFORE)), NO, NO, NO));
 
-const HIGH_TO_THERE: Clause = Clause::Wants(256, [(-1, Of::Was(CODE_BEFORE)), NO, NO, NO]);
+const HIGH_TO_THERE: Clause = Clause::Wants(256, ((-1, Of::Was(CODE_BEFORE)), NO, NO, NO));
 
 // A character is at the pointer, so its line ends behind it.
-const AHEAD: Clause = Clause::Wants(-1, [(1, Of::Was(LINE_END)), (-1, Of::Was(POINTER)), NO, NO]);
+const AHEAD: Clause = Clause::Wants(-1, ((1, Of::Was(LINE_END)), (-1, Of::Was(POINTER)), NO, NO));
 
 // It ends its line, or it does not.
 const ENDS_HERE: [Clause; 5] = [
@@ -98,7 +98,7 @@ const ENDS_HERE: [Clause; 5] = [
     ENDS_FROM_HERE,
     ENDS_TO_HERE,
     AHEAD,
-    Clause::Wants(1, [(-1, Of::Was(LINE_END)), (1, Of::Was(POINTER)), NO, NO]),
+    Clause::Wants(1, ((-1, Of::Was(LINE_END)), (1, Of::Was(POINTER)), NO, NO)),
 ];
 
 const LOW_HERE: [Clause; 4] = [GIVES_HERE, LOW_FROM_HERE, LOW_TO_HERE, AHEAD];
@@ -110,16 +110,16 @@ const ENDS_THERE: [Clause; 5] = [
     GIVES_THERE,
     ENDS_FROM_THERE,
     ENDS_TO_THERE,
-    Clause::Wants(-1, [(1, Of::Was(POINTER)), NO, NO, NO]),
+    Clause::Wants(-1, ((1, Of::Was(POINTER)), NO, NO, NO)),
     Clause::Wants(
         0,
-        [(1, Of::Was(LINE_START)), (-1, Of::Was(POINTER)), NO, NO],
+        ((1, Of::Was(LINE_START)), (-1, Of::Was(POINTER)), NO, NO),
     ),
 ];
 
 const SAME_LINE: Clause = Clause::Wants(
     -1,
-    [(1, Of::Was(POINTER)), (-1, Of::Was(LINE_START)), NO, NO],
+    ((1, Of::Was(POINTER)), (-1, Of::Was(LINE_START)), NO, NO),
 );
 
 const LOW_THERE: [Clause; 4] = [GIVES_THERE, LOW_FROM_THERE, LOW_TO_THERE, SAME_LINE];

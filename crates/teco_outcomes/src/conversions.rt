@@ -39,50 +39,50 @@ const LONG: Of = Of::Unknown(0);
 const READS: [Clause; 5] = [
     ANY_HERE,
     ANY_BEFORE,
-    Clause::Sets(POINTER, 0, [(1, PLACE), NO, NO, NO]),
-    Clause::Wants(0, [(1, PLACE), (-1, Of::Was(POINTER)), NO, NO]),
-    Clause::Wants(0, [(1, Of::Was(LINE_END)), (-1, PLACE), NO, NO]),
+    Clause::Sets(POINTER, 0, ((1, PLACE), NO, NO, NO)),
+    Clause::Wants(0, ((1, PLACE), (-1, Of::Was(POINTER)), NO, NO)),
+    Clause::Wants(0, ((1, Of::Was(LINE_END)), (-1, PLACE), NO, NO)),
 ];
 
 // A number has a character at least where a digit is at the pointer.
 const READS_DIGIT: [Clause; 7] = [
     ANY_HERE,
     ANY_BEFORE,
-    Clause::Sets(POINTER, 0, [(1, PLACE), NO, NO, NO]),
-    Clause::Wants(-1, [(1, PLACE), (-1, Of::Was(POINTER)), NO, NO]),
-    Clause::Wants(0, [(1, Of::Was(LINE_END)), (-1, PLACE), NO, NO]),
-    Clause::Wants(-49, [(1, Of::Was(CODE_HERE)), NO, NO, NO]),
-    Clause::Wants(58, [(-1, Of::Was(CODE_HERE)), NO, NO, NO]),
+    Clause::Sets(POINTER, 0, ((1, PLACE), NO, NO, NO)),
+    Clause::Wants(-1, ((1, PLACE), (-1, Of::Was(POINTER)), NO, NO)),
+    Clause::Wants(0, ((1, Of::Was(LINE_END)), (-1, PLACE), NO, NO)),
+    Clause::Wants(-49, ((1, Of::Was(CODE_HERE)), NO, NO, NO)),
+    Clause::Wants(58, ((-1, Of::Was(CODE_HERE)), NO, NO, NO)),
 ];
 
 // Where a character below the digits is there, or one above them.
 const READS_LOW: [Clause; 6] = [
     ANY_HERE,
     ANY_BEFORE,
-    Clause::Sets(POINTER, 0, [(1, PLACE), NO, NO, NO]),
-    Clause::Wants(0, [(1, PLACE), (-1, Of::Was(POINTER)), NO, NO]),
-    Clause::Wants(0, [(1, Of::Was(LINE_END)), (-1, PLACE), NO, NO]),
-    Clause::Wants(48, [(-1, Of::Was(CODE_HERE)), NO, NO, NO]),
+    Clause::Sets(POINTER, 0, ((1, PLACE), NO, NO, NO)),
+    Clause::Wants(0, ((1, PLACE), (-1, Of::Was(POINTER)), NO, NO)),
+    Clause::Wants(0, ((1, Of::Was(LINE_END)), (-1, PLACE), NO, NO)),
+    Clause::Wants(48, ((-1, Of::Was(CODE_HERE)), NO, NO, NO)),
 ];
 
 const READS_HIGH: [Clause; 6] = [
     ANY_HERE,
     ANY_BEFORE,
-    Clause::Sets(POINTER, 0, [(1, PLACE), NO, NO, NO]),
-    Clause::Wants(0, [(1, PLACE), (-1, Of::Was(POINTER)), NO, NO]),
-    Clause::Wants(0, [(1, Of::Was(LINE_END)), (-1, PLACE), NO, NO]),
-    Clause::Wants(-59, [(1, Of::Was(CODE_HERE)), NO, NO, NO]),
+    Clause::Sets(POINTER, 0, ((1, PLACE), NO, NO, NO)),
+    Clause::Wants(0, ((1, PLACE), (-1, Of::Was(POINTER)), NO, NO)),
+    Clause::Wants(0, ((1, Of::Was(LINE_END)), (-1, PLACE), NO, NO)),
+    Clause::Wants(-59, ((1, Of::Was(CODE_HERE)), NO, NO, NO)),
 ];
 
-const MOVES: Clause = Clause::Sets(POINTER, 0, [(1, Of::Was(POINTER)), (1, LONG), NO, NO]);
+const MOVES: Clause = Clause::Sets(POINTER, 0, ((1, Of::Was(POINTER)), (1, LONG), NO, NO));
 
-const LONGER: Clause = Clause::Sets(SIZE, 0, [(1, Of::Was(SIZE)), (1, LONG), NO, NO]);
+const LONGER: Clause = Clause::Sets(SIZE, 0, ((1, Of::Was(SIZE)), (1, LONG), NO, NO));
 
-const MORE: Clause = Clause::Sets(HELD, 0, [(1, Of::Was(HELD)), (1, LONG), NO, NO]);
+const MORE: Clause = Clause::Sets(HELD, 0, ((1, Of::Was(HELD)), (1, LONG), NO, NO));
 
-const FURTHER: Clause = Clause::Sets(LINE_END, 0, [(1, Of::Was(LINE_END)), (1, LONG), NO, NO]);
+const FURTHER: Clause = Clause::Sets(LINE_END, 0, ((1, Of::Was(LINE_END)), (1, LONG), NO, NO));
 
-const LAST: Clause = Clause::Sets(Mark::One(Single::LastLength), 0, [(1, LONG), NO, NO, NO]);
+const LAST: Clause = Clause::Sets(Mark::One(Single::LastLength), 0, ((1, LONG), NO, NO, NO));
 
 // The bounds of a number, and the most characters that one within them has.
 #[derive(Clone, Copy)]
@@ -284,10 +284,10 @@ fn written(
         MORE,
         FURTHER,
         LAST,
-        Clause::Wants(-i64::from(span.least), [(1, NUMBER), NO, NO, NO]),
-        Clause::Wants(i64::from(span.most), [(-1, NUMBER), NO, NO, NO]),
-        Clause::Wants(-1, [(1, LONG), NO, NO, NO]),
-        Clause::Wants(i64::from(span.long), [(-1, LONG), NO, NO, NO]),
+        Clause::Wants(-i64::from(span.least), ((1, NUMBER), NO, NO, NO)),
+        Clause::Wants(i64::from(span.most), ((-1, NUMBER), NO, NO, NO)),
+        Clause::Wants(-1, ((1, LONG), NO, NO, NO)),
+        Clause::Wants(i64::from(span.long), ((-1, LONG), NO, NO, NO)),
     ];
     let inserts = Way {
         answers: &[],

@@ -26,15 +26,15 @@ const PUSHED_LENGTH: Mark = Mark::Here(Family::PushedLength);
 // The list has one pair more, that of the register.
 const PUSHES: [Clause; 3] = [
     STEP,
-    Clause::Sets(PUSHED_NUMBER, 0, [(1, Of::Was(NUMBER)), NO, NO, NO]),
-    Clause::Sets(PUSHED_LENGTH, 0, [(1, Of::Was(LENGTH)), NO, NO, NO]),
+    Clause::Sets(PUSHED_NUMBER, 0, ((1, Of::Was(NUMBER)), NO, NO, NO)),
+    Clause::Sets(PUSHED_LENGTH, 0, ((1, Of::Was(LENGTH)), NO, NO, NO)),
 ];
 
 // The register has the newest pair, which is on the list no more.
 const POPS: [Clause; 5] = [
     STEP,
-    Clause::Sets(NUMBER, 0, [(1, Of::Was(PUSHED_NUMBER)), NO, NO, NO]),
-    Clause::Sets(LENGTH, 0, [(1, Of::Was(PUSHED_LENGTH)), NO, NO, NO]),
+    Clause::Sets(NUMBER, 0, ((1, Of::Was(PUSHED_NUMBER)), NO, NO, NO)),
+    Clause::Sets(LENGTH, 0, ((1, Of::Was(PUSHED_LENGTH)), NO, NO, NO)),
     Clause::Drops(PUSHED_NUMBER),
     Clause::Drops(PUSHED_LENGTH),
 ];

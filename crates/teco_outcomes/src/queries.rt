@@ -19,9 +19,9 @@ use teco_rows::row::{Clause, Of};
 
 // A character or -1 is answered.
 const CHARACTER: [Clause; 3] = [
-    Clause::Sets(VALUE, 0, [(1, Of::Unknown(0)), NO, NO, NO]),
-    Clause::Wants(1, [(1, Of::Unknown(0)), NO, NO, NO]),
-    Clause::Wants(255, [(-1, Of::Unknown(0)), NO, NO, NO]),
+    Clause::Sets(VALUE, 0, ((1, Of::Unknown(0)), NO, NO, NO)),
+    Clause::Wants(1, ((1, Of::Unknown(0)), NO, NO, NO)),
+    Clause::Wants(255, ((-1, Of::Unknown(0)), NO, NO, NO)),
 ];
 
 // Whether a value is there with no operator behind it.

@@ -10,7 +10,7 @@ use Rattle.std.proofs.Common.{MatchOption}
 use Rattle.std.proofs.lemmas.List.Elements.{All-head, All-tail}
 use Rattle.teco_linear.specs.Form.{symbol_value, term_value}
 use Rattle.teco_linear.specs.Implied as implied
-use Rattle.teco_rows.specs.Rows.{Measures}
+use Rattle.teco_rows.specs.Rows.{Measures, Multiples}
 use Rattle.teco_rows.specs.Cases.{Agree, Fits, IsBelow, IsOptionallyAbout}
 
 -- ---- rows one behind the other
@@ -60,9 +60,10 @@ sums_alike a b s (part ∷ parts) =
     ap (λ w. part.0 *ℤ w +ℤ sum_of a parts) (s.weights part.1)
     ∙ ap (λ z. part.0 *ℤ weight b part.1 +ℤ z) (sums_alike a b s parts)
 
-totals_alike : (a b : Before) → Alike a b → (constant : ℤ) (parts : List (ℤ × Of))
+totals_alike : (a b : Before) → Alike a b → (constant : ℤ) (parts : Multiples)
     → total a constant parts ≡ total b constant parts
-totals_alike a b s constant parts = ap (λ z. constant +ℤ z) (sums_alike a b s parts)
+totals_alike a b s constant parts =
+    ap (λ z. constant +ℤ z) (sums_alike a b s (parts.0 ∷ parts.1 ∷ parts.2 ∷ parts.3 ∷ []))
 
 chosen_alike : (a b : Before) → Alike a b → (mark : Mark) (m : Measure) (x y w z : Option ℤ) → x ≡ y → w ≡ z
     → (if is_at a.here mark m then x else w) ≡ (if is_at b.here mark m then y else z)

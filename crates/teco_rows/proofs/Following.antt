@@ -1,15 +1,17 @@
 -- What a clause makes of a case that is being made.
-use Rattle.teco_rows.proofs.Prelude.{◌≡◌, ℕ, ◌+◌, ◌*◌, ◌<◌, ◌==◌, ◌&&◌, ℤ, List, [], ◌∷◌, Bool, true, false, Option}
-use Rattle.teco_rows.proofs.Prelude.{Some, None, slice_index_or, if◌then◌else◌, refl, sym, ap, subst, ◌∙◌, arith}
-use Rattle.teco_rows.proofs.Prelude.{nat_tests, All, Term, Valuation, value, Draft, Case, Single, Steps, Pointer, Size}
-use Rattle.teco_rows.proofs.Prelude.{Held, LineEnd, LineStart, LastLength, CodeHere, CodeBefore, Typed, Family, Number}
-use Rattle.teco_rows.proofs.Prelude.{Length, Turns, PushedNumber, PushedLength, First, Value, Measure, Mark, Of, Clause}
-use Rattle.teco_rows.proofs.Prelude.{Sets, Drops, Places, RowStep, family_code, place, index_at, measure_at, is_at}
-use Rattle.teco_rows.proofs.Prelude.{total, Adds, measures_by, read_by, value_if}
+use Rattle.teco_rows.proofs.Prelude.{◌≡◌, ℕ, ◌+◌, ◌*◌, ◌<◌, ◌==◌, ◌&&◌, ℤ, pos, ◌≤ℤ◌, List, [], ◌∷◌, ◌++◌, Bool, true}
+use Rattle.teco_rows.proofs.Prelude.{false, Option, Some, None, slice_index_or, if◌then◌else◌, refl, sym, ap, subst}
+use Rattle.teco_rows.proofs.Prelude.{◌∙◌, arith, nat_tests, All, Term, Valuation, value, Draft, Case, Single, Steps}
+use Rattle.teco_rows.proofs.Prelude.{Pointer, Size, Held, LineEnd, LineStart, LastLength, CodeHere, CodeBefore, Typed}
+use Rattle.teco_rows.proofs.Prelude.{Family, Number, Length, Turns, PushedNumber, PushedLength, First, Value, Measure}
+use Rattle.teco_rows.proofs.Prelude.{Mark, Of, Clause, Sets, Drops, Wants, Places, RowStep, family_code, place}
+use Rattle.teco_rows.proofs.Prelude.{index_at, measure_at, is_at, total, Adds, measures_by, read_by, value_if}
+use Rattle.std.proofs.lemmas.List.Elements.{All-append, All-cons, All-nil}
 use Rattle.teco_linear.specs.Implied as implied
 use Rattle.teco_rows.specs.declared.measure.Measure.TheVariants as measure
 use Rattle.teco_rows.specs.declared.row.Mark.TheVariants.{One, Here}
 use Rattle.teco_rows.specs.Measures.{single_code}
+use Rattle.teco_rows.specs.Rows.{Multiples}
 
 single_below : (s : Single) → single_code s < 10
 single_below Steps = omega arith
@@ -69,7 +71,7 @@ put_is forms old form here mark at x e put n v h m =
     (ap (λ k. k == place m) e ∙ placed here mark m) h
 
 pub adds_set : (case : Case) (step : RowStep) (clause : Clause) (old new : Draft) (mark : Mark) (constant : ℤ)
-    (parts : List (ℤ × Of)) (form : List Term) (at : ℕ) (k : ℤ) → Sets mark constant parts ≡ clause → k ≡ constant
+    (parts : Multiples) (form : List Term) (at : ℕ) (k : ℤ) → Sets mark constant parts ≡ clause → k ≡ constant
     → ((n : ℕ) (v : Valuation) → value form n v ≡ total (read_by case step n v) k parts)
     → at ≡ place (measure_at step.here mark)
     → ((k : ℕ) → slice_index_or new.forms.items k None
@@ -96,4 +98,20 @@ adds_drop case step clause old new mark at e at_is put same =
       measures = λ n v m.
           put_is new.forms.items old.forms.items None step.here mark at None at_is put n v refl m;
       constraints = λ n v holds met. subst (All (implied.Holds n v)) (sym same) holds;
+    })
+
+pub adds_want : (case : Case) (step : RowStep) (clause : Clause) (old new : Draft) (constant : ℤ) (parts : Multiples)
+    (form : List Term) (k : ℤ) → Wants constant parts ≡ clause → k ≡ constant
+    → ((n : ℕ) (v : Valuation) → value form n v ≡ total (read_by case step n v) k parts)
+    → new.forms.items ≡ old.forms.items → new.constraints.items ≡ old.constraints.items ++ form ∷ []
+    → Adds case step (clause ∷ []) old new
+adds_want case step clause old new constant parts form k e k_is value_is forms same =
+    subst (λ c. Adds case step (c ∷ []) old new) e (record {
+      measures = λ n v m. ap (λ fs. measures_by fs n v m) forms;
+      constraints = λ n v holds met.
+          subst (All (implied.Holds n v)) (sym same)
+          (All-append (implied.Holds n v) old.constraints.items (form ∷ []) holds
+          (All-cons (implied.Holds n v) form []
+          (subst (λ z. pos 0 ≤ℤ z) (sym (value_is n v ∙ ap (λ z. total (read_by case step n v) z parts) k_is)) met.0)
+          (All-nil (implied.Holds n v))));
     })

@@ -33,20 +33,20 @@ use Rattle.teco_rows.proofs.Describing.{led_to, among}
 -- is below 0, and one less than it.
 abbrev pub from_zero : ℤ → ℤ → ℤ → List Clause
 from_zero by minus less =
-    STEP ∷ Sets VALUE (pos 0) ((pos 1, Unknown 0) ∷ NO ∷ NO ∷ NO ∷ [])
-    ∷ Wants (pos 0) ((pos 1, Given 0) ∷ NO ∷ NO ∷ NO ∷ [])
-    ∷ Wants (pos 0) ((pos 1, Unknown 0) ∷ NO ∷ NO ∷ NO ∷ [])
-    ∷ Wants (pos 0) ((pos 1, Given 0) ∷ (minus, Unknown 0) ∷ NO ∷ NO ∷ [])
-    ∷ Wants less ((negsuc 0, Given 0) ∷ (by, Unknown 0) ∷ NO ∷ NO ∷ [])
+    STEP ∷ Sets VALUE (pos 0) ((pos 1, Unknown 0), NO, NO, NO)
+    ∷ Wants (pos 0) ((pos 1, Given 0), NO, NO, NO)
+    ∷ Wants (pos 0) ((pos 1, Unknown 0), NO, NO, NO)
+    ∷ Wants (pos 0) ((pos 1, Given 0), (minus, Unknown 0), NO, NO)
+    ∷ Wants less ((negsuc 0, Given 0), (by, Unknown 0), NO, NO)
     ∷ []
 
 abbrev pub below_zero : ℤ → ℤ → ℤ → List Clause
 below_zero by minus less =
-    STEP ∷ Sets VALUE (pos 0) ((pos 1, Unknown 0) ∷ NO ∷ NO ∷ NO ∷ [])
-    ∷ Wants (negsuc 0) ((negsuc 0, Given 0) ∷ NO ∷ NO ∷ NO ∷ [])
-    ∷ Wants (pos 0) ((negsuc 0, Unknown 0) ∷ NO ∷ NO ∷ NO ∷ [])
-    ∷ Wants (pos 0) ((negsuc 0, Given 0) ∷ (by, Unknown 0) ∷ NO ∷ NO ∷ [])
-    ∷ Wants less ((pos 1, Given 0) ∷ (minus, Unknown 0) ∷ NO ∷ NO ∷ [])
+    STEP ∷ Sets VALUE (pos 0) ((pos 1, Unknown 0), NO, NO, NO)
+    ∷ Wants (negsuc 0) ((negsuc 0, Given 0), NO, NO, NO)
+    ∷ Wants (pos 0) ((negsuc 0, Unknown 0), NO, NO, NO)
+    ∷ Wants (pos 0) ((negsuc 0, Given 0), (by, Unknown 0), NO, NO)
+    ∷ Wants less ((pos 1, Given 0), (minus, Unknown 0), NO, NO)
     ∷ []
 
 -- a quotient times the divisor is the dividend, but for less than the divisor
@@ -101,7 +101,7 @@ module _ (s : Point) (level : Level) (here : Places) (given unknown : ℕ
 
   becomes : (x : ℤ) (of : Of) → level.value ≡ Some x → x ≡ weight before of → (m : Measure)
       → measures_of (behind s (with_level s level)) m
-      ≡ changed (STEP ∷ Sets VALUE (pos 0) ((pos 1, of) ∷ NO ∷ NO ∷ NO ∷ []) ∷ []) before m (measures_of s m)
+      ≡ changed (STEP ∷ Sets VALUE (pos 0) ((pos 1, of), NO, NO, NO) ∷ []) before m (measures_of s m)
   unfolding before
   becomes x of value e (One Steps) = ap Some (omega (arith, ints))
   becomes x of value e (One Pointer) = refl

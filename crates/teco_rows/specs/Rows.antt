@@ -53,14 +53,18 @@ weight before (Was mark) = unwrap_or (before.measures (measure_at before.here ma
 weight before (Given i) = before.given i
 weight before (Unknown i) = before.unknown i
 
+-- The multiples of a clause.
+abbrev pub Multiples : Type 0
+Multiples = (ℤ × Of) × (ℤ × Of) × (ℤ × Of) × (ℤ × Of)
+
 -- the sum of multiples
 abbrev pub sum_of : Before → List (ℤ × Of) → ℤ
 sum_of before [] = pos 0
 sum_of before (part ∷ parts) = part.0 *ℤ weight before part.1 +ℤ sum_of before parts
 
--- a constant and multiples
-abbrev pub total : Before → ℤ → List (ℤ × Of) → ℤ
-total before constant parts = constant +ℤ sum_of before parts
+-- a constant and the multiples of a clause
+abbrev pub total : Before → ℤ → Multiples → ℤ
+total before constant parts = constant +ℤ sum_of before (parts.0 ∷ parts.1 ∷ parts.2 ∷ parts.3 ∷ [])
 
 -- what a row makes of a measure that has this value: the last clause that names it decides
 abbrev pub changed : List Clause → Before → Measure → Option ℤ → Option ℤ

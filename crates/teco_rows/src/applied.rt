@@ -1,17 +1,17 @@
 //! How a row takes a case to the one behind it.
 ghost use Rattle.std.specs.Prelude.{◌≡◌, ◌∷◌, [], ◌==◌, ℕ, if◌then◌else◌, IfOk, OnOk, None, slice_index_or, length};
-ghost use Rattle.std.specs.Prelude.{◌<◌, ◌*ℤ◌, IfSome};
+ghost use Rattle.std.specs.Prelude.{◌<◌, ◌+ℤ◌, ◌*ℤ◌, IfSome};
 ghost use Rattle.std.specs.Prelude.{IsTrue, ◌↔◌};
 ghost use Rattle.std.specs.List.{All};
 ghost use Rattle.teco_linear.specs.Form.{Valuation, scale_value, value};
 ghost use Rattle.teco_linear.specs.Implied.{Holds};
-ghost use Rattle.teco_rows.specs.Rows.{total, weight};
+ghost use Rattle.teco_rows.specs.Rows.{sum_of, total, weight};
 ghost use Rattle.teco_rows.specs.Cases.{Adds, Carries, IsAbout, IsBelow, IsOptionallyAbout, IsWhole};
 ghost use Rattle.teco_rows.specs.Cases.{read_by, value_if};
 
 use crate::case::{Case, Shape};
 use crate::fault::RowFault;
-use crate::row::{Clause, MultipleOf, Of, RowStep};
+use crate::row::{Clause, MultipleOf, Multiples, Of, RowStep};
 use std::alloc::Global;
 use teco_linear::{Form, LinearFault, Scale, Term};
 
@@ -121,11 +121,26 @@ fn sum(
     case: &Case,
     step: &RowStep,
     constant: i64,
+    parts: Multiples,
+    alloc: Global,
+) -> Result<Form, RowFault>
+    ensures { IfOk result (λ form. (n : ℕ) (v : Valuation)
+        → value form n v ≡ total (read_by case.now step.now n v) constant parts) }
+{
+    let (first, second, third, fourth) = parts;
+    added(case, step, constant, &[first, second, third, fourth], alloc)
+}
+
+// The form of a constant and the multiples in a list.
+fn added(
+    case: &Case,
+    step: &RowStep,
+    constant: i64,
     parts: &[MultipleOf],
     alloc: Global,
 ) -> Result<Form, RowFault>
     ensures { IfOk result (λ form. (n : ℕ) (v : Valuation)
-        → value form n v ≡ total (read_by case.now step.now n v) constant parts.now) }
+        → value form n v ≡ constant +ℤ sum_of (read_by case.now step.now n v) parts.now) }
 {
     let mut sum = Form::constant(i128::from(constant), alloc)?;
     for (times, of) in parts {
@@ -254,7 +269,7 @@ fn follow(
 {
     match clause {
         Clause::Sets(mark, constant, parts) => {
-            let form = sum(case, step, *constant, parts, alloc)?;
+            let form = sum(case, step, *constant, *parts, alloc)?;
             let place = step.here.measure(*mark).place();
             put(&mut draft.forms, place, Some(form))?;
         }
@@ -263,7 +278,7 @@ fn follow(
             put(&mut draft.forms, place, None)?;
         }
         Clause::Wants(constant, parts) => {
-            let form = sum(case, step, *constant, parts, alloc)?;
+            let form = sum(case, step, *constant, *parts, alloc)?;
             draft.constraints.push(form)?;
         }
     }

@@ -86,8 +86,9 @@ fn unknowns(row: &[Clause]) -> u32 {
     let mut count = 0;
     for clause in row {
         if let Clause::Sets(_, _, parts) | Clause::Wants(_, parts) = clause {
-            for (_, of) in parts {
-                if let Of::Unknown(index) = *of {
+            let (first, second, third, fourth) = *parts;
+            for (_, of) in [first, second, third, fourth] {
+                if let Of::Unknown(index) = of {
                     count = index.saturating_add(1).max(count);
                 }
             }

@@ -32,28 +32,28 @@ pub const FIRST: Mark = Mark::Here(Family::First);
 
 pub const VALUE: Mark = Mark::Here(Family::Value);
 
-pub const STEP: Clause = Clause::Sets(STEPS, 1, [(1, Of::Was(STEPS)), NO, NO, NO]);
+pub const STEP: Clause = Clause::Sets(STEPS, 1, ((1, Of::Was(STEPS)), NO, NO, NO));
 
 // A number is given.
 const GIVES: [Clause; 2] = [
     STEP,
-    Clause::Sets(VALUE, 0, [(1, Of::Given(0)), NO, NO, NO]),
+    Clause::Sets(VALUE, 0, ((1, Of::Given(0)), NO, NO, NO)),
 ];
 
 // A number of 32 bits is given that is not known.
 const WRAPS: [Clause; 4] = [
     STEP,
-    Clause::Sets(VALUE, 0, [(1, Of::Unknown(0)), NO, NO, NO]),
-    Clause::Wants(1 << 31, [(1, Of::Unknown(0)), NO, NO, NO]),
-    Clause::Wants((1 << 31) - 1, [(-1, Of::Unknown(0)), NO, NO, NO]),
+    Clause::Sets(VALUE, 0, ((1, Of::Unknown(0)), NO, NO, NO)),
+    Clause::Wants(1 << 31, ((1, Of::Unknown(0)), NO, NO, NO)),
+    Clause::Wants((1 << 31) - 1, ((-1, Of::Unknown(0)), NO, NO, NO)),
 ];
 
 // A number is given that has no bits but those of one that is known.
 const MASKS: [Clause; 4] = [
     STEP,
-    Clause::Sets(VALUE, 0, [(1, Of::Unknown(0)), NO, NO, NO]),
-    Clause::Wants(0, [(1, Of::Unknown(0)), NO, NO, NO]),
-    Clause::Wants(0, [(1, Of::Given(0)), (-1, Of::Unknown(0)), NO, NO]),
+    Clause::Sets(VALUE, 0, ((1, Of::Unknown(0)), NO, NO, NO)),
+    Clause::Wants(0, ((1, Of::Unknown(0)), NO, NO, NO)),
+    Clause::Wants(0, ((1, Of::Given(0)), (-1, Of::Unknown(0)), NO, NO)),
 ];
 
 // The places at hand where an element is about the innermost level.
@@ -315,11 +315,11 @@ fn divided_from_zero(
 {
     let clauses = [
         STEP,
-        Clause::Sets(VALUE, 0, [(1, Of::Unknown(0)), NO, NO, NO]),
-        Clause::Wants(0, [(1, Of::Given(0)), NO, NO, NO]),
-        Clause::Wants(0, [(1, Of::Unknown(0)), NO, NO, NO]),
-        Clause::Wants(0, [(1, Of::Given(0)), (-by, Of::Unknown(0)), NO, NO]),
-        Clause::Wants(by - 1, [(-1, Of::Given(0)), (by, Of::Unknown(0)), NO, NO]),
+        Clause::Sets(VALUE, 0, ((1, Of::Unknown(0)), NO, NO, NO)),
+        Clause::Wants(0, ((1, Of::Given(0)), NO, NO, NO)),
+        Clause::Wants(0, ((1, Of::Unknown(0)), NO, NO, NO)),
+        Clause::Wants(0, ((1, Of::Given(0)), (-by, Of::Unknown(0)), NO, NO)),
+        Clause::Wants(by - 1, ((-1, Of::Given(0)), (by, Of::Unknown(0)), NO, NO)),
     ];
     let step = RowStep {
         clauses: &clauses,
@@ -343,11 +343,11 @@ fn divided_below_zero(
 {
     let clauses = [
         STEP,
-        Clause::Sets(VALUE, 0, [(1, Of::Unknown(0)), NO, NO, NO]),
-        Clause::Wants(-1, [(-1, Of::Given(0)), NO, NO, NO]),
-        Clause::Wants(0, [(-1, Of::Unknown(0)), NO, NO, NO]),
-        Clause::Wants(0, [(-1, Of::Given(0)), (by, Of::Unknown(0)), NO, NO]),
-        Clause::Wants(by - 1, [(1, Of::Given(0)), (-by, Of::Unknown(0)), NO, NO]),
+        Clause::Sets(VALUE, 0, ((1, Of::Unknown(0)), NO, NO, NO)),
+        Clause::Wants(-1, ((-1, Of::Given(0)), NO, NO, NO)),
+        Clause::Wants(0, ((-1, Of::Unknown(0)), NO, NO, NO)),
+        Clause::Wants(0, ((-1, Of::Given(0)), (by, Of::Unknown(0)), NO, NO)),
+        Clause::Wants(by - 1, ((1, Of::Given(0)), (-by, Of::Unknown(0)), NO, NO)),
     ];
     let step = RowStep {
         clauses: &clauses,

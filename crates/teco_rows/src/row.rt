@@ -29,15 +29,19 @@ pub enum Of {
 /// A multiple.
 pub type MultipleOf = (i64, Of);
 
+/// The multiples of a clause, of which those by 0 stand for none. They are no array, since a constant that
+/// holds arrays within enums is built anew where it is borrowed.
+pub type Multiples = (MultipleOf, MultipleOf, MultipleOf, MultipleOf);
+
 /// What a row says, by a constant and multiples that are added to it.
 #[derive(Clone, Copy)]
 pub enum Clause {
     /// The measure becomes the sum.
-    Sets(Mark, i64, [MultipleOf; 4]),
+    Sets(Mark, i64, Multiples),
     /// The measure is no longer there.
     Drops(Mark),
     /// The sum is at least 0.
-    Wants(i64, [MultipleOf; 4]),
+    Wants(i64, Multiples),
 }
 
 /// Which register, iteration, pushed pair and level an element is about.

@@ -40,11 +40,11 @@ const PAGES: Of = Of::Unknown(3);
 
 const STEPS: Mark = Mark::One(Single::Steps);
 
-const LATER: Clause = Clause::Sets(STEPS, 0, [(1, Of::Was(STEPS)), (1, PAGES), NO, NO]);
+const LATER: Clause = Clause::Sets(STEPS, 0, ((1, Of::Was(STEPS)), (1, PAGES), NO, NO));
 
-const AT_START: Clause = Clause::Sets(POINTER, 0, [NO, NO, NO, NO]);
+const AT_START: Clause = Clause::Sets(POINTER, 0, (NO, NO, NO, NO));
 
-const STARTS: Clause = Clause::Sets(LINE_START, 0, [NO, NO, NO, NO]);
+const STARTS: Clause = Clause::Sets(LINE_START, 0, (NO, NO, NO, NO));
 
 // What a search over pages begins with: the parts that it looks for, its conditions, and the cases
 // where a later page is in the place of the buffer and where none is left.
@@ -72,32 +72,32 @@ const LATER_PAGE: [Clause; 15] = [
     LATER,
     AT_START,
     STARTS,
-    Clause::Sets(SIZE, 0, [(1, PAGE), NO, NO, NO]),
-    Clause::Sets(HELD, 0, [(1, PAGE), (1, REST), NO, NO]),
-    Clause::Sets(LINE_END, 0, [(1, END), NO, NO, NO]),
-    Clause::Wants(-1, [(1, PAGES), NO, NO, NO]),
+    Clause::Sets(SIZE, 0, ((1, PAGE), NO, NO, NO)),
+    Clause::Sets(HELD, 0, ((1, PAGE), (1, REST), NO, NO)),
+    Clause::Sets(LINE_END, 0, ((1, END), NO, NO, NO)),
+    Clause::Wants(-1, ((1, PAGES), NO, NO, NO)),
     Clause::Wants(
         0,
-        [
+        (
             (1, Of::Was(HELD)),
             (-1, Of::Was(SIZE)),
             (-1, REST),
             (-1, PAGES),
-        ],
+        ),
     ),
     Clause::Wants(
         0,
-        [
+        (
             (1, Of::Was(HELD)),
             (-1, Of::Was(SIZE)),
             (-1, PAGE),
             (-1, REST),
-        ],
+        ),
     ),
-    Clause::Wants(0, [(1, PAGE), NO, NO, NO]),
-    Clause::Wants(0, [(1, REST), NO, NO, NO]),
-    Clause::Wants(0, [(1, END), NO, NO, NO]),
-    Clause::Wants(0, [(1, PAGE), (-1, END), NO, NO]),
+    Clause::Wants(0, ((1, PAGE), NO, NO, NO)),
+    Clause::Wants(0, ((1, REST), NO, NO, NO)),
+    Clause::Wants(0, ((1, END), NO, NO, NO)),
+    Clause::Wants(0, ((1, PAGE), (-1, END), NO, NO)),
 ];
 
 // None is left, and the buffer is empty.
@@ -107,13 +107,13 @@ const THROUGH: [Clause; 10] = [
     LATER,
     AT_START,
     STARTS,
-    Clause::Sets(SIZE, 0, [NO, NO, NO, NO]),
-    Clause::Sets(HELD, 0, [NO, NO, NO, NO]),
-    Clause::Sets(LINE_END, 0, [NO, NO, NO, NO]),
-    Clause::Wants(0, [(1, PAGES), NO, NO, NO]),
+    Clause::Sets(SIZE, 0, (NO, NO, NO, NO)),
+    Clause::Sets(HELD, 0, (NO, NO, NO, NO)),
+    Clause::Sets(LINE_END, 0, (NO, NO, NO, NO)),
+    Clause::Wants(0, ((1, PAGES), NO, NO, NO)),
     Clause::Wants(
         0,
-        [(1, Of::Was(HELD)), (-1, Of::Was(SIZE)), (-1, PAGES), NO],
+        ((1, Of::Was(HELD)), (-1, Of::Was(SIZE)), (-1, PAGES), NO),
     ),
 ];
 

@@ -35,45 +35,45 @@ const REST: Of = Of::Unknown(1);
 
 const END: Of = Of::Unknown(2);
 
-const AT_START: Clause = Clause::Sets(POINTER, 0, [NO, NO, NO, NO]);
+const AT_START: Clause = Clause::Sets(POINTER, 0, (NO, NO, NO, NO));
 
-const STARTS: Clause = Clause::Sets(LINE_START, 0, [NO, NO, NO, NO]);
+const STARTS: Clause = Clause::Sets(LINE_START, 0, (NO, NO, NO, NO));
 
 // Something is unread; of that, with or without a form feed behind it, a page and a rest.
-const UNREAD: Clause = Clause::Wants(-1, [(1, Of::Was(HELD)), (-1, Of::Was(SIZE)), NO, NO]);
+const UNREAD: Clause = Clause::Wants(-1, ((1, Of::Was(HELD)), (-1, Of::Was(SIZE)), NO, NO));
 
-const PAGE_THERE: Clause = Clause::Wants(0, [(1, PAGE), NO, NO, NO]);
+const PAGE_THERE: Clause = Clause::Wants(0, ((1, PAGE), NO, NO, NO));
 
-const REST_THERE: Clause = Clause::Wants(0, [(1, REST), NO, NO, NO]);
+const REST_THERE: Clause = Clause::Wants(0, ((1, REST), NO, NO, NO));
 
 const REST_LESS: Clause = Clause::Wants(
     -1,
-    [(1, Of::Was(HELD)), (-1, Of::Was(SIZE)), (-1, REST), NO],
+    ((1, Of::Was(HELD)), (-1, Of::Was(SIZE)), (-1, REST), NO),
 );
 
 const WITHIN: Clause = Clause::Wants(
     0,
-    [
+    (
         (1, Of::Was(HELD)),
         (-1, Of::Was(SIZE)),
         (-1, PAGE),
         (-1, REST),
-    ],
+    ),
 );
 
 const BUT_ONE: Clause = Clause::Wants(
     1,
-    [
+    (
         (-1, Of::Was(HELD)),
         (1, Of::Was(SIZE)),
         (1, PAGE),
         (1, REST),
-    ],
+    ),
 );
 
-const ALL_READ: Clause = Clause::Wants(0, [(1, Of::Was(SIZE)), (-1, Of::Was(HELD)), NO, NO]);
+const ALL_READ: Clause = Clause::Wants(0, ((1, Of::Was(SIZE)), (-1, Of::Was(HELD)), NO, NO));
 
-const ENDS: Clause = Clause::Sets(LINE_END, 0, [(1, END), NO, NO, NO]);
+const ENDS: Clause = Clause::Sets(LINE_END, 0, ((1, END), NO, NO, NO));
 
 // Nothing is unread, and the buffer is empty then.
 const EMPTIED: [Clause; 8] = [
@@ -81,9 +81,9 @@ const EMPTIED: [Clause; 8] = [
     ANY_BEFORE,
     AT_START,
     STARTS,
-    Clause::Sets(SIZE, 0, [NO, NO, NO, NO]),
-    Clause::Sets(HELD, 0, [NO, NO, NO, NO]),
-    Clause::Sets(LINE_END, 0, [NO, NO, NO, NO]),
+    Clause::Sets(SIZE, 0, (NO, NO, NO, NO)),
+    Clause::Sets(HELD, 0, (NO, NO, NO, NO)),
+    Clause::Sets(LINE_END, 0, (NO, NO, NO, NO)),
     ALL_READ,
 ];
 
@@ -93,8 +93,8 @@ const TURNED: [Clause; 15] = [
     ANY_BEFORE,
     AT_START,
     STARTS,
-    Clause::Sets(SIZE, 0, [(1, PAGE), NO, NO, NO]),
-    Clause::Sets(HELD, 0, [(1, PAGE), (1, REST), NO, NO]),
+    Clause::Sets(SIZE, 0, ((1, PAGE), NO, NO, NO)),
+    Clause::Sets(HELD, 0, ((1, PAGE), (1, REST), NO, NO)),
     ENDS,
     UNREAD,
     PAGE_THERE,
@@ -102,15 +102,15 @@ const TURNED: [Clause; 15] = [
     REST_LESS,
     WITHIN,
     BUT_ONE,
-    Clause::Wants(0, [(1, END), NO, NO, NO]),
-    Clause::Wants(0, [(1, PAGE), (-1, END), NO, NO]),
+    Clause::Wants(0, ((1, END), NO, NO, NO)),
+    Clause::Wants(0, ((1, PAGE), (-1, END), NO, NO)),
 ];
 
 // A page is behind the buffer, and the line of the pointer may go on in it.
 const APPENDED: [Clause; 12] = [
     ANY_HERE,
-    Clause::Sets(SIZE, 0, [(1, Of::Was(SIZE)), (1, PAGE), NO, NO]),
-    Clause::Sets(HELD, 0, [(1, Of::Was(SIZE)), (1, PAGE), (1, REST), NO]),
+    Clause::Sets(SIZE, 0, ((1, Of::Was(SIZE)), (1, PAGE), NO, NO)),
+    Clause::Sets(HELD, 0, ((1, Of::Was(SIZE)), (1, PAGE), (1, REST), NO)),
     ENDS,
     UNREAD,
     PAGE_THERE,
@@ -118,8 +118,8 @@ const APPENDED: [Clause; 12] = [
     REST_LESS,
     WITHIN,
     BUT_ONE,
-    Clause::Wants(0, [(1, END), (-1, Of::Was(LINE_END)), NO, NO]),
-    Clause::Wants(0, [(1, Of::Was(SIZE)), (1, PAGE), (-1, END), NO]),
+    Clause::Wants(0, ((1, END), (-1, Of::Was(LINE_END)), NO, NO)),
+    Clause::Wants(0, ((1, Of::Was(SIZE)), (1, PAGE), (-1, END), NO)),
 ];
 
 const STAYS: [Clause; 1] = [ALL_READ];

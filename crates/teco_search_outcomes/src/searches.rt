@@ -104,105 +104,105 @@ const TYPED: Mark = Mark::One(Single::Typed);
 
 // The match is in the buffer and has a character, and its last line goes on behind it.
 const LIES: [Clause; 6] = [
-    Clause::Wants(-1, [(1, PLACE), (-1, START), NO, NO]),
-    Clause::Wants(0, [(1, PLACE), (-1, START), (-1, LEAST), NO]),
-    Clause::Wants(0, [(1, END), (-1, PLACE), NO, NO]),
-    Clause::Wants(0, [(1, Of::Was(SIZE)), (-1, END), NO, NO]),
-    Clause::Wants(0, [(1, START), NO, NO, NO]),
-    Clause::Wants(0, [(1, BEGIN), NO, NO, NO]),
+    Clause::Wants(-1, ((1, PLACE), (-1, START), NO, NO)),
+    Clause::Wants(0, ((1, PLACE), (-1, START), (-1, LEAST), NO)),
+    Clause::Wants(0, ((1, END), (-1, PLACE), NO, NO)),
+    Clause::Wants(0, ((1, Of::Was(SIZE)), (-1, END), NO, NO)),
+    Clause::Wants(0, ((1, START), NO, NO, NO)),
+    Clause::Wants(0, ((1, BEGIN), NO, NO, NO)),
 ];
 
 // The pointer is behind it.
 const FOUND: [Clause; 7] = [
     ANY_HERE,
     ANY_BEFORE,
-    Clause::Sets(POINTER, 0, [(1, PLACE), NO, NO, NO]),
-    Clause::Sets(LINE_END, 0, [(1, END), NO, NO, NO]),
-    Clause::Sets(LINE_START, 0, [(1, BEGIN), NO, NO, NO]),
-    Clause::Sets(LAST, 0, [(1, PLACE), (-1, START), NO, NO]),
-    Clause::Wants(0, [(1, PLACE), (-1, BEGIN), NO, NO]),
+    Clause::Sets(POINTER, 0, ((1, PLACE), NO, NO, NO)),
+    Clause::Sets(LINE_END, 0, ((1, END), NO, NO, NO)),
+    Clause::Sets(LINE_START, 0, ((1, BEGIN), NO, NO, NO)),
+    Clause::Sets(LAST, 0, ((1, PLACE), (-1, START), NO, NO)),
+    Clause::Wants(0, ((1, PLACE), (-1, BEGIN), NO, NO)),
 ];
 
 // Another text is in its stead, and the pointer behind that.
 const REPLACED: [Clause; 9] = [
     ANY_HERE,
     ANY_BEFORE,
-    Clause::Sets(POINTER, 0, [(1, START), (1, LONG), NO, NO]),
+    Clause::Sets(POINTER, 0, ((1, START), (1, LONG), NO, NO)),
     Clause::Sets(
         SIZE,
         0,
-        [(1, Of::Was(SIZE)), (-1, PLACE), (1, START), (1, LONG)],
+        ((1, Of::Was(SIZE)), (-1, PLACE), (1, START), (1, LONG)),
     ),
     Clause::Sets(
         HELD,
         0,
-        [(1, Of::Was(HELD)), (-1, PLACE), (1, START), (1, LONG)],
+        ((1, Of::Was(HELD)), (-1, PLACE), (1, START), (1, LONG)),
     ),
-    Clause::Sets(LINE_END, 0, [(1, END), (-1, PLACE), (1, START), (1, LONG)]),
-    Clause::Sets(LINE_START, 0, [(1, BEGIN), NO, NO, NO]),
-    Clause::Sets(LAST, 0, [(1, LONG), NO, NO, NO]),
-    Clause::Wants(0, [(1, START), (1, LONG), (-1, BEGIN), NO]),
+    Clause::Sets(LINE_END, 0, ((1, END), (-1, PLACE), (1, START), (1, LONG))),
+    Clause::Sets(LINE_START, 0, ((1, BEGIN), NO, NO, NO)),
+    Clause::Sets(LAST, 0, ((1, LONG), NO, NO, NO)),
+    Clause::Wants(0, ((1, START), (1, LONG), (-1, BEGIN), NO)),
 ];
 
 // Where nothing is found the pointer goes to the start of the buffer.
 const STARTED: [Clause; 7] = [
     ANY_HERE,
     ANY_BEFORE,
-    Clause::Sets(POINTER, 0, [NO, NO, NO, NO]),
-    Clause::Sets(LINE_START, 0, [NO, NO, NO, NO]),
-    Clause::Sets(LINE_END, 0, [(1, START), NO, NO, NO]),
-    Clause::Wants(0, [(1, START), NO, NO, NO]),
-    Clause::Wants(0, [(1, Of::Was(SIZE)), (-1, START), NO, NO]),
+    Clause::Sets(POINTER, 0, (NO, NO, NO, NO)),
+    Clause::Sets(LINE_START, 0, (NO, NO, NO, NO)),
+    Clause::Sets(LINE_END, 0, ((1, START), NO, NO, NO)),
+    Clause::Wants(0, ((1, START), NO, NO, NO)),
+    Clause::Wants(0, ((1, Of::Was(SIZE)), (-1, START), NO, NO)),
 ];
 
 // The match ends with a character whose code is from one to another, or which is just one.
 const ENDS_IN: [Clause; 2] = [
-    Clause::Wants(0, [(1, THERE), (-1, Of::Given(1)), NO, NO]),
-    Clause::Wants(0, [(-1, THERE), (1, Of::Given(2)), NO, NO]),
+    Clause::Wants(0, ((1, THERE), (-1, Of::Given(1)), NO, NO)),
+    Clause::Wants(0, ((-1, THERE), (1, Of::Given(2)), NO, NO)),
 ];
 
-const ENDS_WITH: [Clause; 1] = [Clause::Sets(CODE_BEFORE, 0, [(1, Of::Given(1)), NO, NO, NO])];
+const ENDS_WITH: [Clause; 1] = [Clause::Sets(CODE_BEFORE, 0, ((1, Of::Given(1)), NO, NO, NO))];
 
 // The match begins behind the pointer: another character is there than it begins with.
-const LATER: [Clause; 1] = [Clause::Wants(-1, [(1, START), (-1, Of::Was(POINTER)), NO, NO])];
+const LATER: [Clause; 1] = [Clause::Wants(-1, ((1, START), (-1, Of::Was(POINTER)), NO, NO))];
 
 /// What is answered where it is found.
-pub const YES: [Clause; 1] = [Clause::Sets(VALUE, -1, [NO, NO, NO, NO])];
+pub const YES: [Clause; 1] = [Clause::Sets(VALUE, -1, (NO, NO, NO, NO))];
 
 // The message of a failed search is typed: %SRH and a line end.
-const WARNS: [Clause; 1] = [Clause::Sets(TYPED, 6, [(1, Of::Was(TYPED)), NO, NO, NO])];
+const WARNS: [Clause; 1] = [Clause::Sets(TYPED, 6, ((1, Of::Was(TYPED)), NO, NO, NO))];
 
 // What is answered where nothing is.
-const MISS: [Clause; 1] = [Clause::Sets(VALUE, 0, [NO, NO, NO, NO])];
+const MISS: [Clause; 1] = [Clause::Sets(VALUE, 0, (NO, NO, NO, NO))];
 
 // From the pointer on the lines only go on.
 const AHEAD: [Clause; 3] = [
-    Clause::Wants(0, [(1, START), (-1, Of::Was(POINTER)), NO, NO]),
-    Clause::Wants(0, [(1, END), (-1, Of::Was(LINE_END)), NO, NO]),
-    Clause::Wants(0, [(1, BEGIN), (-1, Of::Was(LINE_START)), NO, NO]),
+    Clause::Wants(0, ((1, START), (-1, Of::Was(POINTER)), NO, NO)),
+    Clause::Wants(0, ((1, END), (-1, Of::Was(LINE_END)), NO, NO)),
+    Clause::Wants(0, ((1, BEGIN), (-1, Of::Was(LINE_START)), NO, NO)),
 ];
 
 const HERE: [Clause; 4] = [
-    Clause::Wants(0, [(1, START), (-1, Of::Was(POINTER)), NO, NO]),
-    Clause::Wants(0, [(1, END), (-1, Of::Was(LINE_END)), NO, NO]),
-    Clause::Wants(0, [(1, BEGIN), (-1, Of::Was(LINE_START)), NO, NO]),
-    Clause::Wants(0, [(-1, START), (1, Of::Was(POINTER)), NO, NO]),
+    Clause::Wants(0, ((1, START), (-1, Of::Was(POINTER)), NO, NO)),
+    Clause::Wants(0, ((1, END), (-1, Of::Was(LINE_END)), NO, NO)),
+    Clause::Wants(0, ((1, BEGIN), (-1, Of::Was(LINE_START)), NO, NO)),
+    Clause::Wants(0, ((-1, START), (1, Of::Was(POINTER)), NO, NO)),
 ];
 
-const BACK: [Clause; 1] = [Clause::Wants(-1, [(-1, START), (1, Of::Was(POINTER)), NO, NO])];
+const BACK: [Clause; 1] = [Clause::Wants(-1, ((-1, START), (1, Of::Was(POINTER)), NO, NO))];
 
 // The match is no longer than its parts say.
-const EXACT: [Clause; 1] = [Clause::Wants(0, [(-1, PLACE), (1, START), (1, LEAST), NO])];
+const EXACT: [Clause; 1] = [Clause::Wants(0, ((-1, PLACE), (1, START), (1, LEAST), NO))];
 
 // A line starts behind it, or the line goes on in which it starts.
-const NEW_LINE: [Clause; 1] = [Clause::Wants(0, [(1, BEGIN), (-1, PLACE), NO, NO])];
+const NEW_LINE: [Clause; 1] = [Clause::Wants(0, ((1, BEGIN), (-1, PLACE), NO, NO))];
 
-const SAME_LINE: [Clause; 1] = [Clause::Wants(0, [(1, START), (-1, BEGIN), NO, NO])];
+const SAME_LINE: [Clause; 1] = [Clause::Wants(0, ((1, START), (-1, BEGIN), NO, NO))];
 
 // The last line of the other text starts in it, where it ends a line.
 const OTHER_LINE: [Clause; 2] = [
-    Clause::Wants(0, [(1, BEGIN), (-1, START), (-1, LAST_START), NO]),
-    Clause::Wants(0, [(-1, BEGIN), (1, START), (1, LAST_START), NO]),
+    Clause::Wants(0, ((1, BEGIN), (-1, START), (-1, LAST_START), NO)),
+    Clause::Wants(0, ((-1, BEGIN), (1, START), (1, LAST_START), NO)),
 ];
 
 // A constraint of a number alone has no more terms than this: it and a constant.

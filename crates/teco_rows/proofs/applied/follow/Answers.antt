@@ -1,6 +1,6 @@
 use Rattle.teco_rows.proofs.Prelude.{◌≡◌, refl, sym, ap, ◌∙◌, arith, to_z, of_z, common_steps, to_z-of_z, place}
 use Rattle.std.proofs.Common.{w64}
-use Rattle.teco_rows.proofs.Following.{adds_set, adds_drop}
+use Rattle.teco_rows.proofs.Following.{adds_set, adds_drop, adds_want}
 use Rattle.teco_rows.proofs.applied.follow.Goals as goal
 
 pub returns-in_ok-put-in-Sets : goal.returns-in_ok-put-in-Sets
@@ -16,3 +16,10 @@ returns-in_ok-put-in-Drops c =
     c.place-place-in-Drops.result (sym c.in-Drops.is) (c.place-place-in-Drops.ensures
     ∙ ap place c.measure-in-Drops.ensures)
     c.in_ok-put-in-Drops.ensures refl
+
+pub returns-in_ok-push-in-Wants : goal.returns-in_ok-push-in-Wants
+returns-in_ok-push-in-Wants c =
+    let same : to_z w64 (of_z w64 c.in-Wants.constant) ≡ c.in-Wants.constant = grind (arith, common_steps, to_z-of_z) in
+    adds_want c.args.case.now c.args.step.now c.args.clause.now c.args.draft.now _ c.in-Wants.constant c.in-Wants.parts
+    c.in_ok-form-in-Wants.form _ (sym c.in-Wants.is) same c.in_ok-form-in-Wants.ensures refl
+    c.in_ok-push-in-Wants.ensures.items

@@ -5,7 +5,7 @@ use Rattle.teco_rows.proofs.Prelude.{read_by}
 use Rattle.std.proofs.Math.IntN.{zero-*ℤ}
 use mir.Syntax.{w128}
 use Rattle.teco_rows.proofs.Sums.{no_part, sum_of-drop, product_is}
-use Rattle.teco_rows.proofs.applied.sum.Goals as goal
+use Rattle.teco_rows.proofs.applied.added.Goals as goal
 
 pub loop-times-preserved : goal.loop-times-preserved
 loop-times-preserved c = λ n v.
