@@ -1,8 +1,6 @@
-//! Tests of the verifier's crates, of what is printed of verdicts, and of edits by verified macros.
+//! Tests of the verifier's crates, and of edits by verified macros.
 #![tactic(auto)]
 
-#[cfg(test)]
-mod accounts;
 #[cfg(test)]
 mod certificates;
 #[cfg(test)]
@@ -10,11 +8,7 @@ mod edits;
 #[cfg(test)]
 mod expansions;
 #[cfg(test)]
-mod explanations;
-#[cfg(test)]
 mod first_steps;
-#[cfg(test)]
-mod printed;
 #[cfg(test)]
 mod subjects;
 #[cfg(test)]

@@ -1,6 +1,5 @@
 //! Tables of cases, and what the tests share of libraries and texts.
 use std::alloc::Global;
-use std::fmt;
 use std::process::Abort;
 use std::test::*;
 use teco_base::LIMIT;
@@ -30,12 +29,6 @@ pub fn expect_all<C: TableRow>(rt: &impl Abort, alloc: Global, rows: &[C]) {
 /// Fails, and says of what, where this is false.
 pub fn expect(rt: &impl Abort, is_so: bool, what: &str) {
     assert!(rt; is_so, "{what}");
-}
-
-/// Is this printed of a value? None where memory was refused.
-pub fn is_text<D: fmt::Display>(alloc: Global, value: &D, wanted: &str) -> Option<bool> {
-    let printed = format!(in alloc; "{value}").ok()?;
-    Some(printed.as_str() == wanted)
 }
 
 /// The library of a file, if it is one.
