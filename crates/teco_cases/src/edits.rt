@@ -6,6 +6,7 @@ use crate::findings::Findings;
 use crate::subject::{MacroSubject, library_of};
 use std::alloc::Global;
 use teco_apply::PageChoice;
+use teco_promise::Promise;
 use teco_verdicts::{Verdict, verified_by};
 use teco_verify::Refusal;
 
@@ -45,18 +46,14 @@ pub fn refused(alloc: Global, refusal: &Refusal) -> Result<Findings, CaseFault> 
     Ok(findings)
 }
 
-/// Edits the file of a case.
-pub fn run_edit(rt: &HostRuntime, case: &NamedCase<'_>) -> Result<Findings, CaseFault> {
-    let alloc = rt.alloc();
-    case.check(CaseKeys::of_texts(KEYS))?;
-    let MacroSubject { entry, method } = MacroSubject::of(case)?;
-    let library = library_of(alloc, case)?;
-    let accepted = match verified_by(alloc, &library, entry, method) {
-        Ok(accepted) => accepted,
-        Err(refusal) => return refused(alloc, &refusal),
-    };
+// Edits the file of a case by its macro, which makes this promise.
+fn edit_promised(
+    rt: &HostRuntime,
+    case: &NamedCase<'_>,
+    promise: &Promise<'_>,
+) -> Result<Findings, CaseFault> {
     let task = EditTask {
-        promise: &accepted.promise(),
+        promise,
         argument: argument_of(case)?,
         pages: pages_of(case)?,
         input: case.text("in")?,
@@ -68,4 +65,15 @@ pub fn run_edit(rt: &HostRuntime, case: &NamedCase<'_>) -> Result<Findings, Case
         steps: None,
     };
     try_edit(rt, task, wanted)
+}
+
+/// Edits the file of a case.
+pub fn run_edit(rt: &HostRuntime, case: &NamedCase<'_>) -> Result<Findings, CaseFault> {
+    case.check(CaseKeys::of_texts(KEYS))?;
+    let MacroSubject { entry, method } = MacroSubject::of(case)?;
+    let library = library_of(rt.alloc(), case)?;
+    match verified_by(rt.alloc(), &library, entry, method) {
+        Ok(accepted) => edit_promised(rt, case, &accepted.promise()),
+        Err(refusal) => refused(rt.alloc(), &refusal),
+    }
 }

@@ -118,13 +118,23 @@ fn word_of(is_so: bool) -> &'static str {
     if is_so { "yes" } else { "no" }
 }
 
+// Whether multipliers show that constraints imply the target of a case.
+fn is_target_implied(
+    alloc: Global,
+    case: &NamedCase<'_>,
+    constraints: &[Form],
+    multipliers: &[Multiplier],
+) -> Result<bool, CaseFault> {
+    let target = form_of(alloc, case.phrase("target")?)?;
+    let divisor = case.number_if_any("divisor")?.unwrap_or(1);
+    Ok(is_implied(constraints, multipliers, divisor, &target, alloc)?)
+}
+
 // Whether multipliers show that the constraints of a case imply its target.
 fn judged(alloc: Global, case: &NamedCase<'_>, text: Phrase<'_>) -> Result<bool, CaseFault> {
     let multipliers = multipliers_of(alloc, text)?;
     let constraints = forms_of(alloc, case.phrase("constraints")?)?;
-    let target = form_of(alloc, case.phrase("target")?)?;
-    let divisor = case.number_if_any("divisor")?.unwrap_or(1);
-    Ok(is_implied(&constraints, &multipliers, divisor, &target, alloc)?)
+    is_target_implied(alloc, case, &constraints, &multipliers)
 }
 
 // The symbol that a term of a difference has, with a minus or without.
@@ -163,15 +173,24 @@ fn bounds_text(
     Ok(text)
 }
 
+// What bounds on differences say of what a case asks for.
+fn said_of_bounds(
+    alloc: Global,
+    case: &NamedCase<'_>,
+    bounds: &DifferenceBounds,
+) -> Result<String, CaseFault> {
+    if let Some(wanted) = case.phrase_if_any("bounds")? {
+        return bounds_text(alloc, bounds, wanted);
+    }
+    let target = form_of(alloc, case.phrase("target")?)?;
+    Ok(String::from_str(alloc, word_of(bounds.implies(&target)))?)
+}
+
 // What the bounds on differences of so many symbols say.
 fn bounded(alloc: Global, case: &NamedCase<'_>, symbols: usize) -> Result<String, CaseFault> {
     let constraints = forms_of(alloc, case.phrase("constraints")?)?;
     let bounds = DifferenceBounds::of(symbols, &constraints, alloc)?;
-    if let Some(wanted) = case.phrase_if_any("bounds")? {
-        return bounds_text(alloc, &bounds, wanted);
-    }
-    let target = form_of(alloc, case.phrase("target")?)?;
-    Ok(String::from_str(alloc, word_of(bounds.implies(&target)))?)
+    said_of_bounds(alloc, case, &bounds)
 }
 
 // What is said of a case.

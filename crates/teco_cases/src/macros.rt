@@ -191,6 +191,36 @@ fn run_task(
     try_edit(rt, task, wanted)
 }
 
+// What is found of the certificate of an accepted macro.
+fn certificate_findings(
+    rt: &HostRuntime,
+    case: &NamedCase<'_>,
+    library: &Library,
+    subject: MacroSubject,
+    accepted: &Accepted<'_>,
+) -> Result<Findings, CaseFault> {
+    let certificate = accepted.certificate(rt.alloc())?;
+    let mut findings = Findings::new(rt.alloc());
+    compare_promise(&mut findings, case, &certificate)?;
+    compare_checked(rt, &mut findings, library, subject, &certificate)?;
+    Ok(findings)
+}
+
+// Runs a case whose macro is accepted.
+fn run_accepted(
+    rt: &HostRuntime,
+    case: &NamedCase<'_>,
+    library: &Library,
+    subject: MacroSubject,
+    accepted: &Accepted<'_>,
+) -> Result<Findings, CaseFault> {
+    let findings = certificate_findings(rt, case, library, subject, accepted)?;
+    if !findings.is_empty() || !case.has_any(RUN_KEYS) {
+        return Ok(findings);
+    }
+    run_task(rt, case, &accepted.promise())
+}
+
 // Runs a case whose macro makes a promise.
 fn run_promise(
     rt: &HostRuntime,
@@ -198,19 +228,10 @@ fn run_promise(
     library: &Library,
     subject: MacroSubject,
 ) -> Result<Findings, CaseFault> {
-    let alloc = rt.alloc();
-    let accepted = match verified_by(alloc, library, subject.entry, subject.method) {
-        Ok(accepted) => accepted,
-        Err(refusal) => return refused(alloc, &refusal),
-    };
-    let certificate = accepted.certificate(alloc)?;
-    let mut findings = Findings::new(alloc);
-    compare_promise(&mut findings, case, &certificate)?;
-    compare_checked(rt, &mut findings, library, subject, &certificate)?;
-    if !findings.is_empty() || !case.has_any(RUN_KEYS) {
-        return Ok(findings);
+    match verified_by(rt.alloc(), library, subject.entry, subject.method) {
+        Ok(accepted) => run_accepted(rt, case, library, subject, &accepted),
+        Err(refusal) => refused(rt.alloc(), &refusal),
     }
-    run_task(rt, case, &accepted.promise())
 }
 
 /// Verifies the macro of a case and, where it tells what is promised, runs it on its file.

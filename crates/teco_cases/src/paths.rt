@@ -4,11 +4,13 @@ use crate::fault::CaseFault;
 use crate::findings::Findings;
 use crate::subject::{MacroSubject, library_of};
 use std::alloc::Global;
+use teco_base::Reg;
 use teco_claims::Claims;
 use teco_expansion::expand;
 use teco_library::Library;
 use teco_model::Needs;
 use teco_paths::claimed::{Called, check_claimed};
+use teco_paths::fault::PathFault;
 
 const KEYS: &[&str] = &["library", "entry", "claims", "verdict"];
 
@@ -25,17 +27,26 @@ fn lengths_of(alloc: Global, library: &Library) -> Result<Vec<Option<usize>>, Ca
     Ok(lengths)
 }
 
-// What is said of the claims of a case, where both files are open.
-fn said_of(alloc: Global, case: &NamedCase<'_>) -> Result<String, CaseFault> {
-    let MacroSubject { entry, .. } = MacroSubject::of(case)?;
-    let library = library_of(alloc, case)?;
-    let Ok(claims) = Claims::read(alloc, case.text("claims")?) else {
-        return Err(case.wrong("claims"));
-    };
-    let Ok(nodes) = expand(alloc, &library, entry) else {
+// What is said of claims that hang together, or do not.
+fn verdict_of(alloc: Global, judged: Result<(), PathFault>) -> Result<String, CaseFault> {
+    match judged {
+        Ok(()) => Ok(String::from_str(alloc, "accepted")?),
+        Err(fault) => Ok(format!(in alloc; "{fault}")?),
+    }
+}
+
+// What is said of claims at the macro of a case, where both files are open.
+fn said_of_claims(
+    alloc: Global,
+    case: &NamedCase<'_>,
+    library: &Library,
+    entry: Reg,
+    claims: &Claims,
+) -> Result<String, CaseFault> {
+    let Ok(nodes) = expand(alloc, library, entry) else {
         return Err(case.wrong("library"));
     };
-    let lengths = lengths_of(alloc, &library)?;
+    let lengths = lengths_of(alloc, library)?;
     let called = Called {
         nodes: &nodes,
         lengths: &lengths,
@@ -45,10 +56,17 @@ fn said_of(alloc: Global, case: &NamedCase<'_>) -> Result<String, CaseFault> {
             output: true,
         },
     };
-    match check_claimed(&called, &claims, alloc) {
-        Ok(()) => Ok(String::from_str(alloc, "accepted")?),
-        Err(fault) => Ok(format!(in alloc; "{fault}")?),
-    }
+    verdict_of(alloc, check_claimed(&called, claims, alloc))
+}
+
+// What is said of the claims of a case.
+fn said_of(alloc: Global, case: &NamedCase<'_>) -> Result<String, CaseFault> {
+    let MacroSubject { entry, .. } = MacroSubject::of(case)?;
+    let library = library_of(alloc, case)?;
+    let Ok(claims) = Claims::read(alloc, case.text("claims")?) else {
+        return Err(case.wrong("claims"));
+    };
+    said_of_claims(alloc, case, &library, entry, &claims)
 }
 
 /// Follows all paths of the macro of a case by its claims.

@@ -3,6 +3,7 @@ use crate::case_file::{CaseKeys, NamedCase};
 use crate::fault::CaseFault;
 use crate::findings::Findings;
 use crate::subject::{MacroSubject, library_of};
+use std::alloc::Global;
 use std::fs;
 use teco_console::{AnswerFault, Console, Escape, Method, Origin, Outcome, Request};
 use teco_library::Library;
@@ -110,6 +111,17 @@ pub fn accepted_by<'l>(
     Ok(accepted(rt.alloc(), library, entry, method, claim?.as_ref()))
 }
 
+// Compares a certificate with the one that is printed of an accepted macro.
+fn compare_printed(
+    alloc: Global,
+    findings: &mut Findings,
+    certificate: &[u8],
+    accepted: &Accepted<'_>,
+) -> Result<(), CaseFault> {
+    findings.compare("certificate", certificate, &accepted.certificate(alloc)?)?;
+    Ok(())
+}
+
 // Compares a certificate that is accepted with the one that is printed of its promise.
 fn compare_certificate(
     rt: &HostRuntime,
@@ -120,10 +132,7 @@ fn compare_certificate(
     let alloc = rt.alloc();
     let library = library_of(alloc, case)?;
     match accepted_by(rt, &library, MacroSubject::of(case)?, certificate)? {
-        Ok(accepted) => {
-            findings.compare("certificate", certificate, &accepted.certificate(alloc)?)?;
-            Ok(())
-        }
+        Ok(accepted) => compare_printed(alloc, findings, certificate, &accepted),
         Err(_) => Err(CaseFault::Memory),
     }
 }
