@@ -12,7 +12,7 @@ use teco_applied::{Listing, Names, Task, apply_macro, trace_macro};
 use teco_console::{
     Console, Outcome, Request, Setting, explain, explain_all, method_for, show, show_source,
 };
-use teco_edits::{InPlaceEdits, choose, edit_files};
+use teco_edits::{ChosenFile, InPlaceEdits, choose, edit_files};
 use teco_examples::{Tests, fuzz_macro, test_examples};
 use teco_pages::{Closing, FileHost, Host};
 use teco_tools::{OUTPUT, Prompting, Reporting, Run, Start, Streams, ToolFault, run_scripts};
@@ -273,6 +273,18 @@ fn is_tested<O: Write + Drop, E: Write + Drop>(
     Ok(matches!(outcome, Outcome::Done))
 }
 
+// The files that are edited.
+fn chosen_files<'a, O: Write + Drop, E: Write + Drop>(
+    rt: &HostRuntime,
+    console: &mut Console<O, E>,
+    given: &ArgMatches<'a>,
+    arguments: &'a CommandLine,
+) -> Result<Vec<ChosenFile>, ProgramFault> {
+    let names = teco_words::file_names(rt.alloc(), given, arguments)?;
+    let choice = teco_words::choice(given, &names)?;
+    Ok(choose(rt, &mut console.voice, &choice)?)
+}
+
 // `edit`.
 fn edit<'a, O: Write + Drop, E: Write + Drop>(
     rt: &HostRuntime,
@@ -293,9 +305,7 @@ fn edit<'a, O: Write + Drop, E: Write + Drop>(
         tells_promise: teco_words::has_macro_options(given),
         ..task(given, &settings, true)?
     };
-    let names = teco_words::file_names(rt.alloc(), given, arguments)?;
-    let choice = teco_words::choice(given, &names)?;
-    let files = choose(rt, &mut console.voice, &choice)?;
+    let files = chosen_files(rt, console, given, arguments)?;
     let look = teco_words::look(given, shows_colours(rt))?;
     let edit = InPlaceEdits {
         files: &files,
@@ -382,19 +392,20 @@ fn obey<'a, O: Write + Drop, E: Write + Drop>(
     matches: &ArgMatches<'a>,
     arguments: &'a CommandLine,
 ) -> Result<Outcome, ProgramFault> {
-    if let Some((name, given)) = matches.subcommand() {
-        teco_words::check_texts(rt.alloc(), name, given, arguments)?;
-    }
-    match matches.subcommand() {
-        Some(("run", given)) => run(rt, console, given),
-        Some(("verify", given)) => verify(rt, console, given),
-        Some(("check", given)) => check(rt, console, given),
-        Some(("apply", given)) => apply(rt, console, given, arguments),
-        Some(("edit", given)) => edit(rt, console, given, arguments),
-        Some(("test", given)) => test(rt, console, given),
-        Some(("trace", given)) => trace(rt, console, given, arguments),
-        Some(("show", given)) => show_file(rt, console, given),
-        Some(("explain", given)) => explain_what(rt, console, given),
+    let Some((name, given)) = matches.subcommand() else {
+        return Err(WordsFault::Unknown.into());
+    };
+    teco_words::check_texts(rt.alloc(), name, given, arguments)?;
+    match name {
+        "run" => run(rt, console, given),
+        "verify" => verify(rt, console, given),
+        "check" => check(rt, console, given),
+        "apply" => apply(rt, console, given, arguments),
+        "edit" => edit(rt, console, given, arguments),
+        "test" => test(rt, console, given),
+        "trace" => trace(rt, console, given, arguments),
+        "show" => show_file(rt, console, given),
+        "explain" => explain_what(rt, console, given),
         _ => Err(WordsFault::Unknown.into()),
     }
 }
