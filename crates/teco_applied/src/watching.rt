@@ -17,7 +17,7 @@ use teco_text::TextStore;
 use teco_tools::{Reporting, code_of, tell_macro, tell_trouble, told_name};
 
 /// What was seen of the runs on a file. A number that can't be told is none.
-#[derive(Clone, Copy, Debug, PartialEq, Eq)]
+#[derive(Clone, Copy)]
 pub struct Seen {
     /// The greatest N of a run.
     pub most: Option<u64>,

@@ -21,7 +21,7 @@ pub trait Guard {
 }
 
 /// What a guard was asked, and what it answered.
-#[derive(Clone, Copy, Debug, PartialEq, Eq)]
+#[derive(Clone, Copy)]
 pub struct Asked {
     /// How many characters are held, the texts of the macro's library among them.
     pub held: u128,

@@ -6,7 +6,7 @@ use teco_model::Kind;
 use teco_model::kind::Flow;
 
 // Where the body of each iteration is cut.
-#[derive(Clone, Copy, PartialEq, Eq)]
+#[derive(Clone, Copy)]
 pub enum Cuts {
     // At its start.
     Starts,

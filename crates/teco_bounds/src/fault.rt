@@ -7,7 +7,7 @@ use teco_simplex::SimplexFault;
 use thiserror::Error;
 
 /// Why no claims are found.
-#[derive(Clone, Copy, Debug, PartialEq, Eq, Error)]
+#[derive(Clone, Copy, Debug, Error)]
 pub enum SearchRefusal {
     /// What comes of an element is not told.
     #[error("what comes of this element is not told")]
@@ -37,7 +37,7 @@ pub enum SearchRefusal {
 
 // Why a part of the search stops: it gives up; it is begun again with a cut point more, or with fewer
 // numbers that are taken to be tame; or what it rests on was not the last word.
-#[derive(Clone, Copy, Debug, PartialEq, Eq)]
+#[derive(Clone, Copy)]
 pub enum SearchStop {
     Refused(SearchRefusal),
     CutAt(usize),

@@ -7,7 +7,7 @@ use teco_model::Kind;
 use teco_model::kind::Stack;
 
 // What an element does with the push-down list.
-#[derive(Clone, Copy, PartialEq, Eq)]
+#[derive(Clone, Copy)]
 enum PushChange {
     None,
     Push,

@@ -28,7 +28,7 @@ fn coefficient(form: &Form, symbol: u32) -> i128 {
 const NUMBERS: u128 = 1 << 30;
 
 // Which limits are used: the greatest number of 32 bits, or the greatest length too.
-#[derive(Clone, Copy, PartialEq, Eq)]
+#[derive(Clone, Copy)]
 pub enum UsedLimits {
     None,
     Numbers,

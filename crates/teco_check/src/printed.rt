@@ -21,7 +21,7 @@ use teco_poly::Poly;
 use teco_verifier::RefusalReason;
 
 /// A printed number overflows at the node of this number.
-#[derive(Clone, Copy, Debug, PartialEq, Eq)]
+#[derive(Clone, Copy)]
 pub struct Overflow {
     pub node: usize,
 }

@@ -13,7 +13,7 @@ use teco_paths::fault::PathFault;
 use thiserror::Error;
 
 /// Where the element of a node stands: the place of the register in whose text, and its place there.
-#[derive(Clone, Copy, Debug, PartialEq, Eq)]
+#[derive(Clone, Copy, PartialEq, Eq)]
 pub struct NodePlace {
     /// The place of the register, 0 for `A`.
     pub register: usize,

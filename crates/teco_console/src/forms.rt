@@ -7,7 +7,7 @@ use teco_base::bytes::ESC;
 use teco_source::EscapeForm;
 
 /// What stands for ESC, by the words of the command line.
-#[derive(Clone, Copy, Debug, PartialEq, Eq)]
+#[derive(Clone, Copy)]
 pub enum Escape {
     /// Nothing is said of it: the name of a file tells.
     ByName,

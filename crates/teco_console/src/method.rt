@@ -1,7 +1,7 @@
 //! How macros are verified.
 
 /// An edition of the rules by which macros are verified.
-#[derive(Clone, Copy, Debug, PartialEq, Eq)]
+#[derive(Clone, Copy)]
 pub enum Edition {
     /// The first: by a table of what is known before each element.
     First,
@@ -10,7 +10,7 @@ pub enum Edition {
 }
 
 /// How macros are verified.
-#[derive(Clone, Copy, Debug, PartialEq, Eq)]
+#[derive(Clone, Copy)]
 pub enum Method {
     /// By this edition of the rules alone.
     Only(Edition),

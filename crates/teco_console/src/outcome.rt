@@ -1,7 +1,7 @@
 //! What came of a word of the program.
 
 /// What came of a word of the program, beside faults.
-#[derive(Clone, Copy, Debug, PartialEq, Eq)]
+#[derive(Clone, Copy)]
 pub enum Outcome {
     /// The word was obeyed.
     Done,

@@ -12,7 +12,7 @@ use teco_promise::Promise;
 
 /// The greatest N at which a promise holds: the printed size may be held, and the printed number of
 /// commands is one of 64 bits.
-#[derive(Clone, Copy, Debug, PartialEq, Eq)]
+#[derive(Clone, Copy)]
 pub struct Premise {
     pub last: Option<u64>,
     /// How many of the characters that N counts the texts of the library take.

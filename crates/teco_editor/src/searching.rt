@@ -19,7 +19,7 @@ use teco_model::{Element, Sought, Span, Taken};
 use teco_text::TextStore;
 
 /// The outcome of a search.
-#[derive(Clone, Copy, Debug, PartialEq, Eq)]
+#[derive(Clone, Copy)]
 pub enum Finding {
     /// The text was found.
     Found,

@@ -70,7 +70,7 @@ struct Choosing<'r, 'v, 'c, 'n, R: Files, E: io::Write + Drop> {
 }
 
 // What a path leads to, as far as it matters.
-#[derive(Clone, Copy, PartialEq, Eq)]
+#[derive(Clone, Copy)]
 enum PathKind {
     Folder,
     File,

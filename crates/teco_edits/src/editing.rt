@@ -43,7 +43,7 @@ pub struct Keeping<'a> {
 }
 
 /// What is done with files that would change.
-#[derive(Clone, Copy, Debug, PartialEq, Eq)]
+#[derive(Clone, Copy)]
 pub enum Change {
     /// They are replaced.
     Made,

@@ -10,7 +10,7 @@ use teco_base::bytes::LF;
 const CODE_LINE: usize = 6;
 
 /// Where the name of a file stands before what is typed over it, in each line.
-#[derive(Clone, Copy, Debug, PartialEq, Eq)]
+#[derive(Clone, Copy)]
 pub enum Naming {
     /// Where more than one file is edited.
     Several,

@@ -24,7 +24,7 @@ pub struct Outline<'a> {
 }
 
 // What a line does to the indentation.
-#[derive(Clone, Copy, PartialEq, Eq)]
+#[derive(Clone, Copy)]
 enum Layout {
     // arguments: the line goes on
     Joined,

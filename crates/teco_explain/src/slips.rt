@@ -17,7 +17,7 @@ const CONTROL_X: u8 = 24;
 const USUAL: &[u8; 5] = b"IJKLM";
 
 /// What a search may do that was not meant.
-#[derive(Clone, Copy, Debug, Default, PartialEq, Eq)]
+#[derive(Clone, Copy, Default, PartialEq, Eq)]
 pub struct Slips {
     /// A letter of its text matches either case.
     pub ignores_case: bool,

@@ -7,7 +7,7 @@ use std::{fs, io};
 
 /// How a file that is replaced is kept: under its path with a suffix behind it, as it was, with its
 /// owner, its group, its permissions and whatever else the system keeps with it.
-#[derive(Debug, Drop)]
+#[derive(Drop)]
 pub struct Backup {
     pub suffix: String,
     /// May it take the place of a file that has its name?

@@ -4,7 +4,7 @@ use std::os::unix::fs::MetadataExt;
 
 /// Which file a name stands for, and what tells that it changed: its length, and the times when its
 /// bytes and when its other properties last changed, in seconds and nanoseconds since 1970.
-#[derive(Clone, Copy, Debug, PartialEq, Eq)]
+#[derive(Clone, Copy, PartialEq, Eq)]
 pub struct Identity {
     device: u64,
     number: u64,

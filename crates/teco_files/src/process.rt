@@ -22,7 +22,7 @@ const ROOM: usize = 64;
 const FRONT: &str = ".somleut-";
 
 /// What the hosts of a process have in common. It is read once for all of them.
-#[derive(Clone, Copy, Debug, PartialEq, Eq)]
+#[derive(Clone, Copy)]
 pub struct ProcessFacts {
     // the number of the process
     number: u32,

@@ -79,7 +79,7 @@ impl From<Utf8Error> for TroubleReason {
 }
 
 /// What was to be done with a file.
-#[derive(Clone, Copy, Debug, PartialEq, Eq)]
+#[derive(Clone, Copy)]
 pub enum Purpose {
     OpenInput,
     ReadInput,
@@ -104,7 +104,7 @@ impl fmt::Display for Purpose {
 }
 
 /// What could not be done with which file, and why.
-#[derive(Debug, Drop)]
+#[derive(Drop)]
 pub struct Trouble {
     pub purpose: Purpose,
     /// The name of the file; empty where memory for it was refused.

@@ -30,7 +30,7 @@ const PRIVATE: u32 = 0o600;
 const KEPT: usize = 1 << 16;
 
 /// What becomes of an output that is closed.
-#[derive(Clone, Copy, Debug, PartialEq, Eq)]
+#[derive(Clone, Copy)]
 pub enum Closing {
     /// The output replaces its target.
     Replaces,
@@ -41,7 +41,7 @@ pub enum Closing {
 }
 
 /// How a host treats its files.
-#[derive(Clone, Copy, Debug, PartialEq, Eq)]
+#[derive(Clone, Copy)]
 pub struct Handling {
     pub closing: Closing,
     /// May an output replace only the file that is open as the input, as that was when it was
@@ -52,7 +52,7 @@ pub struct Handling {
 }
 
 /// What became of an output that was closed.
-#[derive(Clone, Copy, Debug, PartialEq, Eq)]
+#[derive(Clone, Copy)]
 pub enum Closed {
     /// Its target has other bytes now, or would have, where it was only compared.
     Changed,

@@ -467,7 +467,7 @@ pub fn infer_by(
 pub fn next_attempt(first: SearchRefusal, refusal: SearchRefusal, attempt: usize) -> Option<usize> {
     let next = attempt.saturating_add(1);
     let last = ATTEMPTS - 1;
-    if first == SearchRefusal::NotAccepted(PathFault::TooLong) {
+    if matches!(first, SearchRefusal::NotAccepted(PathFault::TooLong)) {
         let next = if attempt == 0 { next } else { last };
         return if attempt < last { Some(next) } else { None };
     }

@@ -35,7 +35,7 @@ impl WantedBound<'_> {
 }
 
 // Of which measures there are coefficients.
-#[derive(Clone, Copy, PartialEq, Eq)]
+#[derive(Clone, Copy)]
 pub enum Scope {
     // Of the pointer, of lengths of the buffer, and of turns.
     Few,

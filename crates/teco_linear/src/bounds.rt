@@ -14,7 +14,7 @@ use std::alloc::Global;
 use std::marker::Model;
 
 /// The least bounds on the differences of symbols that constraints were found to give.
-#[derive(Debug, Drop)]
+#[derive(Drop)]
 pub struct DifferenceBounds {
     size: usize,
     table: BoundTable,

@@ -8,7 +8,7 @@ use crate::term::Term;
 
 /// That one symbol is above another by at most a number: `left` - `right` <= `most`. No symbol
 /// stands for 0.
-#[derive(Clone, Copy, Debug, PartialEq, Eq)]
+#[derive(Clone, Copy)]
 pub struct Difference {
     pub left: Option<u32>,
     pub right: Option<u32>,

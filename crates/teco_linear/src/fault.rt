@@ -6,7 +6,7 @@ use std::alloc::{AllocError, AllocFailed};
 use thiserror::Error;
 
 /// Why no form is made, or an inequality is not judged.
-#[derive(Clone, Copy, Debug, PartialEq, Eq, Error)]
+#[derive(Clone, Copy, Debug, Error)]
 pub enum LinearFault {
     /// A coefficient or a constant passes 128 bits.
     #[error("a coefficient does not fit 128 bits")]

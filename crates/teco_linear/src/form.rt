@@ -14,7 +14,7 @@ pub const MAX_TERMS: usize = 4096;
 
 /// A linear form: a sum of whole numbers times powers of N times symbols. As a constraint it says
 /// that its value is at least 0.
-#[derive(Debug, Drop)]
+#[derive(Drop)]
 pub struct Form {
     terms: Vec<Term>,
 }

@@ -10,7 +10,7 @@ use crate::term::Scale;
 use std::alloc::Global;
 
 /// How often a constraint is taken: `factor`, which is never below 0, times a power of N.
-#[derive(Clone, Copy, Debug, PartialEq, Eq)]
+#[derive(Clone, Copy)]
 pub struct Multiplier {
     /// The constraint, by its index.
     pub constraint: usize,

@@ -10,14 +10,14 @@ use crate::fault::LinearFault;
 pub const MAX_POWER: u32 = 64;
 
 /// What forms are multiplied by: a whole number times a power of N.
-#[derive(Clone, Copy, Debug, PartialEq, Eq)]
+#[derive(Clone, Copy)]
 pub struct Scale {
     pub factor: i128,
     pub power: u32,
 }
 
 /// A whole number times a power of N times a symbol.
-#[derive(Clone, Copy, Debug, PartialEq, Eq)]
+#[derive(Clone, Copy, PartialEq, Eq)]
 pub struct Term {
     /// The symbol, by its number; `None` where there is no symbol, but only the power of N.
     pub symbol: Option<u32>,

@@ -12,7 +12,7 @@ use crate::mem_host::MemHost;
 use std::marker::Model;
 
 /// The calls of a host, by kind.
-#[derive(Clone, Copy, PartialEq, Eq)]
+#[derive(Clone, Copy)]
 pub enum HostCall {
     OpenIn,
     Read,

@@ -9,7 +9,7 @@ use teco_simplex::SimplexFault;
 use thiserror::Error;
 
 /// Why claims are not found to hang together.
-#[derive(Clone, Copy, Debug, PartialEq, Eq, Error)]
+#[derive(Clone, Copy, Debug, Error)]
 pub enum PathFault {
     /// There is no such element.
     #[error("element {0} is not there")]

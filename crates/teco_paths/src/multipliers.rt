@@ -26,7 +26,7 @@ const NEAR: usize = 2;
 const LIMITS: u128 = 1 << 24;
 
 /// How far multipliers are sought.
-#[derive(Clone, Copy, PartialEq, Eq)]
+#[derive(Clone, Copy)]
 pub enum Depth {
     /// By linear programs of nearby constraints.
     Near,

@@ -8,7 +8,7 @@ use teco_linear::LinearFault;
 use thiserror::Error;
 
 /// Why no outcomes are told.
-#[derive(Clone, Copy, Debug, PartialEq, Eq, Error)]
+#[derive(Clone, Copy, Debug, Error)]
 pub enum RowFault {
     /// A form was refused.
     #[error("{0}")]

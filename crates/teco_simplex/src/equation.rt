@@ -9,7 +9,7 @@ use crate::program::Summand;
 // The terms are in the order of their variables, each variable in one term at most. The basic
 // variable is the one that the equation gives the value of, the other variables at 0. Its coefficient
 // is above 0. An equation of the tableau with no basic variable yet is an artificial one.
-#[derive(Debug, Drop)]
+#[derive(Drop)]
 pub struct Equation {
     pub basic: Option<usize>,
     pub terms: Vec<Summand>,

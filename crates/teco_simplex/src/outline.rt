@@ -1,7 +1,7 @@
 //! What is known of terms without looking through them.
 use crate::program::Summand;
 
-#[derive(Clone, Copy, Debug)]
+#[derive(Clone, Copy)]
 pub struct Outline {
     // The marks of the variables, and maybe of others: one that has no mark is in no term.
     marks: u64,

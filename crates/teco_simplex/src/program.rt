@@ -5,7 +5,7 @@ use crate::fault::SimplexFault;
 use std::alloc::Global;
 
 /// Which values a variable may take.
-#[derive(Clone, Copy, Debug, PartialEq, Eq)]
+#[derive(Clone, Copy)]
 pub enum Sign {
     /// The variable is at least 0.
     NonNegative,
@@ -14,7 +14,7 @@ pub enum Sign {
 }
 
 /// How a row's sum stands to its bound.
-#[derive(Clone, Copy, Debug, PartialEq, Eq)]
+#[derive(Clone, Copy)]
 pub enum Relation {
     /// The sum is the bound.
     Equal,
@@ -25,7 +25,7 @@ pub enum Relation {
 }
 
 /// A coefficient times a variable, which is named by its place among the program's variables.
-#[derive(Clone, Copy, Debug, PartialEq, Eq)]
+#[derive(Clone, Copy)]
 pub struct Summand {
     /// The variable's place, from 0.
     pub variable: usize,
@@ -35,7 +35,7 @@ pub struct Summand {
 
 /// A condition: the sum of the terms stands in the relation to the bound. A variable may come in
 /// several terms.
-#[derive(Debug, Drop)]
+#[derive(Drop)]
 pub struct Condition {
     /// The sum's terms, in any order.
     pub terms: Vec<Summand>,
@@ -47,7 +47,7 @@ pub struct Condition {
 
 /// A linear program. The objectives are to be minimised in order: each one among the values that are
 /// least for those before it.
-#[derive(Debug, Drop)]
+#[derive(Drop)]
 pub struct LinearProgram {
     /// One for each variable.
     pub signs: Vec<Sign>,
@@ -58,7 +58,7 @@ pub struct LinearProgram {
 }
 
 /// A value for each variable: its numerator over the one denominator, which is above 0.
-#[derive(Debug, Drop)]
+#[derive(Drop)]
 pub struct Assignment {
     /// The least number, above 0, that makes all numerators whole.
     pub denominator: i128,
@@ -67,7 +67,7 @@ pub struct Assignment {
 }
 
 /// What the search says of a program. Of the three only `Found` is checked.
-#[derive(Debug, Drop)]
+#[derive(Drop)]
 pub enum SolverAnswer {
     /// Values that satisfy all rows.
     Found(Assignment),

@@ -5,7 +5,7 @@ use crate::fault::SimplexFault;
 use crate::tableau::{Column, Tableau};
 
 // Which of several pivots is taken.
-#[derive(Clone, Copy, Debug, PartialEq, Eq)]
+#[derive(Clone, Copy)]
 pub enum Rule {
     // The entering variable that is in the fewest equations, and the shortest equation.
     Rarest,
@@ -14,14 +14,14 @@ pub enum Rule {
 }
 
 // Where an objective ends.
-#[derive(Clone, Copy, Debug, PartialEq, Eq)]
+#[derive(Clone, Copy)]
 pub enum End {
     Least,
     Unbounded,
 }
 
 // An equation whose basic variable may leave, and by what it is compared.
-#[derive(Clone, Copy, Debug)]
+#[derive(Clone, Copy)]
 struct Leaving {
     place: usize,
     coefficient: i128,

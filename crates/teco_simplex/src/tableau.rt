@@ -6,7 +6,7 @@ use crate::program::{Condition, LinearProgram, Relation, Sign, Summand};
 use std::alloc::Global;
 
 // What a variable may do while it is at 0: only a usable one may become basic.
-#[derive(Clone, Copy, Debug, PartialEq, Eq)]
+#[derive(Clone, Copy, PartialEq, Eq)]
 pub enum Column {
     Usable,
     Free,
@@ -14,7 +14,7 @@ pub enum Column {
 }
 
 // How far the search goes.
-#[derive(Clone, Copy, Debug)]
+#[derive(Clone, Copy)]
 pub struct PivotLimits {
     // How many pivots are left.
     pub pivots: usize,
@@ -22,7 +22,7 @@ pub struct PivotLimits {
     pub patience: usize,
 }
 
-#[derive(Debug, Drop)]
+#[derive(Drop)]
 pub struct Tableau {
     pub alloc: Global,
     // The program's variables, and behind them a slack for each row.

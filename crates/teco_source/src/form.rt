@@ -12,7 +12,7 @@ pub const CARET: u8 = b'^';
 pub const DOLLAR: u8 = b'$';
 
 /// How a source says ESC.
-#[derive(Clone, Copy, Debug, PartialEq, Eq)]
+#[derive(Clone, Copy, PartialEq, Eq)]
 pub enum EscapeForm {
     /// By this byte, which then says nothing else.
     Marked(u8),

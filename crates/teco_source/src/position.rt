@@ -6,7 +6,7 @@ use std::marker::Model;
 use teco_base::bytes::LF;
 
 /// Where a place of a file is for its reader: its line, and the byte of that line, both from 1 on.
-#[derive(Clone, Copy, Debug, PartialEq, Eq)]
+#[derive(Clone, Copy, PartialEq, Eq)]
 pub struct LineAndByte {
     pub line: usize,
     pub column: usize,

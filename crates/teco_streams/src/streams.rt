@@ -29,7 +29,7 @@ pub fn told_name(name: &[u8]) -> &[u8] {
 }
 
 /// What is open: a file, or a standard stream.
-#[derive(Clone, Copy, Debug, PartialEq, Eq)]
+#[derive(Clone, Copy)]
 pub enum Open {
     File,
     Stream,

@@ -36,7 +36,7 @@ fn with_text<'a>(
 }
 
 /// How searches treat the case of letters.
-#[derive(Clone, Copy, Debug, PartialEq, Eq)]
+#[derive(Clone, Copy)]
 pub enum LetterCase {
     /// A letter matches itself alone.
     Exact,

@@ -2,7 +2,7 @@
 use teco_base::bytes::{ESC, is_blank};
 
 /// How far the last command string of a text has come.
-#[derive(Clone, Copy, Debug, PartialEq, Eq)]
+#[derive(Clone, Copy)]
 pub enum StringProgress {
     /// None has begun: only blanks came, if anything.
     None,

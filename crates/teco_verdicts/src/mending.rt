@@ -7,7 +7,7 @@ use teco_library::Library;
 use teco_source::Source;
 
 /// What may be put in before an element.
-#[derive(Clone, Copy, PartialEq, Eq)]
+#[derive(Clone, Copy)]
 pub enum Mend {
     /// A colon: it then answers, and does not stop.
     Colon,
