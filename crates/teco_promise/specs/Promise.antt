@@ -1,5 +1,5 @@
 -- What is promised of a macro, however it was found: each run of it ends in time, and without a code.
-use Rattle.std.specs.Prelude.{ℕ, ◌+◌, ◌≤◌, ⊤, List, length, Option, Some, None, option_map}
+use Rattle.std.specs.Prelude.{ℕ, ◌+◌, ◌≤◌, ⊤, length, Option, Some, None, option_map}
 use Rattle.teco_law_expansion.specs.Given.{call_given}
 use Rattle.teco_law_facts.specs.SoundSteps.{AreOpen}
 use Rattle.teco_law_tables.specs.Ending.{EndsWithin}

@@ -4,7 +4,7 @@ use Rattle.teco_rows.proofs.Prelude.{false, Option, Some, None, slice_index_or, 
 use Rattle.teco_rows.proofs.Prelude.{◌∙◌, arith, nat_tests, All, Term, Valuation, value, Draft, Case, Single, Steps}
 use Rattle.teco_rows.proofs.Prelude.{Pointer, Size, Held, LineEnd, LineStart, LastLength, CodeHere, CodeBefore, Typed}
 use Rattle.teco_rows.proofs.Prelude.{Family, Number, Length, Turns, PushedNumber, PushedLength, First, Value, Measure}
-use Rattle.teco_rows.proofs.Prelude.{Mark, Of, Clause, Sets, Drops, Wants, Places, RowStep, family_code, place}
+use Rattle.teco_rows.proofs.Prelude.{Mark, Clause, Sets, Drops, Wants, Places, RowStep, family_code, place}
 use Rattle.teco_rows.proofs.Prelude.{index_at, measure_at, is_at, total, Adds, measures_by, read_by, value_if}
 use Rattle.std.proofs.lemmas.List.Elements.{All-append, All-cons, All-nil}
 use Rattle.teco_linear.specs.Implied as implied

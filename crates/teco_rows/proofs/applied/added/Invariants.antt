@@ -1,4 +1,4 @@
-use Rattle.teco_rows.proofs.Prelude.{◌≡◌, ℕ, ◌+ℤ◌, drop, Valuation, value, sum_of, total, read_by}
+use Rattle.teco_rows.proofs.Prelude.{◌≡◌, ℕ, ◌+ℤ◌, drop, Valuation, value, sum_of, read_by}
 use Rattle.teco_rows.proofs.applied.added.Given as goal
 
 -- what is added so far and the rest are the whole
