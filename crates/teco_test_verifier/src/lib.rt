@@ -2,14 +2,12 @@
 #![tactic(auto)]
 
 #[cfg(test)]
-mod certificates;
-#[cfg(test)]
 mod edits;
 #[cfg(test)]
 mod expansions;
 #[cfg(test)]
 mod first_steps;
 #[cfg(test)]
-mod subjects;
+mod stacks;
 #[cfg(test)]
-mod values;
+mod subjects;
