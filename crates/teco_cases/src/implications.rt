@@ -5,7 +5,7 @@ use crate::findings::Findings;
 use crate::phrase::Phrase;
 use crate::sums::{form_of, forms_of, sum_text, terms_of};
 use std::alloc::{AllocError, Global};
-use teco_linear::{Difference, DifferenceBounds, Form, LinearFault, Multiplier, Scale, is_implied};
+use teco_linear::{Difference, Form, LinearFault, Multiplier, Scale, is_implied};
 
 const KEYS: &[&str] = &[
     "sum",
@@ -15,8 +15,6 @@ const KEYS: &[&str] = &[
     "constraints",
     "multipliers",
     "divisor",
-    "symbols",
-    "bounds",
     "target",
     "answer",
 ];
@@ -137,62 +135,6 @@ fn judged(alloc: Global, case: &NamedCase<'_>, text: Phrase<'_>) -> Result<bool,
     is_target_implied(alloc, case, &constraints, &multipliers)
 }
 
-// The symbol that a term of a difference has, with a minus or without.
-fn side_of(
-    alloc: Global,
-    difference: Phrase<'_>,
-    is_negative: bool,
-) -> Result<Option<u32>, CaseFault> {
-    let terms = terms_of(alloc, difference)?;
-    for term in terms.iter() {
-        if (term.coefficient < 0) == is_negative && term.symbol.is_some() {
-            return Ok(term.symbol);
-        }
-    }
-    Ok(None)
-}
-
-// Bounds, each as its line asks for it: `x0 - x1 <= 3`, or `x0 - x1 <= none`.
-fn bounds_text(
-    alloc: Global,
-    bounds: &DifferenceBounds,
-    wanted: Phrase<'_>,
-) -> Result<String, CaseFault> {
-    let mut text = String::new(alloc);
-    for line in wanted.words.lines() {
-        let (asked, _) = line.split_once(" <= ").unwrap_or((line, ""));
-        let difference = wanted.part(asked);
-        let left = side_of(alloc, difference, false)?;
-        let right = side_of(alloc, difference, true)?;
-        let line = match bounds.bound(left, right) {
-            Some(most) => format!(in alloc; "{asked} <= {most}\n")?,
-            None => format!(in alloc; "{asked} <= none\n")?,
-        };
-        text.push_str(line.as_str())?;
-    }
-    Ok(text)
-}
-
-// What bounds on differences say of what a case asks for.
-fn said_of_bounds(
-    alloc: Global,
-    case: &NamedCase<'_>,
-    bounds: &DifferenceBounds,
-) -> Result<String, CaseFault> {
-    if let Some(wanted) = case.phrase_if_any("bounds")? {
-        return bounds_text(alloc, bounds, wanted);
-    }
-    let target = form_of(alloc, case.phrase("target")?)?;
-    Ok(String::from_str(alloc, word_of(bounds.implies(&target)))?)
-}
-
-// What the bounds on differences of so many symbols say.
-fn bounded(alloc: Global, case: &NamedCase<'_>, symbols: usize) -> Result<String, CaseFault> {
-    let constraints = forms_of(alloc, case.phrase("constraints")?)?;
-    let bounds = DifferenceBounds::of(symbols, &constraints, alloc)?;
-    said_of_bounds(alloc, case, &bounds)
-}
-
 // What is said of a case.
 fn said_of(alloc: Global, case: &NamedCase<'_>) -> Result<String, CaseFault> {
     if let Some(sum) = case.phrase_if_any("sum")? {
@@ -201,10 +143,8 @@ fn said_of(alloc: Global, case: &NamedCase<'_>) -> Result<String, CaseFault> {
     if let Some(sum) = case.phrase_if_any("difference")? {
         return difference_of(alloc, sum);
     }
-    if let Some(text) = case.phrase_if_any("multipliers")? {
-        return Ok(String::from_str(alloc, word_of(judged(alloc, case, text)?))?);
-    }
-    bounded(alloc, case, case.phrase("symbols")?.count()?)
+    let is_shown = judged(alloc, case, case.phrase("multipliers")?)?;
+    Ok(String::from_str(alloc, word_of(is_shown))?)
 }
 
 /// Works out the sum of a case, or what follows from its constraints.
@@ -214,9 +154,5 @@ pub fn run_implication(alloc: Global, case: &NamedCase<'_>) -> Result<Findings, 
         Err(CaseFault::Linear(fault)) => format!(in alloc; "{fault}")?,
         said => said?,
     };
-    let wanted = match case.text_if_any("bounds") {
-        Some(bounds) => bounds,
-        None => case.text("answer")?,
-    };
-    Findings::of_text(alloc, "answer", wanted, said.as_bytes())
+    Findings::of_text(alloc, "answer", case.text("answer")?, said.as_bytes())
 }

@@ -1,5 +1,5 @@
 -- The answers of calls that read a search text, beside the definition.
-use Rattle.std.specs.Prelude.{◌≡◌, ℕ, ◌<◌, List, [], ◌∷◌, length, flat_map, fold, All, Bool, Option, Some, None}
+use Rattle.std.specs.Prelude.{◌≡◌, ℕ, ◌<◌, List, [], ◌∷◌, length, flat_map, All, Bool, Option, Some, None}
 use Rattle.std.specs.Prelude.{Result, Ok, Err}
 use Rattle.teco_base.specs.Does.{Cause, Refused, Memory}
 use Rattle.teco_base.specs.declared.code.Code.{Code}
@@ -37,15 +37,6 @@ NextPart old new (Ok None) = parts old ≡ Ok []
 NextPart old new (Ok (Some p)) =
     (parts old ≡ (parts new >>= (λ ps. Ok (p ∷ ps)))) × (length new < length old)
 NextPart old new (Err f) = parts old ≡ Err (code_of f)
-
--- the last part of a search text, if it has one
-abbrev pub later : Option Part → Part → Option Part
-later last p = Some p
-
-abbrev pub last_part : List ℕ → Result (Option Part) Code
-last_part text = do
-  ps ← parts text
-  Ok (fold later None ps)
 
 -- a register that a search text names, with a text of it
 pub record Named : Type 0 where

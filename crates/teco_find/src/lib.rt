@@ -18,4 +18,4 @@ mod rests;
 
 pub use fault::FindFault;
 pub use last_pattern::LastPattern;
-pub use pattern::{Pattern, last_part, minimum};
+pub use pattern::{Pattern, minimum};

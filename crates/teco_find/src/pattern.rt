@@ -2,7 +2,7 @@
 ghost use Rattle.std.specs.Prelude.{◌≡◌, [], ◌+◌, ◌^◌, ◌<◌, length, IsOk, IfSome};
 ghost use Rattle.teco_base.specs.Does.{Gives, codes_alone, memory_where};
 ghost use Rattle.teco_model.specs.Pattern as model;
-ghost use Rattle.teco_find.specs.Reading.{last_part, pattern_cause};
+ghost use Rattle.teco_find.specs.Reading.{pattern_cause};
 
 use crate::anchor::{Anchor, anchor_of};
 use crate::fault::FindFault;
@@ -86,20 +86,6 @@ pub fn minimum(text: &[u8]) -> Result<Option<usize>, FindFault>
         least = with_part(least, part);
     }
     Ok(least)
-}
-
-/// The last part of a search text, if it has one.
-///
-/// Takes no memory.
-pub fn last_part(text: &[u8]) -> Result<Option<Part>, FindFault>
-    ensures { Gives pattern_cause codes_alone (λ x. x) (last_part text.now) result }
-{
-    let mut last = None;
-    let mut parts = Parts::of(text);
-    while let Some(part) = parts.next()? {
-        last = Some(part);
-    }
-    Ok(last)
 }
 
 // The least length with one more part.

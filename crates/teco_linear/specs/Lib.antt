@@ -1,4 +1,4 @@
 -- What linear forms are, and when constraints imply a target.
 pub mod Form
 pub mod Implied
-pub mod DifferenceBounds
+pub mod Difference

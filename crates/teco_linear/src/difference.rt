@@ -1,7 +1,7 @@
 // Forms that bound the difference of two symbols.
 ghost use Rattle.std.specs.Prelude.{◌≡◌, ℕ, ◌+ℤ◌, IfSome};
 ghost use Rattle.teco_linear.specs.Form.{Valuation, term_value, value};
-ghost use Rattle.teco_linear.specs.DifferenceBounds.{slack};
+ghost use Rattle.teco_linear.specs.Difference.{slack};
 
 use crate::form::Form;
 use crate::term::Term;

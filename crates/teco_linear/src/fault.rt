@@ -20,9 +20,6 @@ pub enum LinearFault {
     /// A symbol has no form that could stand for it.
     #[error("a symbol is not known")]
     UnknownSymbol,
-    /// There are more than `MAX_SYMBOLS` symbols to bound.
-    #[error("there are too many symbols")]
-    TooManySymbols,
     /// A multiplier names a constraint that is not there.
     #[error("a multiplier names no constraint")]
     UnknownConstraint,

@@ -8,7 +8,7 @@ use Rattle.teco_paths.proofs.Prelude.{ORDER, MOST_BELOW, MOST_NUMBER, IsFact, fa
 use Rattle.teco_paths.proofs.Prelude.{single_of, Polynomial}
 use Rattle.std.specs.Prelude.{option_map}
 use Rattle.std.specs.List.{AllByRecursion}
-use Rattle.teco_linear.specs.DifferenceBounds.{slack}
+use Rattle.teco_linear.specs.Difference.{slack}
 use Rattle.teco_model.specs.laws.Whole.{IsWholePair}
 use Rattle.teco_rows.proofs.Lines.{line_begin}
 use Rattle.teco_paths.specs.Facts.{IsBound, IsLeast, IsMost}

@@ -3,7 +3,7 @@ use Rattle.std.specs.Prelude.{ℕ, ℤ, pos, ◌≤◌, ◌≤ℤ◌, ◌+ℤ◌
 use Rattle.teco_base.specs.declared.TheConstants.{LIMIT}
 use Rattle.teco_linear.specs.declared.difference.Difference.{Difference}
 use Rattle.teco_linear.specs.declared.term.Term.{Term}
-use Rattle.teco_linear.specs.DifferenceBounds.{slack}
+use Rattle.teco_linear.specs.Difference.{slack}
 use Rattle.teco_linear.specs.Implied.{Holds}
 use Rattle.teco_model.specs.laws.Whole.{IsWhole}
 use Rattle.teco_rows.specs.declared.measure.Measure.{Measure}

@@ -1,7 +1,7 @@
 //! What always holds of a state.
 ghost use Rattle.std.specs.Prelude.{◌≡◌, ◌+ℤ◌, ◌-ℤ◌, ℕ, pos, IfOk, OnOk, IfSome};
 ghost use Rattle.std.specs.List.{All};
-ghost use Rattle.teco_linear.specs.DifferenceBounds.{number_of, slack};
+ghost use Rattle.teco_linear.specs.Difference.{number_of, slack};
 ghost use Rattle.teco_linear.specs.Form.{Valuation, value};
 ghost use Rattle.teco_paths.specs.Facts.{IsFact, IsLeast, IsMost};
 ghost use Rattle.teco_paths.specs.Symbols.{measure_of};

@@ -11,9 +11,6 @@ use unicode_width::UnicodeWidthChar;
 /// What is shown for ESC.
 const MARK: char = '$';
 
-/// The least byte that is neither a control nor ASCII.
-const BEYOND_ASCII: u8 = 0x80;
-
 /// What a control and the letter of its `^X` differ by.
 const CONTROL_BIT: u8 = 0x40;
 

@@ -2,7 +2,6 @@
 ghost use Rattle.std.specs.Prelude.{◌≡◌, ℤ, length, Option, option_map, slice_get};
 ghost use Rattle.std.specs.Option.{option_and_then};
 ghost use Rattle.teco_verifier.specs.facts.Facts as rules;
-ghost use Rattle.teco_verifier.specs.facts.Values as values;
 
 use std::marker::Model;
 use teco_base::Reg;
@@ -60,18 +59,6 @@ impl<'a> Known<'a> {
         ensures { result ≡ self.now.arguments.level.value }
     {
         self.facts.level().value_told()
-    }
-
-    /// The least and the greatest that the pending value may be.
-    pub fn value_range(&self) -> Option<Interval>
-        ensures { result ≡ option_map (values.interval_of self.now.position.distances)
-            self.now.arguments.level.value }
-    {
-        let (_first, value, _operator) = self.facts.level().parts();
-        match value {
-            None => None,
-            Some(value) => Some(value.range(self.facts.margins()).told()),
-        }
     }
 
     /// The operator that waits for a value.
