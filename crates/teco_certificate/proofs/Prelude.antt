@@ -12,11 +12,11 @@ pub use Rattle.std.specs.Prelude.{codes, ◌==◌, ◌≢◌}
 pub use Rattle.teco_base.specs.Register.{register_name}
 pub use Rattle.teco_base.specs.declared.TheConstants.{REGISTERS}
 pub use Rattle.teco_base.specs.declared.bytes.TheConstants.{LF}
-pub use Rattle.teco_certificate.specs.Front.{EndsPolynomial, is_of_polynomial}
 pub use Rattle.teco_certificate.specs.Text.{argument_line, behind_comma, chosen_text, kept_text, letters_of, line}
 pub use Rattle.teco_certificate.specs.Text.{longer_text, longer_texts, loop_line, needs_text, version_text}
 pub use Rattle.teco_certificate.specs.WellFormed.{AreOfRegisters, IsChosen, IsLongerText, RegistersRise, TextsRise}
 pub use Rattle.teco_model.specs.Macros.{ArgumentRange, Needs}
+pub use Rattle.teco_poly.specs.Front.{EndsPolynomial, is_of_polynomial}
 pub use Rattle.teco_poly.specs.Polynomial.{Polynomial}
 pub use Rattle.teco_poly.specs.Reading.{EndsNumber, IsPoly}
 pub use Rattle.teco_poly.specs.Text.{text}

@@ -10,7 +10,7 @@ use Rattle.std.proofs.lemmas.Slice.Eq.{strip_suffix_is}
 use Rattle.std.specs.Cmp.Lexicographic.{pointwise}
 use Rattle.std.specs.Option.{MatchOption}
 use Rattle.std.specs.Prelude.{take, nat_eq, unwrap_or}
-use Rattle.teco_certificate.specs.Front.{LooksFor, LacksWord}
+use Rattle.teco_poly.specs.Front.{LooksFor, LacksWord}
 use Rattle.teco_poly.specs.Text.{text as poly_text}
 
 -- a text that begins with another byte than a word does not begin with the word

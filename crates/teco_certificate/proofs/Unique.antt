@@ -13,9 +13,9 @@ use Rattle.std.proofs.lemmas.Fmt.{decimal_injective}
 use Rattle.std.specs.Prelude.{IfSome}
 use Rattle.teco_certificate.specs.Text.{certificate_text}
 use Rattle.teco_certificate.specs.WellFormed.{HasText}
-use Rattle.teco_certificate.proofs.Fronts.{one_front, decimal_digits, ends_number, ends_polynomial, polynomial_passes}
-use Rattle.teco_certificate.proofs.Fronts.{passes_append}
-use Rattle.teco_certificate.proofs.Items.{one_list}
+use Rattle.teco_poly.proofs.Fronts.{one_front, decimal_digits, ends_number, ends_polynomial, polynomial_passes}
+use Rattle.teco_poly.proofs.Fronts.{passes_append}
+use Rattle.teco_poly.proofs.Items.{one_list}
 use Rattle.teco_certificate.proofs.Spelling.{other_byte, no_dash, ends_longer, ends_kept, parts_of_line, same_chosen}
 use Rattle.teco_certificate.proofs.Spelling.{same_fields}
 use Rattle.teco_poly.specs.Laws.{OneText}

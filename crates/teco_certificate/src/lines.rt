@@ -1,7 +1,7 @@
 //! The lines that certificates begin with, of whatever rules: how they are printed, and
 //! what a text says if it has them. Where these functions read they judge nothing: of another text they
 //! read anything at all, and who calls them has to see whether what was read has this text.
-ghost use Rattle.std.specs.Prelude.{◌≡◌, ◌++◌, ◌∷◌, ◌≤◌, ◌<◌, ◌^◌, ℕ, Bool, List, length, codes, Option, Some};
+ghost use Rattle.std.specs.Prelude.{◌≡◌, ◌++◌, ◌∷◌, ◌≤◌, ◌<◌, ◌^◌, ℕ, List, length, codes, Option, Some};
 ghost use Rattle.std.specs.Prelude.{OnOk, IfSome};
 ghost use Rattle.std.specs.List.{prefix_len};
 ghost use Rattle.std.specs.Char.{is_ascii_digit};
@@ -9,9 +9,9 @@ ghost use Rattle.std.specs.Fmt.{decimal};
 ghost use Rattle.teco_base.specs.Register.{register_name};
 ghost use Rattle.teco_base.specs.declared.TheConstants.{REGISTERS};
 ghost use Rattle.teco_base.specs.declared.bytes.TheConstants.{LF};
-ghost use Rattle.teco_certificate.specs.Front.{LooksFor, LacksWord};
 ghost use Rattle.teco_certificate.specs.Text.{line as line_of, version_text, argument_line, needs_text};
 ghost use Rattle.teco_model.specs.Macros.{IsArgumentRange, ArgumentRange as RangeOf, Needs as NeedsOf};
+ghost use Rattle.teco_poly.specs.Front.{LacksWord};
 ghost use Rattle.teco_poly.specs.Reading.{EndsNumber};
 ghost use Rattle.teco_verifier.specs.certificate.ArgumentText.{range_text};
 
@@ -19,6 +19,7 @@ use std::alloc::{AllocError, Global};
 use std::str;
 use teco_base::{REGISTERS, Reg};
 use teco_model::{ArgumentRange, Needs};
+pub use teco_poly::reading::{behind, word_at};
 
 /// Adds a line: a word that says what it has, and this.
 pub fn push_line(text: &mut Vec<u8>, word: &[u8], words: &[u8]) -> Result<(), AllocError>
@@ -75,25 +76,6 @@ pub fn letters(needs: Needs) -> &'static str
         (false, true) => "O",
         (true, true) => "IO",
     }
-}
-
-/// Whether a word stands at the front of a text, and what comes behind it.
-pub fn word_at<'a>(text: &'a [u8], word: &[u8]) -> (bool, &'a [u8])
-    ensures word { LooksFor text.now word.now result.0 result.1.now }
-    ensures within { length result.1.now ≤ length text.now }
-{
-    match text.strip_prefix(word) {
-        Some(rest) => (true, rest),
-        None => (false, text),
-    }
-}
-
-/// What comes behind a word.
-pub fn behind<'a>(text: &'a [u8], word: &[u8]) -> &'a [u8]
-    ensures word { (found : Bool) × LooksFor text.now word.now found result.now }
-    ensures within { length result.now ≤ length text.now }
-{
-    word_at(text, word).1
 }
 
 // The number of which these are the digits.

@@ -3,63 +3,27 @@
 //! see whether what was read has this text.
 ghost use Rattle.std.specs.Prelude.{◌≡◌, ◌++◌, ◌∷◌, [], ◌≤◌, ◌<◌, ◌↔◌, ℕ, Bool, true, IsTrue, List, length, flat_map};
 ghost use Rattle.std.specs.Prelude.{codes, IfOk, OnOk};
-ghost use Rattle.std.specs.List.{AllByRecursion, list_all, prefix_len};
+ghost use Rattle.std.specs.List.{AllByRecursion};
 ghost use Rattle.teco_base.specs.declared.TheConstants.{REGISTERS};
 ghost use Rattle.teco_base.specs.declared.bytes.TheConstants.{LF};
 ghost use Rattle.teco_verifier.specs.certificate.Fields.{Fields};
-ghost use Rattle.teco_certificate.specs.Front as front;
-ghost use Rattle.teco_certificate.specs.Front.{EndsPolynomial};
 ghost use Rattle.teco_certificate.specs.Text.{longer_text, longer_texts, behind_comma, kept_text, chosen_text};
 ghost use Rattle.teco_certificate.specs.Text.{loop_line, certificate_text, line as line_of};
 ghost use Rattle.teco_certificate.specs.WellFormed.{IsLongerText, IsChosen, TextsRise, AreOfRegisters, RegistersRise};
 ghost use Rattle.teco_certificate.specs.WellFormed.{IsWellFormed};
+ghost use Rattle.teco_poly.specs.Front.{EndsPolynomial};
 ghost use Rattle.teco_poly.specs.Polynomial.{Polynomial};
 ghost use Rattle.teco_poly.specs.Reading.{IsPoly};
 ghost use Rattle.teco_poly.specs.Text.{text as poly_text};
 ghost use Rattle.teco_verifier.specs.table.Choices.{LongerText as LongerTextOf, Chosen};
 
 use crate::certificate::Certificate;
-use crate::lines::{
-    argument_at, behind, behind_version, needs_at, number_at, register_at, word_at,
-};
+use crate::lines::{argument_at, behind_version, needs_at, number_at, register_at};
 use std::alloc::{AllocError, Global};
 use teco_base::REGISTERS;
 use teco_poly::Poly;
+use teco_poly::reading::{behind, polynomial, polynomial_at, polynomial_words, word_at};
 use teco_verifier::{LongerText, LoopLine};
-
-// Is it a byte that polynomials are written with?
-fn is_of_polynomial(byte: u8) -> bool
-    ensures { result ≡ front.is_of_polynomial byte }
-{
-    byte.is_ascii_digit() || matches!(byte, b' ' | b'+' | b'*' | b'N' | b'^')
-}
-
-// How many bytes that polynomials are written with a text begins with.
-fn polynomial_count(text: &[u8]) -> usize
-    ensures count { result ≡ prefix_len front.is_of_polynomial text.now }
-    ensures within { result ≤ length text.now }
-{
-    text.iter()
-        .take_while(|byte| is_of_polynomial(**byte))
-        .count()
-}
-
-// The polynomial that this is, or any.
-fn polynomial(words: &[u8]) -> Poly
-    ensures { (p : Polynomial) → IsPoly p → words.now ≡ poly_text p → result ≡ p }
-{
-    Poly::read(words).unwrap_or(Poly::number(0))
-}
-
-// The bytes at the front of a text that polynomials are written with, and what comes behind them.
-fn cut(text: &[u8]) -> (&[u8], &[u8])
-    ensures text { (words rest : List ℕ) → list_all front.is_of_polynomial words
-        ≡ true → EndsPolynomial rest
-        → text.now ≡ words ++ rest → (result.0.now ≡ words) × (result.1.now ≡ rest) }
-    ensures within { length result.1.now ≤ length text.now }
-{
-    text.split_at(polynomial_count(text))
-}
 
 // Whether an iteration is kept, as the front of a text has it, and what comes behind that.
 fn kept_at(text: &[u8]) -> (bool, &[u8])
@@ -75,23 +39,13 @@ fn kept_at(text: &[u8]) -> (bool, &[u8])
     }
 }
 
-// The polynomial at the front of a text, and what comes behind it.
-fn polynomial_at(text: &[u8]) -> (Poly, &[u8])
-    ensures text { (p : Polynomial) (rest : List ℕ) → IsPoly p → EndsPolynomial rest
-        → text.now ≡ poly_text p ++ rest → (result.0 ≡ p) × (result.1.now ≡ rest) }
-    ensures within { length result.1.now ≤ length text.now }
-{
-    let (words, rest) = cut(text);
-    (polynomial(words), rest)
-}
-
 // The polynomial behind which a space stands, and what comes behind both.
 fn held_at(text: &[u8]) -> (Poly, &[u8])
     ensures text { (p : Polynomial) (rest : List ℕ) → IsPoly p → EndsPolynomial rest
         → text.now ≡ poly_text p ++ (codes " " ++ rest) → (result.0 ≡ p) × (result.1.now ≡ rest) }
     ensures within { length result.1.now ≤ length text.now }
 {
-    let (words, rest) = cut(text);
+    let (words, rest) = polynomial_words(text);
     (polynomial(words.strip_suffix(b" ").unwrap_or(words)), rest)
 }
 

@@ -1,7 +1,5 @@
 mod Prelude
 pub mod Claiming
-pub mod Fronts
-pub mod Items
 pub mod Parts
 pub mod Rising
 pub mod Terms

@@ -9,7 +9,8 @@ use Rattle.teco_claims.proofs.Prelude.{fraction_text, is_one, factor_text, has_u
 use Rattle.std.proofs.Common.{◌||◌}
 use Rattle.teco_base.specs.Bytes.{is_among}
 use Rattle.teco_claims.specs.Front.{goes_on}
-use Rattle.teco_claims.proofs.Fronts.{wide_digits}
+use Rattle.teco_poly.proofs.Digits.{value_model}
+use Rattle.teco_poly.proofs.Fronts.{are_digits}
 
 pub first_byte : {c d : ℕ} {x y : List ℕ} → c ∷ x ≡ d ∷ y → c ≡ d
 first_byte e = cc
@@ -93,7 +94,11 @@ unit_sign d (suc zero) measure rest words sign ends same =
 unit_sign d (suc (suc power)) measure rest words sign ends same =
     let is : 78 ≡ d = first_byte same in absurd (omega (arith, is, sign.1))
 
--- a number begins with a digit
+-- a number is of digits, and begins with one
+pub wide_digits : (n : ℕ) → n < 2 ^ 128 → list_all is_ascii_digit (decimal n) ≡ true
+wide_digits n small =
+    are_digits (decimal n) (value_model.from (decimal n) (decimal_is_IsNumeral_wide n (omega arith)).0.1)
+
 pub digit_first : (n : ℕ) → n < 2 ^ 128 → (rest : List ℕ) → begins is_ascii_digit (decimal n ++ rest) ≡ true
 digit_first n small rest = by_list (decimal n) (decimal_is_IsNumeral_wide n (omega arith)).0.0 (wide_digits n small)
   where

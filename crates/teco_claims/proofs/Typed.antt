@@ -5,7 +5,7 @@ use Rattle.teco_claims.proofs.Prelude.{is_of_polynomial, LooksFor, types_text, C
 use Rattle.teco_claims.specs.Reads.{IsFront}
 use Rattle.teco_claims.specs.Spelled.{IsSpelled}
 use Rattle.teco_claims.specs.Text.{text_of}
-use Rattle.teco_claims.proofs.Fronts.{polynomial_passes}
+use Rattle.teco_poly.proofs.Fronts.{polynomial_passes}
 use Rattle.teco_claims.proofs.Parts.{first_byte, clash}
 
 and_left : (a b : Bool) → (a && b) ≡ true → a ≡ true

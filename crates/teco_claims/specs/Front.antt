@@ -1,5 +1,5 @@
--- What stands at the front of a text.
-use Rattle.std.specs.Prelude.{◌≡◌, ◌≢◌, ℕ, List, [], ◌∷◌, ◌++◌, codes, Bool, true, false, ◌||◌, ⊤, ◌==◌}
+-- What stands at the front of a text with claims.
+use Rattle.std.specs.Prelude.{◌≡◌, ◌≢◌, ℕ, List, [], ◌∷◌, codes, Bool, true, false, ◌||◌, ⊤, ◌==◌}
 use Rattle.std.specs.Prelude.{if◌then◌else◌, Option, Some, None}
 use Rattle.std.specs.Char.{is_ascii_digit}
 use Rattle.teco_base.specs.Bytes.{is_among}
@@ -7,20 +7,6 @@ use Rattle.teco_claims.specs.declared.term.ClaimSingle.{ClaimSingle}
 use Rattle.teco_claims.specs.declared.term.ClaimSingle.TheVariants.{Steps, Pointer, Size, Held, LineEnd, LineStart}
 use Rattle.teco_claims.specs.declared.term.ClaimSingle.TheVariants.{LastLength, Typed}
 use Rattle.teco_poly.specs.Reading.{EndsNumber}
-
--- Whether a word stands there, and what comes behind it; where it does not, that is the text.
-pub record LooksFor (text word : List ℕ) (found : Bool) (behind : List ℕ) : Type 0 where
-  pub there : (rest : List ℕ) → text ≡ word ++ rest → (found ≡ true) × (behind ≡ rest)
-  pub not_there : ((rest : List ℕ) → text ≢ word ++ rest) → (found ≡ false) × (behind ≡ text)
-
--- the bytes that polynomials are written with
-abbrev pub is_of_polynomial : ℕ → Bool
-is_of_polynomial c = is_ascii_digit c || is_among c (codes " +*^N")
-
--- none of these stands at the front
-abbrev pub EndsPolynomial : List ℕ → Type 0
-EndsPolynomial [] = ⊤
-EndsPolynomial (c ∷ rest) = is_of_polynomial c ≡ false
 
 -- the bytes that numbers and powers go on with
 abbrev pub goes_on : ℕ → Bool

@@ -1,8 +1,8 @@
 //! What a text says if it is that of claims. Of another text these functions read any claims that have
 //! a text, and who calls them has to see whether it is this one.
-ghost use Rattle.std.specs.Prelude.{◌≡◌, ◌≢◌, ◌++◌, ◌∷◌, [], ◌+◌, ◌≤◌, ◌<◌, ◌^◌, ℕ, Bool, true, false, List, length};
+ghost use Rattle.std.specs.Prelude.{◌≡◌, ◌≢◌, ◌++◌, ◌∷◌, [], ◌+◌, ◌≤◌, ◌<◌, ◌^◌, ℕ, Bool, false, List, length};
 ghost use Rattle.std.specs.Prelude.{flat_map, codes, Option, Some, None, IfOk, OnOk, IfSome};
-ghost use Rattle.std.specs.List.{AllByRecursion, list_all, prefix_len};
+ghost use Rattle.std.specs.List.{AllByRecursion, prefix_len};
 ghost use Rattle.std.specs.Char.{is_ascii_digit};
 ghost use Rattle.std.specs.Fmt.{decimal};
 ghost use Rattle.teco_base.specs.Register.{register_name};
@@ -13,7 +13,7 @@ ghost use Rattle.teco_claims.specs.declared.term.ClaimMeasure.TheVariants as nam
 ghost use Rattle.teco_claims.specs.declared.term.Fraction.{Fraction as FractionOf};
 ghost use Rattle.teco_claims.specs.declared.term.ClaimTerm.{ClaimTerm as TermOf};
 ghost use Rattle.teco_claims.specs.Front as front;
-ghost use Rattle.teco_claims.specs.Front.{EndsPolynomial, EndsPart, EndsTerm, EndsClaims, LooksFor};
+ghost use Rattle.teco_claims.specs.Front.{EndsPart, EndsTerm, EndsClaims};
 ghost use Rattle.teco_claims.specs.Spelled.{IsMeasure, IsLowest, IsTerm, AreTerms, IsClaim, IsCut, IsSpelled};
 ghost use Rattle.teco_claims.specs.Text.{line as line_of, name_text, divisor_text, fraction_text, factor_text};
 ghost use Rattle.teco_claims.specs.Text.{unit_text, body_text, first_sign, next_sign, signed_text, next_text};
@@ -21,7 +21,7 @@ ghost use Rattle.teco_claims.specs.Text.{terms_text, claim_line, cut_words, cut_
 ghost use Rattle.teco_claims.specs.Values.{AtCut, Claimed};
 ghost use Rattle.teco_poly.specs.Polynomial.{Polynomial};
 ghost use Rattle.teco_poly.specs.Reading.{IsPoly, EndsNumber};
-ghost use Rattle.teco_poly.specs.Text.{power_text, text as poly_text};
+ghost use Rattle.teco_poly.specs.Text.{power_text};
 
 use crate::claims::{Claim, Claims, Cut};
 use crate::spelled::is_next;
@@ -30,25 +30,7 @@ use std::alloc::{AllocError, Global};
 use std::str;
 use teco_base::Reg;
 use teco_poly::Poly;
-
-// Whether a word stands at the front of a text, and what comes behind it.
-fn word_at<'a>(text: &'a [u8], word: &[u8]) -> (bool, &'a [u8])
-    ensures word { LooksFor text.now word.now result.0 result.1.now }
-    ensures within { length result.1.now ≤ length text.now }
-{
-    match text.strip_prefix(word) {
-        Some(rest) => (true, rest),
-        None => (false, text),
-    }
-}
-
-// What comes behind a word.
-fn behind<'a>(text: &'a [u8], word: &[u8]) -> &'a [u8]
-    ensures word { (found : Bool) × LooksFor text.now word.now found result.now }
-    ensures within { length result.now ≤ length text.now }
-{
-    word_at(text, word).1
-}
+use teco_poly::reading::{behind, polynomial_at, word_at};
 
 // The number of which these are the digits.
 fn number(digits: &[u8]) -> u128
@@ -99,50 +81,6 @@ fn point_at(text: &[u8]) -> (usize, &[u8])
 {
     let (number, rest) = number_at(text);
     (usize::try_from(number).unwrap_or(0), rest)
-}
-
-// Is it a byte that polynomials are written with?
-fn is_of_polynomial(byte: u8) -> bool
-    ensures { result ≡ front.is_of_polynomial byte }
-{
-    byte.is_ascii_digit() || matches!(byte, b' ' | b'+' | b'*' | b'N' | b'^')
-}
-
-// How many bytes that polynomials are written with a text begins with.
-fn polynomial_count(text: &[u8]) -> usize
-    ensures count { result ≡ prefix_len front.is_of_polynomial text.now }
-    ensures within { result ≤ length text.now }
-{
-    text.iter()
-        .take_while(|byte| is_of_polynomial(**byte))
-        .count()
-}
-
-// The polynomial that this is, or any.
-fn polynomial(words: &[u8]) -> Poly
-    ensures { (p : Polynomial) → IsPoly p → words.now ≡ poly_text p → result ≡ p }
-{
-    Poly::read(words).unwrap_or(Poly::number(0))
-}
-
-// The bytes at the front of a text that polynomials are written with, and what comes behind them.
-fn cut(text: &[u8]) -> (&[u8], &[u8])
-    ensures text { (words rest : List ℕ) → list_all front.is_of_polynomial words
-        ≡ true → EndsPolynomial rest
-        → text.now ≡ words ++ rest → (result.0.now ≡ words) × (result.1.now ≡ rest) }
-    ensures within { length result.1.now ≤ length text.now }
-{
-    text.split_at(polynomial_count(text))
-}
-
-// The polynomial at the front of a text, and what comes behind it.
-fn polynomial_at(text: &[u8]) -> (Poly, &[u8])
-    ensures text { (p : Polynomial) (rest : List ℕ) → IsPoly p → EndsPolynomial rest
-        → text.now ≡ poly_text p ++ rest → (result.0 ≡ p) × (result.1.now ≡ rest) }
-    ensures within { length result.1.now ≤ length text.now }
-{
-    let (words, rest) = cut(text);
-    (polynomial(words), rest)
 }
 
 // The bound on typed bytes at the front of a text, and what comes behind it.

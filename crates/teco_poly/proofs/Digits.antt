@@ -20,7 +20,7 @@ read_on n (c ∷ cs) = read_on (n * 10 + (c - 48)) cs
 read_model : IsNumeralModel (λ ds. all_ascii_digits ds ≡ true) (read_on 0)
 read_model = numerals_by_fold _ (search rules) read_on (search rules)
 
-value_model : IsNumeralModel (λ ds. all_ascii_digits ds ≡ true) (digits_value 10)
+pub value_model : IsNumeralModel (λ ds. all_ascii_digits ds ≡ true) (digits_value 10)
 value_model = numerals_by_value _ (search rules)
 
 -- what is read is what the digits stand for

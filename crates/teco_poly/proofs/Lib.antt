@@ -8,4 +8,6 @@ pub mod Digits
 pub mod Front
 pub mod Terms
 pub mod Spelling
+pub mod Fronts
+pub mod Items
 pub mod Lawful

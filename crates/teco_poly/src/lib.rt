@@ -5,6 +5,7 @@
 mod coefficients;
 pub mod laws;
 mod poly;
+pub mod reading;
 mod text;
 
 pub use poly::Poly;

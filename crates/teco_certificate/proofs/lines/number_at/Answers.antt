@@ -1,5 +1,5 @@
 use Rattle.teco_certificate.proofs.Prelude.{is_ascii_digit, decimal}
-use Rattle.teco_certificate.proofs.Fronts.{decimal_digits, ends_number, split_front}
+use Rattle.teco_poly.proofs.Fronts.{decimal_digits, ends_number, split_front}
 use Rattle.teco_certificate.proofs.lines.number_at.Goals as goal
 
 pub returns-clause-text : goal.returns-clause-text

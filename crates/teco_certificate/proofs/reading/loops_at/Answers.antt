@@ -1,7 +1,7 @@
 use Rattle.teco_certificate.proofs.Prelude.{◌≡◌, ◌++◌, List, ◌∷◌, [], Some, None, flat_map, arith, refl, Decides-eqb}
 use Rattle.teco_certificate.proofs.Prelude.{strip_prefix_is, AllByRecursion, codes, line, loop_line, IsChosen}
 use Rattle.teco_certificate.proofs.Prelude.{RegistersRise, Chosen}
-use Rattle.teco_certificate.proofs.Items.{all_and, more_read, all_read}
+use Rattle.teco_poly.proofs.Items.{all_and, more_read, all_read}
 use Rattle.teco_certificate.proofs.Spelling.{other_byte}
 use Rattle.teco_certificate.proofs.reading.loops_at.Invariants.{loop_rest, IsLine}
 use Rattle.teco_certificate.proofs.reading.loops_at.Goals as goal

@@ -1,6 +1,6 @@
 use Rattle.teco_certificate.proofs.Prelude.{◌≡◌, ◌++◌, ℕ, List, length, flat_map, AllByRecursion, codes, line}
 use Rattle.teco_certificate.proofs.Prelude.{chosen_text, loop_line, IsChosen, RegistersRise, Chosen}
-use Rattle.teco_certificate.proofs.Items.{AreLeft}
+use Rattle.teco_poly.proofs.Items.{AreLeft}
 use Rattle.teco_certificate.proofs.reading.loops_at.Given as goal
 
 abbrev pub loop_rest : Chosen → List ℕ

@@ -1,7 +1,7 @@
 use Rattle.teco_certificate.proofs.Prelude.{◌≡◌, ◌<◌, ◌++◌, ◌∷◌, [], Some, None, flat_map, arith, refl, sym, subst}
 use Rattle.teco_certificate.proofs.Prelude.{Decides-eqb, strip_prefix_is, codes, REGISTERS, LF, longer_text}
 use Rattle.teco_certificate.proofs.Prelude.{behind_comma, IsLongerText, TextsRise}
-use Rattle.teco_certificate.proofs.Items.{all_and, more_read, all_read}
+use Rattle.teco_poly.proofs.Items.{all_and, more_read, all_read}
 use Rattle.teco_certificate.proofs.Rising.{front_rises}
 use Rattle.teco_certificate.proofs.Spelling.{other_byte, ends_longer}
 use Rattle.teco_certificate.proofs.reading.others_at.Goals as goal

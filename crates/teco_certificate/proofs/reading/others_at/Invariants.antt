@@ -1,7 +1,7 @@
 use Rattle.teco_certificate.proofs.Prelude.{◌≡◌, ◌++◌, ◌∷◌, ◌≤◌, ℕ, List, length, flat_map, AllByRecursion, codes, LF}
 use Rattle.teco_certificate.proofs.Prelude.{longer_text, behind_comma, IsLongerText, TextsRise, AreOfRegisters}
 use Rattle.teco_certificate.proofs.Prelude.{LongerText}
-use Rattle.teco_certificate.proofs.Items.{AreLeft}
+use Rattle.teco_poly.proofs.Items.{AreLeft}
 use Rattle.teco_certificate.proofs.reading.others_at.Given as goal
 
 -- of whatever texts there are, those that are read and those that are left are all; those that are read rise

@@ -2,7 +2,7 @@ use Rattle.teco_claims.proofs.Prelude.{◌≡◌, Bool, true, false, List, ◌++
 use Rattle.teco_claims.proofs.Prelude.{refl, sym, subst, ap, ◌∙◌, eqb-true, AllByRecursion, Decides-eqb}
 use Rattle.teco_claims.proofs.Prelude.{strip_prefix_is, codes, ◌==◌, ClaimTerm, AreTerms, IsClaim, claim_line}
 use Rattle.teco_claims.proofs.Claiming.{claims_apart}
-use Rattle.teco_claims.proofs.Items.{more_read, all_read}
+use Rattle.teco_poly.proofs.Items.{more_read, all_read}
 use Rattle.teco_claims.proofs.Parts.{clash}
 use Rattle.teco_claims.proofs.Rising.{all_and, all_front, all_behind}
 use Rattle.teco_claims.proofs.reading.claims_at.Invariants.{claim_rest}

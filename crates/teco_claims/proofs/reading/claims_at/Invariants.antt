@@ -1,6 +1,6 @@
 use Rattle.teco_claims.proofs.Prelude.{◌≡◌, ◌++◌, ◌≤◌, ℕ, List, length, flat_map, AllByRecursion, codes, EndsClaims}
 use Rattle.teco_claims.proofs.Prelude.{IsClaim, line, terms_text, claim_line, ClaimTerm}
-use Rattle.teco_claims.proofs.Items.{AreLeft}
+use Rattle.teco_poly.proofs.Items.{AreLeft}
 use Rattle.teco_claims.proofs.reading.claims_at.Given as goal
 
 abbrev pub claim_rest : List ClaimTerm → List ℕ

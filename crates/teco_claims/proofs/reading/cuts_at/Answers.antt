@@ -1,7 +1,7 @@
 use Rattle.teco_claims.proofs.Prelude.{◌≡◌, ℕ, List, ◌++◌, ◌∷◌, [], Some, None, flat_map, arith, refl, Decides-eqb}
 use Rattle.teco_claims.proofs.Prelude.{strip_prefix_is, codes, ◌≢◌, IsCut, line, cut_words, cut_text}
 use Rattle.teco_claims.proofs.Claiming.{other_byte, ends_cuts}
-use Rattle.teco_claims.proofs.Items.{more_read, all_read}
+use Rattle.teco_poly.proofs.Items.{more_read, all_read}
 use Rattle.teco_claims.proofs.Rising.{all_and}
 use Rattle.teco_claims.proofs.reading.cuts_at.Goals as goal
 

@@ -1,6 +1,6 @@
 use Rattle.teco_claims.proofs.Prelude.{◌≡◌, ◌++◌, List, length, flat_map, AllByRecursion, codes, IsCut, line, cut_words}
 use Rattle.teco_claims.proofs.Prelude.{cut_text, AtCut}
-use Rattle.teco_claims.proofs.Items.{AreLeft}
+use Rattle.teco_poly.proofs.Items.{AreLeft}
 use Rattle.teco_claims.proofs.reading.cuts_at.Given as goal
 
 -- of whatever cut points there are, those that are read and those that are left are all

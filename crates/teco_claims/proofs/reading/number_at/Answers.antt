@@ -1,5 +1,6 @@
 use Rattle.teco_claims.proofs.Prelude.{is_ascii_digit, decimal}
-use Rattle.teco_claims.proofs.Fronts.{wide_digits, ends_number, split_front}
+use Rattle.teco_claims.proofs.Parts.{wide_digits}
+use Rattle.teco_poly.proofs.Fronts.{ends_number, split_front}
 use Rattle.teco_claims.proofs.reading.number_at.Goals as goal
 
 pub returns-clause-text : goal.returns-clause-text

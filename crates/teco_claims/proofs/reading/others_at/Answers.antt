@@ -2,7 +2,7 @@ use Rattle.teco_claims.proofs.Prelude.{◌≡◌, ℕ, List, ◌++◌, ◌∷◌
 use Rattle.teco_claims.proofs.Prelude.{Decides-eqb, strip_prefix_is, codes, ◌≢◌, LF, IsTerm, AreTerms, signed_text}
 use Rattle.teco_claims.proofs.Prelude.{next_text}
 use Rattle.teco_claims.proofs.Claiming.{other_byte, ends_next}
-use Rattle.teco_claims.proofs.Items.{more_read, all_read}
+use Rattle.teco_poly.proofs.Items.{more_read, all_read}
 use Rattle.teco_claims.proofs.Rising.{all_behind, terms_front}
 use Rattle.teco_claims.proofs.reading.others_at.Goals as goal
 

@@ -1,6 +1,6 @@
 use Rattle.teco_claims.proofs.Prelude.{◌≡◌, ◌++◌, ◌∷◌, ◌≤◌, ℕ, List, length, flat_map, AllByRecursion, codes, LF}
 use Rattle.teco_claims.proofs.Prelude.{IsTerm, AreTerms, signed_text, next_text, ClaimTerm}
-use Rattle.teco_claims.proofs.Items.{AreLeft}
+use Rattle.teco_poly.proofs.Items.{AreLeft}
 use Rattle.teco_claims.proofs.reading.others_at.Given as goal
 
 -- of whatever terms there are, those that are read and those that are left are all; those that are read stand in order

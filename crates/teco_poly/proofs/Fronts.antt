@@ -1,20 +1,17 @@
--- What stands at the front of a text, up to where it ends.
-use Rattle.teco_claims.proofs.Prelude.{◌≡◌, ℕ, zero, suc, ◌+◌, ◌^◌, ◌<◌, ◌≤◌, Bool, true, false, cond, List, [], ◌∷◌}
-use Rattle.teco_claims.proofs.Prelude.{◌++◌, length, take, sym, ap, ◌∙◌, refl, arith, ◌&&◌, decimal_is_IsNumeral_wide}
-use Rattle.teco_claims.proofs.Prelude.{is_ascii_digit, decimal, list_all, codes, ◌==◌, is_of_polynomial, Polynomial}
-use Rattle.teco_claims.proofs.Prelude.{IsPoly, EndsNumber, power_text, text}
-use Rattle.std.proofs.Common.{drop, rules}
+-- What stands at the front of a text, up to where it ends: bytes that pass a test, as those of a polynomial do.
+use Rattle.teco_poly.proofs.Prelude.{◌≡◌, ℕ, zero, suc, ◌+◌, ◌^◌, ◌<◌, ◌≤◌, Bool, true, false, List, [], ◌∷◌, ◌++◌}
+use Rattle.teco_poly.proofs.Prelude.{length, take, drop, sym, ap, ◌∙◌, refl, arith, is_ascii_digit, decimal, codes}
+use Rattle.teco_poly.proofs.Prelude.{◌==◌, ◌&&◌, all_ascii_digits, Polynomial, IsPoly, EndsNumber, power_text}
+use Rattle.teco_poly.proofs.Prelude.{coefficient_text, terms_from, joined}
+use Rattle.std.proofs.Common.{cond}
 use Rattle.std.specs.Bool.{⊤}
 use Rattle.std.proofs.lemmas.List.{take_at, drop_at}
 use Rattle.std.proofs.lemmas.List.Folds.{list_all-append}
-use Rattle.std.proofs.lemmas.Fmt.{digits_decimal}
-use Rattle.std.proofs.lemmas.Str.Parse.{IsNumeralModel, numerals_by_value}
-use Rattle.std.specs.List.{prefix_len}
-use Rattle.std.specs.Str.{all_ascii_digits}
-use Rattle.std.specs.Str.Parse.{digits_value}
-use Rattle.teco_claims.specs.Front.{EndsPolynomial}
+use Rattle.std.specs.List.{list_all, prefix_len}
+use Rattle.teco_poly.specs.Front.{is_of_polynomial, EndsPolynomial}
 use Rattle.teco_poly.specs.Reading.{AreSmall}
-use Rattle.teco_poly.specs.Text.{coefficient_text, term_text, terms_from, joined, joined_or_zero}
+use Rattle.teco_poly.specs.Text.{term_text, joined_or_zero, text}
+use Rattle.teco_poly.proofs.Digits as digits
 
 -- a test fails where a text begins
 abbrev pub Ends : (ℕ → Bool) → List ℕ → Type 0
@@ -47,22 +44,23 @@ module _ (test : ℕ → Bool) (words rest : List ℕ) (each : list_all test wor
     b ∙ ap (drop count) e ∙ drop_at words rest count (sym (count_is count is)),
   )
 
--- digits
-value_model : IsNumeralModel (λ ds. all_ascii_digits ds ≡ true) (digits_value 10)
-value_model = numerals_by_value _ (search rules)
+-- two fronts of one text are one
+pub one_front : (test : ℕ → Bool) (v w x y : List ℕ) → list_all test v ≡ true → list_all test w ≡ true → Ends test x
+    → Ends test y → v ++ x ≡ w ++ y → (v ≡ w) × (x ≡ y)
+one_front test v w x y each other ends ended e =
+    let split = split_front test w y other ended (v ++ x) e (length v) v x (sym (front_len test v x each ends))
+    (sym (take_at v x (length v) refl)) (sym (drop_at v x (length v) refl)) in
+    split
 
-are_digits : (ds : List ℕ) → all_ascii_digits ds ≡ true → list_all is_ascii_digit ds ≡ true
+-- digits
+pub are_digits : (ds : List ℕ) → all_ascii_digits ds ≡ true → list_all is_ascii_digit ds ≡ true
 are_digits [] each = refl
 are_digits (c ∷ ds) each =
     let parts = both (is_ascii_digit c) (all_ascii_digits ds) each in
     ap (λ b. b && list_all is_ascii_digit ds) parts.0 ∙ are_digits ds parts.1
 
 pub decimal_digits : (n : ℕ) → n < 2 ^ 64 → list_all is_ascii_digit (decimal n) ≡ true
-decimal_digits n small = are_digits (decimal n) (digits_decimal value_model n small)
-
-pub wide_digits : (n : ℕ) → n < 2 ^ 128 → list_all is_ascii_digit (decimal n) ≡ true
-wide_digits n small =
-    are_digits (decimal n) (value_model.from (decimal n) (decimal_is_IsNumeral_wide n (omega arith)).0.1)
+decimal_digits n small = are_digits (decimal n) (digits.decimal_digits n small)
 
 pub ends_number : (rest : List ℕ) → EndsNumber rest → Ends is_ascii_digit rest
 ends_number [] ends = tt
@@ -81,8 +79,8 @@ digits_pass (c ∷ ds) each =
 
 pub passes_append : (xs ys : List ℕ) → list_all is_of_polynomial xs ≡ true → list_all is_of_polynomial ys ≡ true
     → list_all is_of_polynomial (xs ++ ys) ≡ true
-passes_append xs ys left right =
-    list_all-append is_of_polynomial xs ys ∙ ap (λ b. b && list_all is_of_polynomial ys) left ∙ right
+passes_append xs ys left right = list_all-append is_of_polynomial xs ys
+    ∙ ap (λ b. b && list_all is_of_polynomial ys) left ∙ right
 
 decimal_passes : (n : ℕ) → n < 2 ^ 64 → list_all is_of_polynomial (decimal n) ≡ true
 decimal_passes n small = digits_pass (decimal n) (decimal_digits n small)
@@ -102,8 +100,8 @@ coefficient_passes c (suc k) small = by_test (c == 1)
     by_test false = passes_append (decimal c) (codes "*") (decimal_passes c small) refl
 
 term_passes : (c k : ℕ) → c < 2 ^ 64 → k < 2 ^ 64 → list_all is_of_polynomial (term_text c k) ≡ true
-term_passes c k small power =
-    passes_append (coefficient_text c k) (power_text k) (coefficient_passes c k small) (power_passes k power)
+term_passes c k small power = passes_append (coefficient_text c k) (power_text k) (coefficient_passes c k small)
+    (power_passes k power)
 
 terms_pass : (lead : List ℕ) (power : ℕ) (p : Polynomial) → list_all is_of_polynomial lead ≡ true → power + length p ≤ 9
     → AreSmall p → list_all is_of_polynomial (joined lead (terms_from power p)) ≡ true
@@ -114,8 +112,8 @@ terms_pass lead power (c ∷ p) passes few small =
   where
     by_test : (b : Bool) → list_all is_of_polynomial (joined lead (terms_from (suc power) p)) ≡ true
         → list_all is_of_polynomial (joined (codes " + ") (terms_from (suc power) p)) ≡ true
-        → list_all is_of_polynomial
-        (joined lead (cond b (terms_from (suc power) p) (term_text c power ∷ terms_from (suc power) p))) ≡ true
+        → list_all is_of_polynomial (joined lead
+        (cond b (terms_from (suc power) p) (term_text c power ∷ terms_from (suc power) p))) ≡ true
     by_test true same behind = same
     by_test false same behind =
         passes_append lead (term_text c power ++ joined (codes " + ") (terms_from (suc power) p)) passes

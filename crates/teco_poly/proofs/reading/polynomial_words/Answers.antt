@@ -1,6 +1,6 @@
-use Rattle.teco_claims.proofs.Prelude.{is_of_polynomial}
-use Rattle.teco_claims.proofs.Fronts.{ends_polynomial, split_front}
-use Rattle.teco_claims.proofs.reading.cut.Goals as goal
+use Rattle.teco_poly.specs.Front.{is_of_polynomial}
+use Rattle.teco_poly.proofs.Fronts.{ends_polynomial, split_front}
+use Rattle.teco_poly.proofs.reading.polynomial_words.Goals as goal
 
 pub returns-clause-text : goal.returns-clause-text
 returns-clause-text c = λ words rest each ends e.

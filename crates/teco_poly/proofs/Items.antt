@@ -1,7 +1,9 @@
 -- Items that stand behind a word each, and then an end that does not begin with the word: how they are read one by one.
-use Rattle.teco_certificate.proofs.Prelude.{◌≡◌, ℕ, List, [], ◌∷◌, ◌++◌, sym, ap, ◌∙◌, refl, append_assoc, flat_map}
-use Rattle.teco_certificate.proofs.Prelude.{append_cancel_left, AllByRecursion, ◌≢◌}
-use Rattle.std.proofs.lemmas.List.{append-nil}
+use Rattle.teco_poly.proofs.Prelude.{◌≡◌, ℕ, List, [], ◌∷◌, ◌++◌, sym, ap, ◌∙◌, refl, append_assoc}
+use Rattle.std.proofs.Common.{flat_map}
+use Rattle.std.proofs.lemmas.List.{append-nil, append_cancel_left}
+use Rattle.std.specs.List.{AllByRecursion}
+use Rattle.std.specs.Prelude.{◌≢◌}
 
 -- one more of which it holds
 pub all_and : {X : Type 0} (P : X → Type 0) (xs : List X) (x : X) → AllByRecursion P xs → P x

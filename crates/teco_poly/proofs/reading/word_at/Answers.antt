@@ -1,5 +1,7 @@
-use Rattle.teco_claims.proofs.Prelude.{Some, None, refl, sym, ◌∙◌, Decides-eqb, append_cancel_left, strip_prefix_is}
-use Rattle.teco_claims.proofs.reading.word_at.Goals as goal
+use Rattle.teco_poly.proofs.Prelude.{Some, None, refl, sym, ◌∙◌, Decides-eqb}
+use Rattle.std.proofs.lemmas.List.{append_cancel_left}
+use Rattle.std.proofs.lemmas.Slice.Eq.{strip_prefix_is}
+use Rattle.teco_poly.proofs.reading.word_at.Goals as goal
 
 pub returns-in-Some-clause-word : goal.returns-in-Some-clause-word
 returns-in-Some-clause-word c =
