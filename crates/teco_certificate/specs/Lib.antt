@@ -1,6 +1,5 @@
 -- A certificate's text, and what reading one gives.
 pub mod Text
 pub mod WellFormed
-pub mod Front
 pub mod Reads
 pub mod Laws

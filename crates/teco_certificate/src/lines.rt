@@ -19,7 +19,7 @@ use std::alloc::{AllocError, Global};
 use std::str;
 use teco_base::{REGISTERS, Reg};
 use teco_model::{ArgumentRange, Needs};
-pub use teco_poly::reading::{behind, word_at};
+use teco_poly::reading::{behind, word_at};
 
 /// Adds a line: a word that says what it has, and this.
 pub fn push_line(text: &mut Vec<u8>, word: &[u8], words: &[u8]) -> Result<(), AllocError>

@@ -2,7 +2,7 @@
 use Rattle.std.proofs.Common.{◌≡◌, ℕ, List, ◌∷◌, ◌++◌, refl, arith}
 use Rattle.std.specs.Prelude.{codes}
 use Rattle.teco_base.specs.declared.bytes.TheConstants.{LF}
-use Rattle.teco_certificate.specs.Front.{LacksWord}
+use Rattle.teco_poly.specs.Front.{LacksWord}
 use Rattle.teco_certificate.proofs.Spelling.{other_byte}
 
 -- the line of the rules is not that of an argument

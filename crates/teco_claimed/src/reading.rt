@@ -10,9 +10,10 @@ use crate::certificate::LinearCertificate;
 use std::alloc::Global;
 use teco_base::Reg;
 use teco_certificate::CertificateFault;
-use teco_certificate::lines::{argument_at, behind, behind_version, needs_at, register_at};
+use teco_certificate::lines::{argument_at, behind_version, needs_at, register_at};
 use teco_claims::{Claims, ClaimsFault};
 use teco_model::{ArgumentRange, Needs};
+use teco_poly::reading::behind;
 
 // What stands before the claims of a certificate, and their lines.
 #[derive(Clone, Copy)]
