@@ -3,10 +3,10 @@ use Rattle.teco_law_tables.proofs.Prelude.{◌≡◌, ℕ, zero, suc, ◌+◌, �
 use Rattle.teco_law_tables.proofs.Prelude.{refl, sym, ap, ◌∙◌, subst, arith, REGISTERS, Code, AreOutcomesAlike}
 use Rattle.teco_law_tables.proofs.Prelude.{IterationsEnd, BeginsPending, call_given, start_pending, NodesAreSound}
 use Rattle.teco_law_tables.proofs.Prelude.{AreOpen, start_given, LiesBelow, IsLong, Element, element_at, ArgumentRange}
-use Rattle.teco_law_tables.proofs.Prelude.{IsAsked, Ends, Reaches, run, Frames, Outcome, End, State, World, start}
+use Rattle.teco_law_tables.proofs.Prelude.{IsAsked, Ends, Reaches, Frames, Outcome, End, State, World, start}
 use Rattle.teco_law_tables.proofs.Prelude.{outcome_at, reply_of, step, needs_in}
 use Rattle.teco_law_tables.proofs.Described as described
-use Rattle.teco_law_tables.proofs.Described.{at_first, reaches_later, reaches_none, ready_call}
+use Rattle.teco_law_tables.proofs.Described.{at_first, ready_call}
 use Rattle.teco_law_tables.proofs.Ending as ending
 use Rattle.teco_law_tables.proofs.Ending.{ClosedCall, Course, course}
 use Rattle.teco_law_tables.proofs.Keeping.{end_stays}
@@ -15,6 +15,7 @@ use Rattle.teco_law_tables.proofs.Stacking.{lies_below}
 use Rattle.teco_law_tables.proofs.Sure.{settle_goes}
 use Rattle.teco_law_tables.proofs.Underway.{ElementsGo, element_here}
 use Rattle.teco_law_tables.proofs.Verifying as verifying
+use Rattle.teco_law_tables.proofs.Walking.{one_step, reaches_later, reaches_none}
 use Rattle.teco_law_tables.specs.Framing.{RunsLeaveBelow}
 
 -- ---- nothing is read where a run ends
@@ -79,17 +80,13 @@ module _ (calls : CallLaws) (entry n : ℕ) (world : World) (named : entry < REG
   abbrev first : State
   first = start (call_given entry (Some n)) world
 
-  one_step : Reaches 1 first digits.behind
-  unfolding run
-  one_step = digits.goes
-
   digits_below : LeavesBelow first
   digits_below zero new ends =
       let same = reaches_none first ends.last ends.steps in
       absurd (let k = sym digits.goes ∙ ap step same ∙ ends.end in cc)
   digits_below (suc k) new ends =
       let later : suc k ≡ 1 + k = omega arith in
-      let came = reaches_later 1 k first digits.behind ends.last one_step
+      let came = reaches_later 1 k first digits.behind ends.last (one_step first digits.behind digits.goes)
       (subst (λ k. Reaches k first ends.last) later ends.steps) in
       let other = other_next _ _ ends.last (calls.runs k digits.behind (start_pending entry n world) digits.alike) came
       in

@@ -24,7 +24,7 @@ use Rattle.teco_law_tables.proofs.Passing.{below_is, frames_starts, opened_lengt
 use Rattle.teco_law_tables.proofs.Standing.{ending as ends_innermost}
 use Rattle.teco_law_tables.proofs.Underway.{Goes, ElementsGo, element_here, one_state}
 use Rattle.teco_law_tables.proofs.Verifying as verifying
-use Rattle.teco_law_tables.proofs.Walking.{came_leads, same_next}
+use Rattle.teco_law_tables.proofs.Walking.{came_leads, reaches_here, reaches_none, same_next}
 
 -- ---- how many loops are open
 still_length : {X : Type 0} (end : X → ℕ) (j : ℕ) (xs : List X) → length (still_open end j xs) ≤ length xs
@@ -116,7 +116,7 @@ module _ (laws : ending.Laws) (sound : NodesAreSound) (bounded : TurnsAreBounded
     Moving = MovesOn library nodes table n below number at.here.node turns s g.passes.goes.target g.passes.next
 
     same_frames : (j : ℕ) (u : State) → j ≤ g.passes.before → Reaches j s u → u.frames ≡ s.frames
-    same_frames zero u l came = ap (λ (s : State). s.frames) (sym (described.reaches_none s u came))
+    same_frames zero u l came = ap (λ (s : State). s.frames) (sym (reaches_none s u came))
     same_frames (suc j) u l came = (g.amid (suc j) u (omega arith) l came).frames
 
     same_depth : (j : ℕ) (u : State) → j ≤ g.passes.before → Reaches j s u → depth_of u ≡ depth_of s
@@ -259,7 +259,7 @@ module _ (laws : ending.Laws) (sound : NodesAreSound) (bounded : TurnsAreBounded
           Counted depth (there number turns s at) count
       by (inl e) on = let z : End s.world ≡ Next run.0 = sym e ∙ run.2 in absurd (cc)
       by (inr g) on = through number turns s at g depth (suc k) 0 count s some (omega arith)
-          (ending.reached_first s) run (on g)
+          (reaches_here s) run (on g)
 
   -- ---- a step that enters an iteration
   module _ (number : ℕ) (turns : List OpenTurn) (begun : State) (at : At number turns begun)
@@ -330,7 +330,7 @@ module _ (laws : ending.Laws) (sound : NodesAreSound) (bounded : TurnsAreBounded
           let z : true ≡ false = sym (subst IsLong e long) ∙ ap is_long begin.kind_is in absurd (cc)
 
       alone : (i : ℕ) → j ≡ i → begun ≡ s
-      alone zero e = described.reaches_none begun s (subst (λ k. Reaches k begun s) e came)
+      alone zero e = reaches_none begun s (subst (λ k. Reaches k begun s) e came)
       alone (suc i) e =
           let reads = ap (λ (node : Node). node.element)
           (same_node nodes number at.here.node begin.node at.here.at begin.at) ∙ begin.reads in
@@ -380,7 +380,7 @@ module _ (laws : ending.Laws) (sound : NodesAreSound) (bounded : TurnsAreBounded
         → (step s ≡ End s.world) ⊎ Goes library entry nodes table n below number turns s at.here
         → TakesFewTurns library nodes table n below s t
     few_here number turns at (inl e) = let z : End s.world ≡ Next t = sym e ∙ enters.goes in absurd (cc)
-    few_here number turns at (inr g) = few_there number turns s at g 0 s t (omega arith) (ending.reached_first s) enters
+    few_here number turns at (inr g) = few_there number turns s at g 0 s t (omega arith) (reaches_here s) enters
 
     few_where : described.Comes laws c go s → TakesFewTurns library nodes table n below s t
     few_where (described.Here number turns at) =

@@ -1,14 +1,14 @@
 -- An element that begins where a run is described passes, by the laws of facts.
 use Rattle.teco_law_tables.proofs.Prelude.{◌≡◌, inl, inr, ℕ, suc, refl, sym, ap, ◌∙◌, subst, arith, Bool, true, false}
-use Rattle.teco_law_tables.proofs.Prelude.{Option, Some, None, Result, Ok, Err, is_some, option_map_or, stands, Kind}
-use Rattle.teco_law_tables.proofs.Prelude.{Page, Search, Element, element_at, Files, Reaches, Frames, State, Next, step}
-use Rattle.teco_law_tables.proofs.Prelude.{Library, IsLoaded, Needs, names_macro, position_of, position_of_frames}
+use Rattle.teco_law_tables.proofs.Prelude.{Option, Some, None, Result, Ok, Err, option_map_or, stands, Kind}
+use Rattle.teco_law_tables.proofs.Prelude.{Page, Search, Element, element_at, Reaches, Frames, State, Next, step}
+use Rattle.teco_law_tables.proofs.Prelude.{Library, IsLoaded, names_macro, position_of, position_of_frames}
 use Rattle.teco_law_tables.proofs.Prelude.{GoesTo, MovesFrom, Stayed, is_long, IsLeftAt, read_at, Polynomial, value}
 use Rattle.teco_law_tables.proofs.Prelude.{reaches_more, RefusalReason, KnownTaken, arguments_of, Run, IsWhole, Facts}
 use Rattle.teco_law_tables.proofs.Prelude.{steps, FitsOn, AreOpen, BeginsAt, KindEnds, Placed, answer_for, Edges}
 use Rattle.teco_law_tables.proofs.Prelude.{without_answer, edges_of, transfer, placed, edges_behind, edges_at, run_at}
 use Rattle.teco_law_tables.proofs.Prelude.{IsLong, IsLast, Alone, Again, steps_of, needs_in, is_of_files}
-use Rattle.teco_law_tables.proofs.Prelude.{NoFileCommands, AreAsOpen, FilesStayOpen, value_of}
+use Rattle.teco_law_tables.proofs.Prelude.{NoFileCommands, FilesStayOpen, value_of}
 use Rattle.std.specs.Prelude.{IsErr}
 use Rattle.teco_model.specs.declared.kind.Command.TheVariants as command
 use Rattle.teco_model.specs.declared.kind.Storage.{Storage}
@@ -34,6 +34,7 @@ use Rattle.teco_law_facts.specs.SoundSteps.{KindUnderway, IsUnderway}
 use Rattle.teco_law_facts.specs.SoundSteps.{StepsAreSound, LaterStepsAreSound}
 use Rattle.teco_law_tables.proofs.Ground.{Ground, Arrival}
 use Rattle.teco_law_tables.proofs.Coming.{HasLoop, element_comes}
+use Rattle.teco_law_tables.proofs.Staying.{open_as_before}
 use Rattle.teco_law_tables.proofs.Underway.{IsAmid, AreAmid, none_amid, more_amid, Goes}
 use Rattle.teco_law_tables.proofs.Walking.{reads_none, none_yet, none_more}
 
@@ -80,16 +81,6 @@ no_file : (x : Placed) (facts : Facts) (edges : Edges) → transfer x facts ≡ 
     → is_of_files x.element.kind ≡ false
 unfolding transfer
 no_file x facts edges h = kind_no_file x.element.kind x (answer_for x.element.kind facts) (without_answer facts) edges h
-
-some_there : {X : Type 0} (o : Option X) → is_some o ≡ true → (x : X) × (o ≡ Some x)
-some_there None h = absurd (cc)
-some_there (Some x) h = (x, refl)
-
-open_as_before : (need : Needs) (old new : Files) → AreAsOpen old new → AreOpen need old → AreOpen need new
-open_as_before need old new same files = record {
-  input = λ h. some_there new.input (same.input ∙ ap is_some (files.input h).1);
-  output = λ h. some_there new.output (same.output ∙ ap is_some (files.output h).1);
-}
 
 -- ---- an element that is underway is long
 page_long : (p : Page) → IsTurnOrWrite p → is_long (kind.Page p) ≡ true

@@ -11,7 +11,7 @@ use Rattle.teco_law_tables.proofs.Ending.{Course, ClosedCall, course}
 use Rattle.teco_law_tables.proofs.Verifying as verifying
 use Rattle.teco_law_tables.proofs.Underway.{Goes, ElementsGo, elements_pass}
 use Rattle.teco_law_tables.proofs.Stacking.{below_along, lies_below}
-use Rattle.teco_law_tables.proofs.Walking.{run_on}
+use Rattle.teco_law_tables.proofs.Walking.{reaches_later, reaches_none}
 
 -- ---- no state comes behind the end
 ended : (s : State) (world : World) (k : ℕ) → step s ≡ End world → run (suc k) s ≡ End world
@@ -21,13 +21,6 @@ ended s world (suc k) e = ap go_on (ended s world k e)
 
 pub not_ended : (s u : State) (world : World) (k : ℕ) → step s ≡ End world → Reaches (suc k) s u → ⊥
 not_ended s u world k e came = let z : End world ≡ Next u = sym (ended s world k e) ∙ came in absurd (cc)
-
-pub reaches_none : (s u : State) → Reaches 0 s u → s ≡ u
-unfolding run
-reaches_none s u came = cc
-
-pub reaches_later : (k m : ℕ) (s u v : State) → Reaches k s u → Reaches (k + m) s v → Reaches m u v
-reaches_later k m s u v came later = sym (run_on k s u came m) ∙ later
 
 module _ (laws : ending.Laws) (c : Course) (go : ElementsGo c.library c.entry c.nodes c.table c.n c.below c.first) where
   open c use {library, entry, nodes, table, n, below, first, zeroth, are, passes, begins}

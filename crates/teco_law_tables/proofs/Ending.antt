@@ -23,7 +23,8 @@ use Rattle.teco_law_tables.proofs.Going.{Target, AtNode, AtEnd, target_is}
 use Rattle.teco_law_tables.proofs.Lookup.{number_within, same_node}
 use Rattle.teco_law_tables.proofs.Standing.{iterations_are}
 use Rattle.teco_law_tables.proofs.Reading.{entry_checked, nodes_checked}
-use Rattle.teco_law_tables.proofs.Walking.{Came, came_on, came_takes, came_leads, reaches_on, none_yet, none_on}
+use Rattle.teco_law_tables.proofs.Walking.{Came, came_leads, came_on, came_takes, none_on, none_yet, reaches_here}
+use Rattle.teco_law_tables.proofs.Walking.{reaches_on}
 
 pub record Laws : Type 0 where
   pub bounded : RunsAreBounded
@@ -169,10 +170,6 @@ held_given : (argument : Option ArgumentRange) (n : ℕ) → value (facts_given 
 held_given None n = (values_of_constants n 0).1
 held_given (Some range) n = (values_of_constants n 0).1
 
-pub reached_first : (s : State) → Reaches 0 s s
-unfolding run
-reached_first s = refl
-
 -- the call of a macro with a closed table, in a world where it may be called
 pub record ClosedCall : Type 0 where
   pub library : Library
@@ -316,7 +313,7 @@ module _ (call : ClosedCall) where
   at_first laws pass files = record {
     total = 0;
     moves = 1;
-    reached = reached_first first;
+    reached = reaches_here first;
     here = described;
     came = came_first;
     files = files;

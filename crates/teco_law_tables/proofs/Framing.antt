@@ -8,12 +8,13 @@ use Rattle.std.proofs.Common.{◌≢◌}
 use Rattle.teco_law_expansion.proofs.Runs.{over_reads}
 use Rattle.teco_law_expansion.specs.Loaded.{KeepsBy, StepsKeep}
 use Rattle.teco_law_tables.proofs.Described as described
-use Rattle.teco_law_tables.proofs.Described.{at_first, reaches_later, reaches_none, ready_call}
+use Rattle.teco_law_tables.proofs.Described.{at_first, ready_call}
 use Rattle.teco_law_tables.proofs.Ending as ending
 use Rattle.teco_law_tables.proofs.Ending.{ClosedCall, Course, course}
 use Rattle.teco_law_tables.proofs.Pending.{CallLaws, other_next}
 use Rattle.teco_law_tables.proofs.Underway.{ElementsGo}
 use Rattle.teco_law_tables.proofs.Verifying as verifying
+use Rattle.teco_law_tables.proofs.Walking.{one_step, reaches_later, reaches_none}
 use Rattle.teco_law_tables.specs.Framing.{IsFramed, NoneNames, NoneSetsMode, RunsAreFramed, named_in, sets_mode_in}
 
 -- what is read is of a node, or nothing is
@@ -124,10 +125,6 @@ module _ (calls : CallLaws) (nodes : List Node) (entry n : ℕ) (world : World) 
       subst (λ (w : World). IsFramed nodes world.kept w.kept) (sym other.alike.world)
       (framed k other.state other.is)
 
-  one_step : Reaches 1 first digits.behind
-  unfolding run
-  one_step = digits.goes
-
   digits_framed : (steps : ℕ) (s : State) → Reaches steps first s → IsFramed nodes world.kept s.world.kept
   digits_framed zero s came =
       subst (λ (s : State). IsFramed nodes world.kept s.world.kept) (reaches_none first s came)
@@ -135,7 +132,8 @@ module _ (calls : CallLaws) (nodes : List Node) (entry n : ℕ) (world : World) 
   digits_framed (suc k) s came =
       let later : suc k ≡ 1 + k = omega arith in
       behind_framed k s
-      (reaches_later 1 k first digits.behind s one_step (subst (λ k. Reaches k first s) later came))
+      (reaches_later 1 k first digits.behind s (one_step first digits.behind digits.goes)
+      (subst (λ k. Reaches k first s) later came))
 
 call_framed : (calls : CallLaws) (nodes : List Node) (entry : ℕ) (argument : Option ArgumentRange) (given : Option ℕ)
     (world : World) → entry < REGISTERS → IsAsked argument given

@@ -1,6 +1,6 @@
 -- Lemmas of the laws.
 mod Prelude
-mod Lookup
+pub mod Lookup
 mod Counting
 mod Standing
 mod Reading
@@ -8,22 +8,22 @@ mod Entering
 mod Closing
 mod Leaving
 mod Passing
-mod Pending
+pub mod Pending
 mod Ground
 mod Going
 mod Entered
 mod Returned
 mod Steps
-mod Walking
+pub mod Walking
 mod Underway
 mod Ending
 mod Worked
 mod Coming
 mod Fitting
-mod Leading
+pub mod Leading
 mod Edging
 mod Inside
-mod Staying
+pub mod Staying
 mod Completing
 mod Verifying
 mod Stacking

@@ -1,19 +1,29 @@
 -- A run that begins with an argument's digits ends as one where it is pending already.
 use Rattle.teco_law_tables.proofs.Prelude.{◌≡◌, ℕ, ◌+◌, ◌<◌, ◌^◌, refl, sym, ap, ◌∙◌, subst, arith, false, Option, Some}
-use Rattle.teco_law_tables.proofs.Prelude.{None, option_map_or, REGISTERS, Element, Reaches, Ends, run, World, State}
-use Rattle.teco_law_tables.proofs.Prelude.{Outcome, Next, End, start, AreOutcomesAlike, call_given, start_pending}
-use Rattle.teco_law_tables.proofs.Prelude.{BeginsPending, EndsWithin, is_of_files, changes_files, NoFileCommands}
+use Rattle.teco_law_tables.proofs.Prelude.{None, option_map_or, ints, REGISTERS, ArgumentRange, IsAsked, Element, Ends}
+use Rattle.teco_law_tables.proofs.Prelude.{World, State, Outcome, Next, End, start, AreOutcomesAlike, call_given}
+use Rattle.teco_law_tables.proofs.Prelude.{start_pending, BeginsPending, EndsWithin, is_of_files, changes_files}
+use Rattle.teco_law_tables.proofs.Prelude.{NoFileCommands, arguments_given}
 use Rattle.std.proofs.Common.{option_map}
 use Rattle.teco_law_expansion.specs.Alike.{AreAlike, StepsAreAlike, RunsAreAlike, ReadingsAreAlike}
 use Rattle.teco_law_expansion.specs.Alike.{kind_of}
 use Rattle.teco_law_expansion.specs.Given.{NumbersArePending}
-use Rattle.teco_law_tables.proofs.Walking.{reaches_on, reads_none, none_yet, none_more, none_on}
+use Rattle.teco_law_facts.specs.Wholeness.{AreWholeArguments}
+use Rattle.teco_law_tables.proofs.Walking.{none_more, none_on, none_yet, one_step, reads_none, reaches_here, reaches_on}
 
 pub record CallLaws : Type 0 where
   pub steps : StepsAreAlike
   pub runs : RunsAreAlike
   pub readings : ReadingsAreAlike
   pub pending : NumbersArePending
+
+-- ---- an argument that is asked for is whole
+pub argument_whole : (argument : Option ArgumentRange) (given : Option ℕ) → IsAsked argument given
+    → AreWholeArguments (arguments_given given)
+argument_whole None None asked = record { level = record { first = tt; value = tt }; outer = tt }
+argument_whole (Some range) (Some n) asked =
+    record { level = record { first = tt; value = omega (arith, ints, asked.small) }; outer = tt }
+argument_whole argument given asked = absurd (grind arith)
 
 -- ---- outcomes that are alike
 record NextAlike (one : Outcome) (last : State) : Type 0 where
@@ -70,39 +80,37 @@ module _ (laws : CallLaws) (s t : State) (alike : AreAlike s t) where
       }
 
 -- ---- the step of the digits
-module _ (laws : CallLaws) (entry n : ℕ) (world : World) (steps : ℕ) (named : entry < REGISTERS) (small : n < 2 ^ 31)
-    (ends : EndsWithin (start_pending entry n world) steps) where
+module _ (laws : CallLaws) (entry n : ℕ) (world : World) (named : entry < REGISTERS) (small : n < 2 ^ 31) where
   abbrev first : State
   first = start (call_given entry (Some n)) world
 
   digits : BeginsPending entry n world
   digits = laws.pending entry n world named small
 
-  reached : Reaches 1 first digits.behind
-  unfolding run
-  reached = digits.goes
-
-  not_yet : Reaches 0 first first
-  unfolding run
-  not_yet = refl
-
   none_first : NoFileCommands first 1
-  none_first = none_more 0 first first (none_yet first) not_yet
+  none_first = none_more 0 first first (none_yet first) (reaches_here first)
       (reads_none first (Some digits.digits) digits.reads (ap is_of_files digits.are_digits))
 
-  pub given_ends : EndsWithin first (1 + steps)
-  given_ends =
-      let later = ends_alike laws digits.behind (start_pending entry n world) digits.alike ends.steps ends.new ends.ends
-      in
+  pub none_given : (steps : ℕ) → NoFileCommands (start_pending entry n world) steps → NoFileCommands first (1 + steps)
+  none_given steps none =
+      none_on 1 steps first digits.behind none_first (one_step first digits.behind digits.goes)
+      (none_alike laws digits.behind (start_pending entry n world) digits.alike steps none)
+
+  pub ends_given : (steps : ℕ) (new : World) → Ends (start_pending entry n world) steps new → Ends first (1 + steps) new
+  ends_given steps new ends =
+      let later = ends_alike laws digits.behind (start_pending entry n world) digits.alike steps new ends in
+      let goes = one_step first digits.behind digits.goes in
       record {
-        steps = 1 + ends.steps;
-        new = ends.new;
-        few = omega (arith, ends.few);
-        none = none_on 1 ends.steps first digits.behind none_first reached
-            (none_alike laws digits.behind (start_pending entry n world) digits.alike ends.steps ends.none);
-        ends = record {
-          last = later.last;
-          steps = reaches_on 1 ends.steps first digits.behind later.last reached later.steps;
-          end = later.end;
-        };
+        last = later.last;
+        steps = reaches_on 1 steps first digits.behind later.last goes later.steps;
+        end = later.end;
       }
+
+  pub given_ends : (steps : ℕ) → EndsWithin (start_pending entry n world) steps → EndsWithin first (1 + steps)
+  given_ends steps ends = record {
+    steps = 1 + ends.steps;
+    new = ends.new;
+    few = omega (arith, ends.few);
+    none = none_given ends.steps ends.none;
+    ends = ends_given ends.steps ends.new ends.ends;
+  }

@@ -1,7 +1,8 @@
 -- Files stay as open as they are, through each step whose element is no command of files.
 use Rattle.teco_law_tables.proofs.Prelude.{◌≡◌, ℕ, ◌≤◌, suc, List, [], ◌∷◌, length, Bool, true, false, ◌==◌}
-use Rattle.teco_law_tables.proofs.Prelude.{if◌then◌else◌, arith, is_some, Option, Some, None, Ok, refl, sym, ◌∙◌, subst}
-use Rattle.teco_law_tables.proofs.Prelude.{Kind, Element, Files, World, changes_files, AreAsOpen, FilesStayOpen}
+use Rattle.teco_law_tables.proofs.Prelude.{if◌then◌else◌, arith, is_some, Option, Some, None, Ok, refl, sym, ap, ◌∙◌}
+use Rattle.teco_law_tables.proofs.Prelude.{subst, Kind, Element, Files, World, Needs, AreOpen, changes_files, AreAsOpen}
+use Rattle.teco_law_tables.proofs.Prelude.{FilesStayOpen}
 use Rattle.std.specs.Option.{option_map}
 use Rattle.teco_base.specs.declared.bytes.TheConstants.{FF}
 use Rattle.teco_model.proofs.upkeep.Replies.{kept_by_step}
@@ -76,3 +77,14 @@ pub files_stay_open : FilesStayOpen
 files_stay_open s t read none reads goes =
     kept_by_step s t (λ (world : World). AreAsOpen s.world.files world.files) read reads
     (survives s.world.files read none) (same s.world.files) goes
+
+-- what is asked to be open is so, where all is as open as before
+some_there : {X : Type 0} (o : Option X) → is_some o ≡ true → (x : X) × (o ≡ Some x)
+some_there None h = absurd (cc)
+some_there (Some x) h = (x, refl)
+
+pub open_as_before : (need : Needs) (old new : Files) → AreAsOpen old new → AreOpen need old → AreOpen need new
+open_as_before need old new same files = record {
+  input = λ h. some_there new.input (same.input ∙ ap is_some (files.input h).1);
+  output = λ h. some_there new.output (same.output ∙ ap is_some (files.output h).1);
+}

@@ -1,14 +1,14 @@
 -- A macro whose table is closed runs to its end in time.
 use Rattle.teco_law_tables.proofs.Prelude.{◌≡◌, ◌⊎◌, inl, inr, ℕ, zero, suc, ◌+◌, ◌<◌, ◌≤◌, refl, sym, ap, ◌∙◌, subst}
 use Rattle.teco_law_tables.proofs.Prelude.{arith, List, [], ◌∷◌, map, Bool, true, false, ◌||◌, Option, Some, None}
-use Rattle.teco_law_tables.proofs.Prelude.{Result, Ok, Err, slice_get, rules, IsTrue, option_map_or, ints, Loop}
+use Rattle.teco_law_tables.proofs.Prelude.{Result, Ok, Err, slice_get, rules, IsTrue, option_map_or, Loop}
 use Rattle.teco_law_tables.proofs.Prelude.{Element, element_at, Files, Reaches, run, go_on, has_colon, World, Kept}
 use Rattle.teco_law_tables.proofs.Prelude.{Frame, State, Outcome, Next, End, start, frame_of, end_outcome, end_of_text}
 use Rattle.teco_law_tables.proofs.Prelude.{outcome_at, step, AreClosed, IterationsEnd, Library, ArgumentRange, IsAsked}
 use Rattle.teco_law_tables.proofs.Prelude.{Needs, AreLinked, NodesAreSound, Node, stands, numbered, Spot, Position}
 use Rattle.teco_law_tables.proofs.Prelude.{start_of, GoesTo, MovesFrom, Stayed, IsLeftAt, ways_at, values_of_constants}
 use Rattle.teco_law_tables.proofs.Prelude.{unread_of, Alone, run_along, value_of, turning, Polynomial, value}
-use Rattle.teco_law_tables.proofs.Prelude.{LIMIT, REGISTERS, Arguments, steps_in, call_given, arguments_given, Run}
+use Rattle.teco_law_tables.proofs.Prelude.{LIMIT, REGISTERS, Arguments, steps_in, call_given, Run}
 use Rattle.teco_law_tables.proofs.Prelude.{Describes, without_answer, Facts, Edges, no_needs, needs, AreOpen, BeginsAt}
 use Rattle.teco_law_tables.proofs.Prelude.{left_by, placed, edges_behind, edges_at, along, closed_behind, EndsWithin}
 use Rattle.teco_law_tables.proofs.Prelude.{start_given, RunsEndInTime, run_at, steps_before, steps_of, needs_from}
@@ -20,7 +20,7 @@ use Rattle.teco_law_expansion.specs.Run.{Went}
 use Rattle.teco_verifier.specs.expansion.Ways.{return_ways}
 use Rattle.teco_verifier.specs.facts.Transfer.{transfer_return}
 use Rattle.teco_law_facts.specs.SoundSteps.{ElementsAreNamed}
-use Rattle.teco_law_facts.specs.Wholeness.{AreBytes, AreWholeArguments, IsWholeWorld, IsWholeState, IsWholeOutcome}
+use Rattle.teco_law_facts.specs.Wholeness.{AreBytes, IsWholeWorld, IsWholeState, IsWholeOutcome}
 use Rattle.teco_law_facts.specs.Wholeness.{WholeIsKept}
 use Rattle.teco_verifier.specs.table.Printed.{needs_of, known_needs}
 use Rattle.teco_law_tables.specs.Verified.{RunsAreVerified}
@@ -31,7 +31,7 @@ use Rattle.teco_law_tables.proofs.Fitting.{steps_known, facts_fit}
 use Rattle.teco_law_tables.proofs.Going.{where_checked}
 use Rattle.teco_law_tables.proofs.Inside.{stands as stands_there, search_inside}
 use Rattle.teco_law_tables.proofs.Counting.{commands_are_steps}
-use Rattle.teco_law_tables.proofs.Pending.{CallLaws, given_ends}
+use Rattle.teco_law_tables.proofs.Pending.{CallLaws, argument_whole, given_ends}
 use Rattle.teco_law_tables.proofs.Reading.{nodes_checked}
 use Rattle.teco_law_tables.proofs.Underway.{element_here, none_amid, Goes, ElementsGo, elements_pass}
 use Rattle.teco_law_tables.proofs.Walking.{reads_none, none_yet, none_more}
@@ -256,13 +256,6 @@ module _ (laws : Laws) (ground : Ground) (closed : AreClosed ground.nodes)
     passes_here = by_read here.node.element refl
 
 -- ---- the start
-argument_whole : (argument : Option ArgumentRange) (given : Option ℕ) → IsAsked argument given
-    → AreWholeArguments (arguments_given given)
-argument_whole None None asked = record { level = record { first = tt; value = tt }; outer = tt }
-argument_whole (Some range) (Some n) asked =
-    record { level = record { first = tt; value = omega (arith, ints, asked.small) }; outer = tt }
-argument_whole argument given asked = absurd (grind arith)
-
 start_whole : Laws → (entry : ℕ) (argument : Option ArgumentRange) (given : Option ℕ) (world : World)
     → IsAsked argument given → AreBytes (call_of entry) → IsWholeWorld world
     → IsWholeState (start_given entry given world)
@@ -276,7 +269,7 @@ in_all : (laws : Laws) (calls : CallLaws) (entry : ℕ) (argument : Option Argum
 in_all laws calls entry None None world steps most named asked all ends = search arith
 in_all laws calls entry (Some range) (Some n) world steps most named asked all ends =
     subst (EndsWithin (start (call_given entry (Some n)) world)) all
-    (given_ends calls entry n world steps named asked.small ends)
+    (given_ends calls entry n world named asked.small steps ends)
 in_all laws calls entry argument given world steps most named asked all ends = absurd (grind arith)
 
 pub elements_go : (laws : Laws) → IterationsEnd

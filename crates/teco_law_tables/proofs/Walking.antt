@@ -1,7 +1,7 @@
 -- Runs that come to a state, move by move.
 use Rattle.teco_law_tables.proofs.Prelude.{◌≡◌, ◌⊎◌, inl, inr, ℕ, zero, suc, ◌+◌, ◌-◌, ◌≤◌, ◌<◌, refl, sym, ap, ◌∙◌}
 use Rattle.teco_law_tables.proofs.Prelude.{subst, arith, false, Option, Result, Ok, cases_order, Shown, Move, Code}
-use Rattle.teco_law_tables.proofs.Prelude.{Element, element_at, Reaches, run, go_on, State, Next, changes_files}
+use Rattle.teco_law_tables.proofs.Prelude.{Element, element_at, Reaches, run, go_on, State, Next, step, changes_files}
 use Rattle.teco_law_tables.proofs.Prelude.{ReadsNoFileCommand, NoFileCommands}
 use Rattle.teco_law_turns.specs.Moves.{RunTakes}
 use Rattle.teco_law_turns.specs.Table.{Table as Numbers}
@@ -41,7 +41,7 @@ came_leads t zero s last total c = c.0
 came_leads t (suc moves) s last total c = (c.0, c.3, came_leads t moves c.0 last c.2 c.5)
 
 -- steps behind steps
-pub run_on : (k : ℕ) (s u : State) → Reaches k s u → (m : ℕ) → run (k + m) s ≡ run m u
+run_on : (k : ℕ) (s u : State) → Reaches k s u → (m : ℕ) → run (k + m) s ≡ run m u
 unfolding run
 run_on k s u h zero = let z : k + 0 ≡ k = omega arith in rw z h
 run_on k s u h (suc m) = let z : k + suc m ≡ suc (k + m) = omega arith in rw z (ap go_on (run_on k s u h m))
@@ -49,8 +49,23 @@ run_on k s u h (suc m) = let z : k + suc m ≡ suc (k + m) = omega arith in rw z
 pub reaches_on : (k m : ℕ) (s u v : State) → Reaches k s u → Reaches m u v → Reaches (k + m) s v
 reaches_on k m s u v h g = run_on k s u h m ∙ g
 
+pub reaches_later : (k m : ℕ) (s u v : State) → Reaches k s u → Reaches (k + m) s v → Reaches m u v
+reaches_later k m s u v came later = sym (run_on k s u came m) ∙ later
+
 pub same_next : (a b : State) → Next a ≡ Next b → a ≡ b
 same_next a b e = cc
+
+pub reaches_here : (s : State) → Reaches 0 s s
+unfolding run
+reaches_here s = refl
+
+pub reaches_none : (s t : State) → Reaches 0 s t → s ≡ t
+unfolding run
+reaches_none s t came = same_next s t came
+
+pub one_step : (s t : State) → step s ≡ Next t → Reaches 1 s t
+unfolding run
+one_step s t e = e
 
 -- ---- no command of files is read on the way
 one_read : (r : Result (Option Element) Code) (read other : Option Element) → r ≡ Ok read → r ≡ Ok other → read ≡ other

@@ -8,7 +8,7 @@ use Rattle.teco_paths.proofs.Prelude.{value, ArgumentRange, IsAsked, Pair, text_
 use Rattle.teco_paths.proofs.Prelude.{PushedNumber, PushedLength, First, Value, Measure, One, Each, place, Point}
 use Rattle.teco_paths.proofs.Prelude.{from_end, measures_of, number_of, length_of, CutState, AreThere, IsEntered}
 use Rattle.teco_paths.proofs.Prelude.{IsEntryClaim, IsEntryCut, is_there, used_lengths, family_of, measure_of}
-use Rattle.teco_paths.proofs.Prelude.{numbers_of, single_of, arguments_given, steps_before}
+use Rattle.teco_paths.proofs.Prelude.{numbers_of, single_of, steps_before}
 use Rattle.std.proofs.Common.{eqb-true}
 use Rattle.std.specs.Prelude.{option_map}
 use Rattle.std.specs.Prelude.{slice_index_or, ◌&&◌}
@@ -21,6 +21,7 @@ use Rattle.teco_rows.specs.States.{levels, operators_of}
 use Rattle.teco_paths.specs.Entry.{IsEntryBound, family_is_there}
 use Rattle.teco_paths.specs.Entry.{length_if}
 use Rattle.teco_paths.proofs.Symbols.{measure_again}
+use Rattle.teco_verifier.specs.facts.Argument.{arguments_given}
 
 -- ---- which measures are there
 is_got : {X : Type 0} (xs : List X) (i : ℕ) → i < length xs → is_some (slice_get xs i) ≡ true

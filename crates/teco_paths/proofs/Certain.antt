@@ -1,16 +1,14 @@
 -- Every run of a macro whose claims hang together ends in time.
 use Rattle.teco_paths.proofs.Prelude.{◌≡◌, ℕ, zero, suc, ◌+◌, ◌≤◌, ◌<◌, ◌^◌, refl, sym, ap, ◌∙◌, subst, arith, length}
-use Rattle.teco_paths.proofs.Prelude.{false, Option, Some, None, option_map, List, [], ◌∷◌, map, ints, All}
-use Rattle.teco_paths.proofs.Prelude.{option_map_or, REGISTERS, AreLinked, AreOpen, is_of_files, changes_files}
-use Rattle.teco_paths.proofs.Prelude.{NoFileCommands, Element, Library, ArgumentRange, IsAsked, IsLoaded, Needs}
-use Rattle.teco_paths.proofs.Prelude.{Reaches, State, Outcome, Next, End, Case, point_of, CutState, IsCaseOf, IsEntered}
-use Rattle.teco_paths.proofs.Prelude.{IsEntryCut, Course, IsFollowed, Leads, Ground, IsAt, EndsBy, held_in, IsCertain}
-use Rattle.teco_paths.proofs.Prelude.{numbers_of, Polynomial, most_typed, Node, arguments_given, steps_before}
+use Rattle.teco_paths.proofs.Prelude.{Option, Some, None, option_map, List, [], ◌∷◌, map, All, option_map_or, REGISTERS}
+use Rattle.teco_paths.proofs.Prelude.{AreLinked, AreOpen, Library, ArgumentRange, IsAsked, IsLoaded, Needs, Reaches}
+use Rattle.teco_paths.proofs.Prelude.{State, Case, point_of, CutState, IsCaseOf, IsEntered, IsEntryCut, Course}
+use Rattle.teco_paths.proofs.Prelude.{IsFollowed, Leads, Ground, IsAt, EndsBy, held_in, IsCertain, numbers_of}
+use Rattle.teco_paths.proofs.Prelude.{Polynomial, most_typed, Node, steps_before}
 use Rattle.std.specs.Prelude.{slice_index_or}
-use Rattle.teco_law_expansion.specs.Alike.{AreAlike, AreOutcomesAlike, StepsAreAlike, RunsAreAlike, ReadingsAreAlike}
-use Rattle.teco_law_expansion.specs.Alike.{kind_of}
-use Rattle.teco_law_expansion.specs.Given.{call_given, start_pending, BeginsPending, NumbersArePending}
-use Rattle.teco_law_facts.specs.Wholeness.{AreWholeArguments}
+use Rattle.teco_law_expansion.specs.Given.{call_given, start_pending, BeginsPending}
+use Rattle.teco_law_tables.proofs.Pending.{CallLaws, argument_whole, ends_given, none_given, other_next}
+use Rattle.teco_law_tables.proofs.Walking.{one_step, reaches_here, reaches_later, reaches_none}
 use Rattle.teco_law_tables.specs.Ending.{start_given}
 use Rattle.teco_law_tables.specs.Verified.{IsReady, n_of}
 use Rattle.teco_model.specs.Files.{Input}
@@ -22,8 +20,6 @@ use Rattle.teco_paths.specs.Entry.{HaveLengths}
 use Rattle.teco_paths.specs.Paths as paths
 use Rattle.teco_paths.specs.Sure.{AreLengths, CertainEnd}
 use Rattle.teco_paths.proofs.Ending.{run_ends}
-use Rattle.teco_paths.proofs.Walking.{none_more, none_on, none_yet, one_step, reached_none, reaches_here, reaches_on}
-use Rattle.teco_paths.proofs.Walking.{reads_none, run_on}
 use Rattle.teco_poly.specs.Polynomial.{value}
 use Rattle.teco_verifier.specs.expansion.Node.{beginning}
 
@@ -44,13 +40,6 @@ have_lengths : (library : Library) (lengths : List (Option ℕ)) (kept : Kept) �
 have_lengths library lengths kept are loaded r long h =
     let m = mapped_some library r long (ap (λ all. slice_index_or all r None) are ∙ h) in
     ap length (loaded.holds r m.0 m.1) ∙ m.2
-
-argument_whole : (argument : Option ArgumentRange) (given : Option ℕ) → IsAsked argument given
-    → AreWholeArguments (arguments_given given)
-argument_whole None None asked = record { level = record { first = tt; value = tt }; outer = tt }
-argument_whole (Some range) (Some n) asked =
-    record { level = record { first = tt; value = omega (arith, ints, asked.small) }; outer = tt }
-argument_whole argument given asked = absurd (grind arith)
 
 module _ (course : Course) (argument : Option ArgumentRange) (cut : CutState) (case : Case)
     (is_case : IsCaseOf course.size cut case) (is_entry : IsEntryCut course.lengths argument cut)
@@ -106,71 +95,6 @@ module _ (course : Course) (argument : Option ArgumentRange) (cut : CutState) (c
       )
 
 -- ---- the digits before the call
-pub record CallLaws : Type 0 where
-  pub steps : StepsAreAlike
-  pub runs : RunsAreAlike
-  pub readings : ReadingsAreAlike
-  pub pending : NumbersArePending
-
-record NextAlike (one : Outcome) (last : State) : Type 0 where
-  state : State
-  is : one ≡ Next state
-  alike : AreAlike state last
-
-next_alike : (one other : Outcome) (last : State) → AreOutcomesAlike one other → other ≡ Next last → NextAlike one last
-next_alike (Next s) (Next t) last a e =
-    let same : t ≡ last = cc in
-    record { state = s; is = refl; alike = subst (AreAlike s) same a }
-next_alike one other last a e = absurd (grind arith)
-
-end_alike : (one other : Outcome) (new : World) → AreOutcomesAlike one other → other ≡ End new → one ≡ End new
-end_alike (End w) (End v) new a e = ap End a ∙ e
-end_alike one other new a e = absurd (grind arith)
-
-record OtherNext (other : Outcome) (first : State) : Type 0 where
-  state : State
-  is : other ≡ Next state
-  alike : AreAlike first state
-
-other_next : (one other : Outcome) (first : State) → AreOutcomesAlike one other → one ≡ Next first
-    → OtherNext other first
-other_next (Next s) (Next t) first a e =
-    let same : s ≡ first = cc in
-    record { state = t; is = refl; alike = subst (λ s. AreAlike s t) same a }
-other_next one other first a e = absurd (grind arith)
-
-files_by : (read : Option Element) → changes_files read ≡ option_map_or is_of_files (option_map kind_of read) false
-files_by None = refl
-files_by (Some e) = refl
-
-same_files : (read other : Option Element) → option_map kind_of read ≡ option_map kind_of other
-    → changes_files read ≡ changes_files other
-same_files read other kinds =
-    files_by read ∙ (ap (λ k. option_map_or is_of_files k false) kinds ∙ sym (files_by other))
-
-module _ (laws : CallLaws) (s t : State) (alike : AreAlike s t) where
-  none_alike : (steps : ℕ) → NoFileCommands t steps → NoFileCommands s steps
-  none_alike steps none k u less came read reads =
-      let there = other_next _ _ u (laws.runs k s t alike) came in
-      let other = laws.readings u there.state read there.alike reads in
-      same_files read other.other other.kinds ∙ none k there.state less there.is other.other other.reads
-
-  ends_alike : (steps : ℕ) (new : World) → Ends t steps new → Ends s steps new
-  ends_alike steps new ends =
-      let there = next_alike _ _ ends.last (laws.runs steps s t alike) ends.steps in
-      record {
-        last = there.state;
-        steps = there.is;
-        end = end_alike _ _ new (laws.steps there.state ends.last there.alike) ends.end;
-      }
-
-  held_alike : (held k : ℕ) (u : State) → ((v : State) → Reaches k t v → held_in v ≤ held) → Reaches k s u
-      → held_in u ≤ held
-  held_alike held k u small came =
-      let there = other_next _ _ u (laws.runs k s t alike) came in
-      subst (λ (w : World). length w.kept.text + unread_in w.files.input ≤ held) (sym there.alike.world)
-      (small there.state there.is)
-
 module _ (laws : CallLaws) (entry n : ℕ) (world : World) (most held : ℕ) (typed : Option ℕ)
     (named : entry < REGISTERS) (small : n < 2 ^ 31)
     (ends : EndsBy most held typed 1 (start_pending entry n world)) where
@@ -180,42 +104,32 @@ module _ (laws : CallLaws) (entry n : ℕ) (world : World) (most held : ℕ) (ty
   digits : BeginsPending entry n world
   digits = laws.pending entry n world named small
 
-  none_first : NoFileCommands called 1
-  none_first =
-      none_more 0 called called (none_yet called) (reaches_here called)
-      (reads_none called (Some digits.digits) digits.reads (ap is_of_files digits.are_digits))
+  held_behind : (k : ℕ) (u : State) → k ≤ ends.more → Reaches k digits.behind u → held_in u ≤ held
+  held_behind k u least came =
+      let there = other_next _ _ u (laws.runs k digits.behind (start_pending entry n world) digits.alike) came in
+      subst (λ (w : World). length w.kept.text + unread_in w.files.input ≤ held) (sym there.alike.world)
+      (ends.small k there.state least there.is)
 
   held_on : (k : ℕ) (u : State) → k ≤ 1 + ends.more → Reaches k called u → held_in u ≤ held
   held_on zero u least r =
-      subst (λ v. held_in v ≤ held) (reached_none called u r)
+      subst (λ v. held_in v ≤ held) (reaches_none called u r)
       (ends.small 0 (start_pending entry n world) (omega arith) (reaches_here (start_pending entry n world)))
   held_on (suc k) u least r =
       let e : suc k ≡ 1 + k = omega arith in
-      held_alike laws digits.behind (start_pending entry n world) digits.alike held k u
-      (λ v came. ends.small k v (omega (arith, least)) came)
-      (sym (run_on 1 called digits.behind (one_step called digits.behind digits.goes) k)
-      ∙ subst (λ k. Reaches k called u) e r)
+      held_behind k u (omega (arith, least))
+      (reaches_later 1 k called digits.behind u (one_step called digits.behind digits.goes)
+      (subst (λ k. Reaches k called u) e r))
 
   pub digits_end : EndsBy most held typed 0 called
-  digits_end =
-      let first = one_step called digits.behind digits.goes in
-      let later = ends_alike laws digits.behind (start_pending entry n world) digits.alike ends.more ends.new ends.ends
-      in
-      record {
-        more = 1 + ends.more;
-        new = ends.new;
-        within = omega (arith, ends.within);
-        none =
-            none_on 1 ends.more called digits.behind none_first first
-            (none_alike laws digits.behind (start_pending entry n world) digits.alike ends.more ends.none);
-        small = held_on;
-        types = ends.types;
-        ends = record {
-          last = later.last;
-          steps = reaches_on 1 ends.more called digits.behind later.last first later.steps;
-          end = later.end;
-        };
-      }
+  digits_end = record {
+    more = 1 + ends.more;
+    new = ends.new;
+    within = omega (arith, ends.within);
+    none = none_given laws entry n world named small ends.more ends.none;
+    small = held_on;
+    types = ends.types;
+    ends = ends_given laws entry n world named small ends.more ends.new ends.ends;
+  }
 
 in_all : (laws : CallLaws) (entry : ℕ) (argument : Option ArgumentRange) (given : Option ℕ) (world : World)
     (most held : ℕ) (typed : Option ℕ)

@@ -1,15 +1,16 @@
 -- Runs end from cut points.
-use Rattle.teco_paths.proofs.Prelude.{◌≡◌, ◌⊎◌, inl, inr, ℕ, zero, suc, ◌+◌, ◌-◌, ◌<◌, ◌≤◌, Option, sym, ◌∙◌, subst}
-use Rattle.teco_paths.proofs.Prelude.{arith, cases_order, All, Any, NoFileCommands, Reaches, State, End, step, Case}
-use Rattle.teco_paths.proofs.Prelude.{point_of, Describes, Course, Ends, IsFollowed, Leads, Ground, IsAt, EndsBy}
-use Rattle.teco_paths.proofs.Prelude.{held_in, IsTypedWithin}
+use Rattle.teco_paths.proofs.Prelude.{◌≡◌, ◌⊎◌, inl, inr, ℕ, zero, suc, ◌+◌, ◌-◌, ◌<◌, ◌≤◌, Option, sym, subst, arith}
+use Rattle.teco_paths.proofs.Prelude.{cases_order, All, Any, NoFileCommands, Reaches, State, step, Case, point_of}
+use Rattle.teco_paths.proofs.Prelude.{Describes, Course, Ends, IsFollowed, Leads, Ground, IsAt, EndsBy, held_in}
+use Rattle.teco_paths.proofs.Prelude.{IsTypedWithin}
+use Rattle.teco_law_tables.proofs.Walking.{none_on, none_yet, reaches_here, reaches_later, reaches_none, reaches_on}
+use Rattle.teco_model.specs.State.{End}
 use Rattle.teco_paths.specs.Paths.{IsAtCut, IsOf, CutsEnd}
-use Rattle.teco_paths.proofs.Walking.{none_on, none_yet, reached_none, reaches_here, reaches_on, run_on}
 use Rattle.teco_poly.specs.Polynomial.{value}
 
 -- at the end
 small_at : (held : ℕ) (s t : State) (k : ℕ) → k ≤ 0 → Reaches k s t → held_in s ≤ held → held_in t ≤ held
-small_at held s t zero least r small = subst (λ u. held_in u ≤ held) (reached_none s t r) small
+small_at held s t zero least r small = subst (λ u. held_in u ≤ held) (reaches_none s t r) small
 small_at held s t (suc k) least r small = absurd (omega (arith, least))
 
 pub ends_here : (most held : ℕ) (typed : Option ℕ) (steps : ℕ) (s : State) → step s ≡ End s.world → steps ≤ most
@@ -34,7 +35,7 @@ module _ (most held : ℕ) (typed : Option ℕ) (steps j : ℕ) (s t : State) (c
       where
         behind : (i : ℕ) → k ≡ j + i → held_in u ≤ held
         behind i e =
-            later.small i u (omega (arith, least, e)) (sym (run_on j s t came i) ∙ subst (λ k. Reaches k s u) e r)
+            later.small i u (omega (arith, least, e)) (reaches_later j i s t u came (subst (λ k. Reaches k s u) e r))
 
         by : (k ≡ j) ⊎ ((k < j) ⊎ (j < k)) → held_in u ≤ held
         by (inl e) = behind 0 (omega (arith, e))

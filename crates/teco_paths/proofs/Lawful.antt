@@ -1,11 +1,12 @@
 -- The law of an element, where a run stands at its node.
 use Rattle.teco_paths.proofs.Prelude.{◌≡◌, ℕ, ◌+◌, ◌<◌, ◌≤◌, refl, sym, ap, ◌∙◌, subst, arith, List, [], ◌∷◌, map}
-use Rattle.teco_paths.proofs.Prelude.{length, Bool, true, false, Some, Ok, nat_lt, ltb-true, ⊤, is_some, AreLinked}
-use Rattle.teco_paths.proofs.Prelude.{NodesAreSound, AreOpen, Whole, Loop, Kind, Element, element_at, Files, Library}
-use Rattle.teco_paths.proofs.Prelude.{Needs, skip_of, route_of, State, step, Case, Outcomes, Goes, StepsTo, Comes}
-use Rattle.teco_paths.proofs.Prelude.{Ground, IsAt, IsMet, IsRead, LawAt, Node, numbered, Position, start_of}
-use Rattle.teco_paths.proofs.Prelude.{position_of, ways_at}
-use Rattle.std.proofs.Common.{ok_or}
+use Rattle.teco_paths.proofs.Prelude.{length, Bool, true, false, Some, Ok, nat_lt, ltb-true, is_some, AreLinked}
+use Rattle.teco_paths.proofs.Prelude.{NodesAreSound, AreOpen, Whole, Loop, Kind, Element, element_at, Library, Needs}
+use Rattle.teco_paths.proofs.Prelude.{skip_of, route_of, State, step, Case, Outcomes, Goes, StepsTo, Comes, Ground}
+use Rattle.teco_paths.proofs.Prelude.{IsAt, IsMet, IsRead, LawAt, Node, numbered, Position, start_of, position_of}
+use Rattle.teco_paths.proofs.Prelude.{ways_at}
+use Rattle.teco_law_tables.proofs.Leading.{FlowHas, HasStart, flow_has, search_has}
+use Rattle.teco_law_tables.proofs.Lookup.{node_of}
 use Rattle.teco_model.specs.declared.kind.Flow.{Flow}
 use Rattle.teco_model.specs.declared.kind.Flow.TheVariants as flow
 use Rattle.teco_model.specs.declared.kind.Goal.TheVariants as goal
@@ -15,55 +16,17 @@ use Rattle.teco_model.specs.declared.kind.Page.TheVariants as page
 use Rattle.teco_model.specs.declared.kind.Search.{Search}
 use Rattle.teco_model.specs.Searching.{has_colon}
 use Rattle.teco_model.specs.State.{frame_of}
-use Rattle.teco_model.proofs.Chains.{bound, some_of}
 use Rattle.teco_rows.specs.States.{Origin}
 use Rattle.teco_flow_outcomes.specs.Law.{IsOfIteration, Law, LeadsOn, StandsAt}
+use Rattle.teco_model.specs.Files.{Files}
 use Rattle.teco_search_outcomes.specs.PageSearches.{LongLaw}
 use Rattle.teco_search_outcomes.specs.Pages.{IsOpenFor, PageLaw}
 use Rattle.teco_search_outcomes.specs.Searches.{IsAsked, SearchLaw}
 use Rattle.teco_paths.specs.Steps.{HasPair}
-use Rattle.teco_paths.proofs.Lists.{node_of}
 use Rattle.teco_paths.proofs.Standing.{linked_here, mapped, position_here, reads_here}
-use Rattle.teco_verifier.specs.expansion.Refusal.{Unpaired}
-use Rattle.teco_verifier.specs.expansion.Ways.{past, jumped, jump_way, way_or_jump, end_ways, leave_ways, ahead_ways}
-use Rattle.teco_verifier.specs.expansion.Ways.{flow_ways, search_ways, element_ways}
+use Rattle.teco_verifier.specs.expansion.Ways.{search_ways, element_ways}
 
 -- ---- an element has its pair
-abbrev JumpPlace : Element → Position → Type 0
-JumpPlace e p = (place : ℕ) × ((skip_of p.running.text (Whole e)).to ≡ Some place)
-
-jump_place : (e : Element) (p q : Position) → jumped e p ≡ Ok q → JumpPlace e p
-jump_place e p q h =
-    let b = bound (ok_or (skip_of p.running.text (Whole e)).to Unpaired) _ q h in
-    (b.before, some_of (skip_of p.running.text (Whole e)).to Unpaired b.before b.was)
-
-either_place : (first : Position) (e : Element) (p : Position) (targets : List Position)
-    → way_or_jump first e p ≡ Ok targets → JumpPlace e p
-either_place first e p targets h = let b = bound (jumped e p) _ targets h in jump_place e p b.before b.was
-
-only_place : (e : Element) (p : Position) (targets : List Position) → jump_way e p ≡ Ok targets → JumpPlace e p
-only_place e p targets h = let b = bound (jumped e p) _ targets h in jump_place e p b.before b.was
-
--- an iteration of the text is open
-abbrev HasStart : List ℕ → Type 0
-HasStart [] = ⊥
-HasStart (start ∷ outer) = ⊤
-
-leave_place : (starts : List ℕ) (e : Element) (p : Position) (targets : List Position)
-    → leave_ways starts e p ≡ Ok targets → HasStart starts × JumpPlace e p
-leave_place [] e p targets h = absurd (cc)
-leave_place (start ∷ outer) e p targets h = (tt, either_place (past e p) e p targets h)
-
-end_start : (starts : List ℕ) (e : Element) (p : Position) (targets : List Position)
-    → end_ways starts e p ≡ Ok targets → HasStart starts
-end_start [] e p targets h = absurd (cc)
-end_start (start ∷ outer) e p targets h = tt
-
-ahead_place : (starts : List ℕ) (e : Element) (p : Position) (targets : List Position)
-    → ahead_ways goal.EndTurn starts e p ≡ Ok targets → HasStart starts × JumpPlace e p
-ahead_place [] e p targets h = absurd (cc)
-ahead_place (start ∷ outer) e p targets h = (tt, only_place e p targets h)
-
 inside : (loops : List Loop) → HasStart (map start_of loops) → 1 ≤ length loops
 inside [] h = absurd h
 inside (loop ∷ outer) h = omega arith
@@ -72,29 +35,22 @@ abbrev Matched : Kind → Element → State → Type 0
 Matched k e s =
     LeadsOn (route_of k) (skip_of s.frames.running.text (Whole e)).to × IsOfIteration k s.frames.running.loops
 
-flow_matched : (f : Flow) (e : Element) (s : State) (targets : List Position)
-    → flow_ways f e (position_of s) ≡ Ok targets → Matched (kind.Flow f) e s
-unfolding flow_ways
-flow_matched flow.Iterate e s targets h = (either_place _ e (position_of s) targets h, tt)
-flow_matched flow.EndTurn e s targets h =
-    (tt, inside s.frames.running.loops (end_start (map start_of s.frames.running.loops) e (position_of s) targets h))
-flow_matched flow.Leave e s targets h =
-    let l = leave_place (map start_of s.frames.running.loops) e (position_of s) targets h in
-    (l.1, inside s.frames.running.loops l.0)
-flow_matched (flow.Test t) e s targets h = (either_place _ e (position_of s) targets h, tt)
-flow_matched flow.Otherwise e s targets h = (only_place e (position_of s) targets h, tt)
-flow_matched flow.EndTest e s targets h = (tt, tt)
-flow_matched flow.GoTo e s targets h = (only_place e (position_of s) targets h, tt)
-flow_matched flow.Comment e s targets h = (tt, tt)
-flow_matched (flow.GoAhead goal.EndTurn) e s targets h =
-    let l = ahead_place (map start_of s.frames.running.loops) e (position_of s) targets h in
-    (l.1, inside s.frames.running.loops l.0)
-flow_matched (flow.GoAhead goal.EndTest) e s targets h = (only_place e (position_of s) targets h, tt)
-flow_matched (flow.GoAhead goal.Otherwise) e s targets h = (only_place e (position_of s) targets h, tt)
+flow_matched : (f : Flow) (e : Element) (s : State) → FlowHas f e (position_of s) → Matched (kind.Flow f) e s
+flow_matched flow.Iterate e s h = (h, tt)
+flow_matched flow.EndTurn e s h = (tt, inside s.frames.running.loops h)
+flow_matched flow.Leave e s h = (h.1, inside s.frames.running.loops h.0)
+flow_matched (flow.Test t) e s h = (h, tt)
+flow_matched flow.Otherwise e s h = (h, tt)
+flow_matched flow.EndTest e s h = (tt, tt)
+flow_matched flow.GoTo e s h = (h, tt)
+flow_matched flow.Comment e s h = (tt, tt)
+flow_matched (flow.GoAhead goal.EndTurn) e s h = (h.1, inside s.frames.running.loops h.0)
+flow_matched (flow.GoAhead goal.EndTest) e s h = (h, tt)
+flow_matched (flow.GoAhead goal.Otherwise) e s h = (h, tt)
 
 kind_matched : (library : Library) (k : Kind) (e : Element) (s : State) (targets : List Position) → HasPair k
     → element_ways library k e (position_of s) ≡ Ok targets → Matched k e s
-kind_matched library (kind.Flow f) e s targets told h = flow_matched f e s targets h
+kind_matched library (kind.Flow f) e s targets told h = flow_matched f e s (flow_has f e (position_of s) targets h)
 kind_matched library (kind.Argument a) e s targets told h = (tt, tt)
 kind_matched library (kind.Value a) e s targets told h = (tt, tt)
 kind_matched library (kind.Query a) e s targets told h = (tt, tt)
@@ -105,11 +61,9 @@ kind_matched library (kind.Call a) e s targets told h = absurd told
 kind_matched library (kind.Search a) e s targets told h = absurd told
 kind_matched library (kind.File a) e s targets told h = absurd told
 
--- a search without a colon has its place to go to
-search_place : (starts : List ℕ) (e : Element) (p : Position) (targets : List Position) → 1 ≤ length starts
-    → search_ways false starts e p ≡ Ok targets → JumpPlace e p
-search_place [] e p targets l h = absurd (omega (arith, l))
-search_place (start ∷ outer) e p targets l h = either_place (past e p) e p targets h
+has_start : (starts : List ℕ) → 1 ≤ length starts → HasStart starts
+has_start [] l = absurd (omega (arith, l))
+has_start (start ∷ outer) l = tt
 
 -- ---- where the run stands
 module _ (sound : NodesAreSound) (nodes : List Node) (number : ℕ) (e : Element) (read : IsRead nodes number (Some e))
@@ -160,10 +114,10 @@ module _ (sound : NodesAreSound) (nodes : List Node) (number : ℕ) (e : Element
     is_asked true is_so = colon_here ∙ is_so
     is_asked false is_so =
         let to =
-        search_place (map start_of s.frames.running.loops) e (position_of s) targets
-        (omega (arith, is_inside is_so, mapped s.frames.running.loops))
+        search_has (map start_of s.frames.running.loops) e (position_of s) targets
         (subst (λ b. search_ways b (map start_of s.frames.running.loops) e (position_of s) ≡ Ok targets)
-        (colon_here ∙ is_so) search_here) in
+        (colon_here ∙ is_so) search_here)
+        (has_start _ (omega (arith, is_inside is_so, mapped s.frames.running.loops))) in
         (colon_here ∙ is_so, is_inside is_so, to.0, to.1)
 
 -- the file that a command on pages wants is open

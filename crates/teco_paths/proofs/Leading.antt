@@ -5,12 +5,13 @@ use Rattle.teco_paths.proofs.Prelude.{GoesTo, StepsGoAlongNodes, Whole, Test, El
 use Rattle.teco_paths.proofs.Prelude.{loops_in, point_of, IsShape, Ground, StandsBy, GoesBy, IsTarget, IsTold, Steps}
 use Rattle.teco_paths.proofs.Prelude.{Node, stands, numbered}
 use Rattle.teco_law_expansion.specs.Was.{Turns, ElementWas, StepWas}
+use Rattle.teco_law_tables.proofs.Lookup.{node_of}
 use Rattle.teco_model.specs.declared.kind.Flow.TheVariants as flow
 use Rattle.teco_model.specs.declared.kind.Kind.TheVariants as kind
 use Rattle.teco_model.specs.Flow.{Turn}
 use Rattle.teco_flow_outcomes.specs.Law.{place_away}
 use Rattle.teco_paths.specs.Steps.{AreApart, IsTest, IsToldApart}
-use Rattle.teco_paths.proofs.Lists.{node_of, none_behind, none_third}
+use Rattle.teco_paths.proofs.Lists.{none_behind, none_third}
 use Rattle.teco_paths.proofs.Skipping.{test_skips}
 use Rattle.teco_paths.proofs.Standing.{as_many, went, stands_there}
 

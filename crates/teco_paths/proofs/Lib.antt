@@ -1,6 +1,5 @@
 -- Lemmas of paths.
 mod Prelude
-pub mod Walking
 pub mod Ending
 pub mod Symbols
 pub mod Lists

@@ -7,17 +7,6 @@ use Rattle.std.proofs.lemmas.List.Elements.{All-nil, All-cons}
 use Rattle.std.specs.List.{items_where_true}
 use Rattle.teco_verifier.specs.expansion.Node.{over, stand_of_node}
 
-pub got : {X : Type 0} (xs : List X) (k : ℕ) → k < length xs → (x : X) × (slice_get xs k ≡ Some x)
-got [] k l = absurd (omega arith)
-got (x ∷ xs) zero l = (x, refl)
-got (x ∷ xs) (suc k) l = got xs k (omega arith)
-
-got_mapped : {X Y : Type 0} (f : X → Y) (xs : List X) (ys : List Y) (k : ℕ) (x : X) → slice_get xs k ≡ Some x
-    → slice_get (map f xs ++ ys) k ≡ Some (f x)
-got_mapped f [] ys k x h = absurd (cc)
-got_mapped f (y ∷ xs) ys zero x h = let e : y ≡ x = cc in ap (λ y. Some (f y)) e
-got_mapped f (y ∷ xs) ys (suc k) x h = got_mapped f xs ys k x h
-
 -- nothing stands behind where nothing stands
 pub none_behind : {X : Type 0} (xs : List X) (k : ℕ) (x : X) → slice_get xs 1 ≡ None → slice_get xs (suc k) ≡ Some x → ⊥
 none_behind [] k x h g = absurd (cc)
@@ -29,20 +18,6 @@ none_third [] k x h g = absurd (cc)
 none_third (y ∷ []) k x h g = absurd (cc)
 none_third (y ∷ z ∷ []) k x h g = absurd (cc)
 none_third (y ∷ z ∷ u ∷ xs) k x h g = absurd (omega (arith, h))
-
--- nodes by their numbers
-pub node_of : (nodes : List Node) (k : ℕ) → 0 < k → k ≤ length nodes → (node : Node) × (numbered nodes k ≡ Some node)
-node_of nodes zero l m = absurd (omega arith)
-node_of nodes (suc k) l m = got nodes k (omega arith)
-
-pub same_stand : (nodes : List Node) (entry k : ℕ) (node : Node) (stand : Stand) → numbered nodes k ≡ Some node
-    → numbered (stands nodes entry) k ≡ Some stand → node.stand ≡ stand
-same_stand nodes entry zero node stand h g = absurd (cc)
-same_stand nodes entry (suc k) node stand h g =
-    let e : Some node.stand ≡ Some stand = sym (got_mapped stand_of_node nodes (over entry ∷ []) k node h) ∙ g in cc
-
-pub same_node : (nodes : List Node) (k : ℕ) (m n : Node) → numbered nodes k ≡ Some m → numbered nodes k ≡ Some n → m ≡ n
-same_node nodes k m n h g = let e : Some m ≡ Some n = sym h ∙ g in cc
 
 -- the end stands behind the nodes
 last_of : {X : Type 0} (xs : List X) (y : X) → slice_get (xs ++ y ∷ []) (length xs) ≡ Some y

@@ -8,7 +8,7 @@ pub use Rattle.std.proofs.lemmas.Int.{ints}
 pub use Rattle.std.specs.Bool.{OnTrue}
 pub use Rattle.std.specs.List.{All, Any}
 pub use Rattle.std.specs.Option.{option_map_or}
-pub use Rattle.std.specs.Prelude.{OnOk, is_some, negsuc, option_and_then, pos, unwrap_or, ℤ, ⊤, ◌*ℤ◌, ◌+ℤ◌, ◌-ℤ◌, ◌≤ℤ◌}
+pub use Rattle.std.specs.Prelude.{OnOk, is_some, negsuc, option_and_then, pos, unwrap_or, ℤ, ◌*ℤ◌, ◌+ℤ◌, ◌-ℤ◌, ◌≤ℤ◌}
 pub use Rattle.teco_base.specs.declared.TheConstants.{LIMIT, REGISTERS}
 pub use Rattle.teco_flow_outcomes.specs.Flow.{turned}
 pub use Rattle.teco_flow_outcomes.specs.Law.{Goes, StepsTo, loops_in, point_of}
@@ -17,20 +17,18 @@ pub use Rattle.teco_law_expansion.specs.Linked.{AreLinked, NodesAreSound}
 pub use Rattle.teco_law_expansion.specs.Run.{GoesTo, StepsGoAlongNodes}
 pub use Rattle.teco_law_expansion.specs.Steps.{IsLeftAt}
 pub use Rattle.teco_law_facts.specs.SoundSteps.{AreOpen}
-pub use Rattle.teco_law_tables.specs.Staying.{NoFileCommands, changes_files, is_of_files}
+pub use Rattle.teco_law_tables.specs.Staying.{NoFileCommands}
 pub use Rattle.teco_linear.specs.Form.{Valuation, value, values}
 pub use Rattle.teco_linear.specs.Implied.{Holds, Implies}
 pub use Rattle.teco_linear.specs.declared.difference.Difference.{Difference}
 pub use Rattle.teco_linear.specs.declared.term.Term.{Term}
 pub use Rattle.teco_model.specs.Ahead.{Whole}
 pub use Rattle.teco_model.specs.Element.{Element, element_at, seen}
-pub use Rattle.teco_model.specs.Files.{Files}
 pub use Rattle.teco_model.specs.Macros.{ArgumentRange, IsAsked, IsLoaded, Library, Needs}
 pub use Rattle.teco_model.specs.Registers.{Pair}
 pub use Rattle.teco_model.specs.Run.{Reaches}
-unfoldable pub use Rattle.teco_model.specs.Run.{run}
 pub use Rattle.teco_model.specs.Skip.{route_of, skip_of}
-pub use Rattle.teco_model.specs.State.{End, Frame, Frames, Next, Outcome, State}
+pub use Rattle.teco_model.specs.State.{Frame, Frames, Next, State}
 unfoldable pub use Rattle.teco_model.specs.Step.{step}
 pub use Rattle.teco_model.specs.Storage.{text_in}
 pub use Rattle.teco_model.specs.declared.flow.Loop.{Loop}
@@ -69,5 +67,4 @@ pub use Rattle.teco_search_outcomes.specs.PageSearches.{Comes}
 pub use Rattle.teco_verifier.specs.expansion.Node.{Node, Stand, numbered, stands}
 pub use Rattle.teco_verifier.specs.expansion.Position.{Position, position_of, spot_of, start_of}
 unfoldable pub use Rattle.teco_verifier.specs.expansion.Ways.{ways_at}
-pub use Rattle.teco_verifier.specs.facts.Argument.{arguments_given}
 pub use Rattle.teco_verifier.specs.table.Printed.{steps_before}

@@ -8,8 +8,8 @@ use Rattle.std.proofs.Common.{length-append}
 use Rattle.teco_law_expansion.specs.Iterations.{AreOpenIn, AreOpen}
 use Rattle.teco_law_expansion.specs.Linked.{IsLinked}
 use Rattle.teco_law_expansion.specs.Run.{MovesFrom, Went, Stayed}
+use Rattle.teco_law_tables.proofs.Lookup.{same_stand}
 use Rattle.teco_model.proofs.Ahead.{element_at-again}
-use Rattle.teco_paths.proofs.Lists.{same_stand}
 use Rattle.teco_verifier.specs.expansion.Position.{Spot, starts_in}
 use Rattle.teco_verifier.specs.expansion.Ways.{read_at}
 

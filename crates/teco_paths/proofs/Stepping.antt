@@ -1,18 +1,21 @@
 -- One step of a path.
 use Rattle.teco_paths.proofs.Prelude.{cases_order, ◌≡◌, ◌⊎◌, inl, inr, ℕ, zero, suc, ◌+◌, ◌<◌, ◌≤◌, refl, sym, ap, ◌∙◌}
 use Rattle.teco_paths.proofs.Prelude.{subst, arith, List, [], ◌∷◌, ◌++◌, map, length, Bool, true, false, Option, Some}
-use Rattle.teco_paths.proofs.Prelude.{None, Ok, All, Any, is_some, option_map_or, AreLinked, NodesAreSound}
-use Rattle.teco_paths.proofs.Prelude.{StepsGoAlongNodes, AreOpen, IsLeftAt, NoFileCommands, changes_files, is_of_files}
-use Rattle.teco_paths.proofs.Prelude.{Term, Valuation, Holds, Implies, Loop, Kind, Element, element_at, Files, IsLoaded}
-use Rattle.teco_paths.proofs.Prelude.{Library, Needs, Reaches, run, Frame, Frames, State, Outcome, Next, step, text_in}
-use Rattle.teco_paths.proofs.Prelude.{Case, Guarded, Outcomes, turned, Goes, StepsTo, loops_in, point_of, Describes}
-use Rattle.teco_paths.proofs.Prelude.{IsTrueOf, NodeCase, Comes, Ground, IsAt, held_in, AreSpots, GoOn, GoesBy, AreMet}
-use Rattle.teco_paths.proofs.Prelude.{IsKept, IsPlain, IsRead, IsTold, LawAt, Passes, cases_by, Node, Stand, numbered}
-use Rattle.teco_paths.proofs.Prelude.{Position, start_of, spot_of, ways_at}
+use Rattle.teco_paths.proofs.Prelude.{None, Ok, All, Any, option_map_or, AreLinked, NodesAreSound, StepsGoAlongNodes}
+use Rattle.teco_paths.proofs.Prelude.{AreOpen, IsLeftAt, NoFileCommands, Term, Valuation, Holds, Implies, Loop, Kind}
+use Rattle.teco_paths.proofs.Prelude.{Element, element_at, IsLoaded, Library, Needs, Reaches, Frame, Frames, State}
+use Rattle.teco_paths.proofs.Prelude.{Next, step, text_in, Case, Guarded, Outcomes, turned, Goes, StepsTo, loops_in}
+use Rattle.teco_paths.proofs.Prelude.{point_of, Describes, IsTrueOf, NodeCase, Comes, Ground, IsAt, held_in, AreSpots}
+use Rattle.teco_paths.proofs.Prelude.{GoOn, GoesBy, AreMet, IsKept, IsPlain, IsRead, IsTold, LawAt, Passes, cases_by}
+use Rattle.teco_paths.proofs.Prelude.{Node, Stand, numbered, Position, start_of, spot_of, ways_at}
 use Rattle.teco_law_expansion.specs.Linked.{Lead}
 use Rattle.teco_law_expansion.specs.Loaded.{StaysLoaded}
 use Rattle.teco_law_facts.specs.Wholeness.{IsWholeState, IsWholeOutcome, WholeIsKept}
-use Rattle.teco_law_tables.specs.Staying.{AreAsOpen, FilesStayOpen}
+use Rattle.teco_law_tables.proofs.Lookup.{node_of}
+use Rattle.teco_law_tables.proofs.Staying.{open_as_before}
+use Rattle.teco_law_tables.proofs.Walking.{none_more, none_yet, one_step, reads_none, reaches_here, reaches_none}
+use Rattle.teco_law_tables.proofs.Walking.{reaches_on, same_next}
+use Rattle.teco_law_tables.specs.Staying.{FilesStayOpen, changes_files, is_of_files}
 use Rattle.teco_model.specs.declared.kind.Call.{Call}
 use Rattle.teco_model.specs.declared.kind.Command.TheVariants as command
 use Rattle.teco_model.specs.declared.kind.Kind.TheVariants as kind
@@ -22,14 +25,13 @@ use Rattle.teco_model.specs.Macros.{is_macro}
 use Rattle.teco_model.specs.Step.{end_outcome, end_of_text, outcome_at, outcome_of, reply_of}
 use Rattle.teco_model.specs.Going.{frames_in}
 use Rattle.teco_model.proofs.Chains.{ok}
+use Rattle.teco_model.specs.Run.{run}
+use Rattle.teco_model.specs.State.{Outcome}
 use Rattle.teco_rows.specs.Foretold.{Begins, IsGuarded}
 use Rattle.teco_search_outcomes.specs.PageSearches.{IsStill}
 use Rattle.teco_paths.specs.Steps.{GoesByFrames, GoesOn, IsCall, IsDuring, IsEndOrCall}
 use Rattle.teco_paths.specs.Steps.{IsTextEnd}
-use Rattle.teco_paths.proofs.Lists.{node_of}
 use Rattle.teco_paths.proofs.Standing.{left_behind, position_here, linked_here, reads_here, reads_there}
-use Rattle.teco_paths.proofs.Walking.{none_more, none_yet, one_step, reached_none, reaches_here, reaches_on, reads_none}
-use Rattle.teco_paths.proofs.Walking.{same_next}
 use Rattle.teco_verifier.specs.expansion.Names.{named_by, written_by, names_macro, writes_macro}
 use Rattle.teco_verifier.specs.expansion.Position.{position_of_frames}
 use Rattle.teco_verifier.specs.expansion.Ways.{return_ways}
@@ -66,17 +68,7 @@ no_files (kind.Call a) told = refl
 no_files (kind.Search a) told = refl
 no_files (kind.File a) told = absurd told
 
--- ---- files stay open
-some_there : {X : Type 0} (o : Option X) → is_some o ≡ true → (x : X) × (o ≡ Some x)
-some_there None h = absurd (cc)
-some_there (Some x) h = (x, refl)
-
-open_as_before : (needs : Needs) (old new : Files) → AreAsOpen old new → AreOpen needs old → AreOpen needs new
-open_as_before needs old new same files = record {
-  input = λ h. some_there new.input (same.input ∙ ap is_some (files.input h).1);
-  output = λ h. some_there new.output (same.output ∙ ap is_some (files.output h).1);
-}
-
+-- ---- frames that are the same
 from_frames : (away : Bool) (e : Element) (t : State) (old new : Frames) → old ≡ new
     → GoesByFrames away e old t → GoesByFrames away e new t
 from_frames away e t old new same h = subst (λ f. GoesByFrames away e f t) same h
@@ -128,7 +120,7 @@ module _ (laws : Laws) (nodes : List Node) (number : ℕ) (case : Case) (all : O
   small_first : (j : ℕ) (t : State) → j ≤ 0 → Reaches j s t → held_in t ≤ held_in s
   small_first j t l r =
       let z : j ≡ 0 = omega (arith, l) in
-      let same : s ≡ t = reached_none s t (subst (λ j. Reaches j s t) z r) in
+      let same : s ≡ t = reaches_none s t (subst (λ j. Reaches j s t) z r) in
       subst (λ u. held_in u ≤ held_in s) same (omega arith)
 
   first : Midway 0 s

@@ -1,4 +1,4 @@
-use Rattle.teco_paths.proofs.Prelude.{⊤}
+use Rattle.std.specs.Prelude.{⊤}
 use Rattle.teco_paths.proofs.following.is_at_cut.Given as goal
 
 -- no more is to be known
