@@ -1,14 +1,14 @@
 //! What stands about a place of a text.
 
+use crate::places::element_at;
 use arrayvec::ArrayVec;
-use teco_lex::element;
 use teco_model::Element;
 use teco_model::kind::{
     Argument, Command, Flow, Kind, MachineValue, Motion, Page, Query, Storage, Unit,
 };
 
 /// How many iterations in one another are followed.
-const DEPTH: usize = 8;
+pub const DEPTH: usize = 8;
 
 /// What an element is, as far as hints go.
 #[derive(Clone, Copy, PartialEq, Eq)]
@@ -187,12 +187,9 @@ fn names_register(text: &[u8]) -> bool {
 
 // The element at a place of a text, if one can be read there.
 fn sign_at(text: &[u8], place: usize) -> Option<SeenElement> {
-    if place > text.len() {
-        return None;
-    }
-    match element(text, place) {
-        Ok(Some(found)) => Some(sign_of(&found)),
-        _ => None,
+    match element_at(text, place) {
+        Some(found) => Some(sign_of(&found)),
+        None => None,
     }
 }
 

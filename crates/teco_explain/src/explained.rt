@@ -1,8 +1,8 @@
 //! Refusals with their sources, for people.
 use crate::codes::note_of_code;
 use crate::faults::{code_at, flaw_of_library};
-use crate::hints::hint;
-use crate::places::{place_in, text_begin_in};
+use crate::hints::{hint, hint_by_table};
+use crate::places::{place_in, text_in};
 use crate::refusals::{note_of_refusal, number_of};
 use std::{fmt, str};
 use teco_base::{Code, Reg};
@@ -33,13 +33,13 @@ impl Explained<'_> {
         place_in(self.source.text(), self.register, self.place)
     }
 
-    // The text of the file from where the register's begins, whose places are the register's.
+    // The text that the place is in.
     fn text(&self) -> &[u8] {
         let text = self.source.text();
         match self.register {
             None => text,
-            Some(register) => match text_begin_in(text, register) {
-                Some(begin) => text.get(begin..).unwrap_or(&[]),
+            Some(register) => match text_in(text, register) {
+                Some(given) => given,
                 None => &[],
             },
         }
@@ -47,10 +47,14 @@ impl Explained<'_> {
 
     // What usually mends it.
     fn remedy(&self) -> &'static str {
-        let hint = if self.is_by_table {
-            hint(self.why, self.text(), self.place)
+        let by_table = if self.is_by_table {
+            hint_by_table(self.why, self.text(), self.place)
         } else {
             None
+        };
+        let hint = match by_table {
+            None => hint(self.why, self.text(), self.place),
+            Some(_) => by_table,
         };
         hint.unwrap_or(note_of_refusal(self.why).remedy)
     }

@@ -1,10 +1,22 @@
 //! Hints for macros that are refused in the form that comes to mind first.
 use crate::around::{Around, IterationBody, Role, SeenElement};
+use crate::leaving::is_endless;
+use crate::partners::is_closed_in_text;
 use teco_verifier::RefusalReason;
 
-/// What usually mends a refusal of this kind at a place of a text by a table of what is known before each
-/// element, where the text has one of the common forms.
+/// What usually mends a refusal of this kind at a place of a text, where the text has one of the common
+/// forms.
 pub fn hint(why: RefusalReason, text: &[u8], place: usize) -> Option<&'static str> {
+    match why {
+        RefusalReason::Partner => is_closed_in_text(text, place).then_some(IN_TEXT),
+        RefusalReason::Fall => is_endless(text, place).then_some(ENDLESS),
+        RefusalReason::Unverified => of_unverified(&Around::of(text, place)),
+        _ => None,
+    }
+}
+
+/// What usually mends a refusal by a table of what is known before each element.
+pub fn hint_by_table(why: RefusalReason, text: &[u8], place: usize) -> Option<&'static str> {
     let around = Around::of(text, place);
     match why {
         RefusalReason::Fall => around.body.and_then(of_fall),
@@ -12,10 +24,20 @@ pub fn hint(why: RefusalReason, text: &[u8], place: usize) -> Option<&'static st
         RefusalReason::Place => of_place(&around),
         RefusalReason::Deletion => of_deletion(&around),
         RefusalReason::Pending | RefusalReason::Argument => of_argument(&around),
-        RefusalReason::Unverified => of_unverified(&around),
         _ => None,
     }
 }
+
+// A bracket whose partner is in a text.
+const IN_TEXT: &str =
+    "What would close it is part of a command's text, which goes on to ESC, $ in the readable \
+            form. Is an ESC missing? In a shell put macros in single quotes: within double ones it \
+            takes out $ and the name behind it.";
+
+// An iteration that nothing leaves.
+const ENDLESS: &str =
+    "Nothing leaves this iteration. Write ; behind its search, as in Sfoo$;, or begin it with a test, as \
+            in <.-Z;..>, or give it a count, as in Z<..>.";
 
 // An iteration without a count in which nothing is known to shrink. What goes back is named before
 // what may not move on.
@@ -146,7 +168,10 @@ fn of_search(search: SeenElement, is_inside: bool) -> Option<&'static str> {
     } else if search.is_empty {
         Some("A search with an empty text isn't verified: write the text once more.")
     } else if !search.answers && !is_inside {
-        Some("Outside an iteration write :S and ask for the answer, as in :Sfoo$\"S..'.")
+        Some(
+            "Outside an iteration a search that finds nothing stops the run. Write a colon before it \
+                and ask for its answer, as in :Sfoo$\"S..', or let that be, as in :FSfoo$bar$$.",
+        )
     } else {
         None
     }

@@ -5,14 +5,36 @@ use teco_model::kind::{Command, Storage};
 use teco_model::{Element, Kind};
 use teco_source::{LineAndByte, Source};
 
-// The register that an element gives a text, and the place where that text begins.
-fn text_given(found: &Element<'_>) -> Option<(Reg, usize)> {
-    let begin = found
-        .next
-        .saturating_sub(1)
-        .saturating_sub(found.text.len());
+/// The element at a place of a text, if one can be read there.
+pub fn element_at(text: &[u8], place: usize) -> Option<Element<'_>> {
+    if place > text.len() {
+        return None;
+    }
+    match element(text, place) {
+        Ok(Some(found)) => Some(found),
+        _ => None,
+    }
+}
+
+// A text that a library gives to a register.
+#[derive(Clone, Copy)]
+struct GivenText<'a> {
+    register: Reg,
+    text: &'a [u8],
+    // where it begins
+    begin: usize,
+}
+
+// The text that an element gives to a register, if it does.
+fn text_given<'a>(found: &Element<'a>) -> Option<GivenText<'a>> {
+    let text = found.text;
+    let begin = found.next.saturating_sub(1).saturating_sub(text.len());
     match found.kind {
-        Kind::Command(Command::Storage(Storage::SetText(register))) => Some((register, begin)),
+        Kind::Command(Command::Storage(Storage::SetText(register))) => Some(GivenText {
+            register,
+            text,
+            begin,
+        }),
         _ => None,
     }
 }
@@ -22,23 +44,37 @@ fn is_same(one: Reg, other: Reg) -> bool {
     one.index() == other.index()
 }
 
-/// Where in a library file the text of a register begins, if the file gives it one. It takes time
-/// by the length of the file.
-pub fn text_begin_in(library: &[u8], register: Reg) -> Option<usize> {
+// The text that a library file gives to a register, if it does.
+fn given_in(library: &[u8], register: Reg) -> Option<GivenText<'_>> {
     let mut at = 0;
     for _ in 0..library.len() {
-        if at > library.len() {
-            return None;
-        }
-        let Ok(Some(found)) = element(library, at) else {
+        let Some(found) = element_at(library, at) else {
             return None;
         };
         match text_given(&found) {
-            Some((given, begin)) if is_same(given, register) => return Some(begin),
+            Some(given) if is_same(given.register, register) => return Some(given),
             _ => at = found.next,
         }
     }
     None
+}
+
+/// Where in a library file the text of a register begins, if the file gives it one. It takes time
+/// by the length of the file.
+pub fn text_begin_in(library: &[u8], register: Reg) -> Option<usize> {
+    match given_in(library, register) {
+        Some(given) => Some(given.begin),
+        None => None,
+    }
+}
+
+/// The text of a register in a library file, if the file gives it one. It takes time by the length
+/// of the file.
+pub fn text_in(library: &[u8], register: Reg) -> Option<&[u8]> {
+    match given_in(library, register) {
+        Some(given) => Some(given.text),
+        None => None,
+    }
 }
 
 /// The place in the text of a library file that a place in the text of a register is, if the file

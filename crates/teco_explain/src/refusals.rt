@@ -171,7 +171,8 @@ const BOUND: Explanation = Explanation {
     summary: "no bound was found",
     meaning: "What is held grows from turn to turn by an amount that itself grows.",
     example: "@^UA~3<HXBGB>~",
-    remedy: "Keep what is inserted in a turn at a fixed length, or empty the register that grows.",
+    remedy: "Keep what is inserted in a turn at a fixed length and go on behind it, or empty the register \
+        that grows.",
 };
 
 const OVERFLOW: Explanation = Explanation {
