@@ -17,6 +17,9 @@ pub enum WordsFault {
     /// A register has another name.
     #[error("a register is A to Z or 0 to 9")]
     Register,
+    /// The word behind that of the library is no register.
+    #[error("a register is A to Z or 0 to 9, and stands behind LIB; a macro itself goes behind -e")]
+    RegisterWord,
     /// An argument is another number.
     #[error("an argument is a number of decimal digits, 0 to 2147483647")]
     Argument,
@@ -41,6 +44,9 @@ pub enum WordsFault {
     /// Neither a word nor a list names files.
     #[error("no file is named: give FILE or --files-from")]
     NoFile,
+    /// No word behind those of the library and the register names a file, and no list does.
+    #[error("no file is named behind LIB and the register: give FILE or --files-from; a macro itself goes behind -e")]
+    NoFileBehind,
     /// When colours are used is none of the three words for that.
     #[error("--color takes always, never or auto")]
     Color,

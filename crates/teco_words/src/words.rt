@@ -107,16 +107,21 @@ pub fn origin<'m, 'a>(words: &'m ArgMatches<'a>) -> Result<Origin<'m>, WordsFaul
 }
 
 // The register of a name.
-fn register_of(name: &str) -> Result<Reg, WordsFault> {
+fn register_of(name: &str) -> Option<Reg> {
     match name.as_bytes() {
-        [name] => Reg::of(*name).ok_or(WordsFault::Register),
-        _ => Err(WordsFault::Register),
+        [name] => Reg::of(*name),
+        _ => None,
     }
 }
 
 /// The register of the macro.
 pub fn entry(words: &ArgMatches<'_>) -> Result<Reg, WordsFault> {
-    register_of(named(words, "REGISTER", "register").unwrap_or(DEFAULT_ENTRY))
+    let name = named(words, "REGISTER", "register").unwrap_or(DEFAULT_ENTRY);
+    match register_of(name) {
+        Some(register) => Ok(register),
+        None if has_macro_options(words) => Err(WordsFault::Register),
+        None => Err(WordsFault::RegisterWord),
+    }
 }
 
 /// Is a macro named, and not a library alone?
@@ -286,6 +291,15 @@ fn has_class(patterns: &[&str]) -> bool {
     patterns.iter().any(|pattern| pattern.contains('['))
 }
 
+// No file is named that could be edited.
+fn no_file(words: &ArgMatches<'_>) -> WordsFault {
+    if has_macro_options(words) {
+        WordsFault::NoFile
+    } else {
+        WordsFault::NoFileBehind
+    }
+}
+
 /// Which files are edited, of these names and of what options say.
 pub fn choice<'m>(
     words: &'m ArgMatches<'_>,
@@ -293,7 +307,7 @@ pub fn choice<'m>(
 ) -> Result<FileChoice<'m>, WordsFault> {
     let list = words.get_str("files-from");
     if names.is_empty() && list.is_none() {
-        return Err(WordsFault::NoFile);
+        return Err(no_file(words));
     }
     if list == Some(STREAM) && named(words, "LIB", "library") == list {
         return Err(WordsFault::ListStream);
