@@ -8,13 +8,18 @@ use clap::ArgMatches;
 use std::io::{Input, IsTerminal, Write};
 use std::process::ExitCode;
 use std::{env, io};
-use teco_applied::{Listing, Names, Task, apply_macro, trace_macro};
+use teco_applied::{apply_macro, edit_files, trace_macro};
 use teco_console::{
     Console, Outcome, Request, Setting, explain, explain_all, method_for, show, show_source,
 };
-use teco_edits::{ChosenFile, InPlaceEdits, choose, edit_files};
+use teco_edit_parts::{ChosenFile, choose};
+use teco_edits::InPlaceEdits;
 use teco_examples::{Tests, fuzz_macro, test_examples};
-use teco_pages::{Closing, FileHost, Host};
+use teco_files::Closing;
+use teco_hosts::Host;
+use teco_infer::Inference;
+use teco_jobs::{Listing, Names, Task};
+use teco_pages::FileHost;
 use teco_tools::{OUTPUT, Prompting, Reporting, Run, Start, Streams, ToolFault, run_scripts};
 use teco_verdicts::{
     check_macro, explain_macro, verify_library, verify_library_as_json, verify_macro,
@@ -119,16 +124,16 @@ fn verify<O: Write + Drop, E: Write + Drop>(
     let is_json = given.get_flag("json");
     if !names_macro {
         return Ok(if is_json {
-            verify_library_as_json(rt, console, request)?
+            verify_library_as_json::<Inference, _, _, _>(rt, console, request)?
         } else {
-            verify_library(rt, console, request)?
+            verify_library::<Inference, _, _, _>(rt, console, request)?
         });
     }
     let entry = teco_words::entry(given)?;
     Ok(if is_json {
-        verify_macro_as_json(rt, console, request, entry)?
+        verify_macro_as_json::<Inference, _, _, _>(rt, console, request, entry)?
     } else {
-        verify_macro(rt, console, request, entry)?
+        verify_macro::<Inference, _, _, _>(rt, console, request, entry)?
     })
 }
 
@@ -178,7 +183,7 @@ fn apply_aside<H: Host + Reporting>(
     if is_quiet {
         aside.voice.hush();
     }
-    apply_macro(rt, &mut aside, task, names, host)
+    apply_macro::<Inference, _, _, _, _>(rt, &mut aside, task, names, host)
 }
 
 // Applies a macro to files of the system, or to its streams.
@@ -195,7 +200,7 @@ fn apply_over<O: Write + Drop, E: Write + Drop>(
     if names.target == OUTPUT {
         apply_aside(rt, is_quiet, task, names, &mut host)
     } else {
-        apply_macro(rt, console, task, names, &mut host)
+        apply_macro::<Inference, _, _, _, _>(rt, console, task, names, &mut host)
     }
 }
 
@@ -242,7 +247,13 @@ fn test<O: Write + Drop, E: Write + Drop>(
     if given.get_flag("fuzz") {
         let entry = teco_words::entry(given)?;
         let case = teco_words::case(given)?;
-        return Ok(fuzz_macro(rt, console, request(given, true)?, entry, case)?);
+        return Ok(fuzz_macro::<Inference, _, _, _>(
+            rt,
+            console,
+            request(given, true)?,
+            entry,
+            case,
+        )?);
     }
     let entry = if teco_words::names_register(given) {
         Some(teco_words::entry(given)?)
@@ -254,7 +265,7 @@ fn test<O: Write + Drop, E: Write + Drop>(
         case: teco_words::case(given)?,
         look: teco_words::look(given, shows_colours(rt))?,
     };
-    Ok(test_examples(rt, console, request(given, true)?, tests)?)
+    Ok(test_examples::<Inference, _, _, _>(rt, console, request(given, true)?, tests)?)
 }
 
 // Do the examples of the library stand? One from standard input can't be read twice.
@@ -269,7 +280,7 @@ fn is_tested<O: Write + Drop, E: Write + Drop>(
         case: teco_words::case(given)?,
         look: teco_words::look(given, shows_colours(rt))?,
     };
-    let outcome = test_examples(rt, console, request(given, true)?, tests)?;
+    let outcome = test_examples::<Inference, _, _, _>(rt, console, request(given, true)?, tests)?;
     Ok(matches!(outcome, Outcome::Done))
 }
 
@@ -318,7 +329,7 @@ fn edit<'a, O: Write + Drop, E: Write + Drop>(
         is_durable: given.get_flag("durable"),
         naming: teco_words::naming(given),
     };
-    Ok(edit_files(rt, console, &task, &edit)?)
+    Ok(edit_files::<Inference, _, _, _>(rt, console, &task, &edit)?)
 }
 
 // Traces a macro over files of the system, or standard input. What it writes to files is dropped.
@@ -331,7 +342,7 @@ fn trace_over<O: Write + Drop, E: Write + Drop>(
     let mut files = FileHost::new(rt.alloc(), *rt);
     files.set_closing(Closing::Compares);
     let mut host = Streams::new(rt.alloc(), files, rt.reader(), io::sink());
-    trace_macro(rt, console, task, listing, &mut host)
+    trace_macro::<Inference, _, _, _, _>(rt, console, task, listing, &mut host)
 }
 
 // `trace`.
@@ -374,7 +385,7 @@ fn explain_what<O: Write + Drop, E: Write + Drop>(
 ) -> Result<Outcome, ProgramFault> {
     if teco_words::names_macro(given) {
         let entry = teco_words::entry(given)?;
-        return Ok(explain_macro(rt, console, request(given, true)?, entry)?);
+        return Ok(explain_macro::<Inference, _, _, _>(rt, console, request(given, true)?, entry)?);
     }
     let Some(word) = given.get_str("LIB") else {
         return Ok(explain_all(console)?);

@@ -1,3 +1,2 @@
-mod Steps
-pub mod Strict
+mod InPlace
 mod Tasks

@@ -2,7 +2,7 @@
 use Rattle.std.proofs.Common.{◌≡◌, Option, List, Result, Ok, Err, ℕ}
 use Rattle.std.specs.Prelude.{IfOk}
 use Rattle.teco_applied.specs.Tasks.{Refuses}
-use Rattle.teco_verdicts.specs.Answers as answers
+use Rattle.teco_acceptance.specs.Refused as answers
 use Rattle.teco_console.specs.declared.outcome.Outcome.{Outcome}
 use Rattle.teco_console.specs.declared.outcome.Outcome.TheVariants.{Refused}
 use Rattle.teco_verify.specs.declared.refusal.Refusal.{Refusal}

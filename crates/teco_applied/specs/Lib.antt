@@ -1,6 +1,2 @@
-pub mod Edits
-pub mod Following
-pub mod Strict
+pub mod InPlace
 pub mod Tasks
-pub mod Terms
-pub mod Traces

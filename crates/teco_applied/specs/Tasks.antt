@@ -1,17 +1,17 @@
 -- What a task is about, and what is printed where it is refused.
 use Rattle.std.specs.Prelude.{ℕ, ◌≡◌, ◌⊎◌, ⊤, List, codes, Option, Some, None, Result, Ok, Err}
 use Rattle.std.specs.Io.KnownBytes.{Appends}
-use Rattle.teco_applied.specs.Edits.{EditsBy, Trace}
-use Rattle.teco_applied.specs.declared.names.Names.{Names}
-use Rattle.teco_applied.specs.declared.applying.Task.{Task}
+use Rattle.teco_jobs.specs.Edits.{EditsBy, Prints, Trace}
+use Rattle.teco_jobs.specs.declared.names.Names.{Names}
+use Rattle.teco_jobs.specs.declared.jobs.Task.{Task}
 use Rattle.teco_applied.specs.declared.subject.Subject.{Subject}
 use Rattle.teco_apply.specs.Sure.{PromisedCall}
 use Rattle.teco_library.specs.Library.{LibraryFile}
-use Rattle.teco_pages.specs.HostFiles.{Telling}
+use Rattle.teco_hosts.specs.HostFiles.{Telling}
 use Rattle.teco_tools.specs.declared.fault.ToolFault.{ToolFault}
-use Rattle.teco_verdicts.specs.Accepted.{IsOf, IsProved, promise_of}
-use Rattle.teco_verdicts.specs.Lines.{refused_line}
-use Rattle.teco_verdicts.specs.declared.acceptance.Accepted.{Accepted}
+use Rattle.teco_acceptance.specs.Accepted.{IsOf, IsProved, promise_of}
+use Rattle.teco_acceptance.specs.Lines.{refused_line}
+use Rattle.teco_acceptance.specs.declared.acceptance.Accepted.{Accepted}
 use Rattle.teco_console.specs.declared.outcome.Outcome.{Outcome}
 use Rattle.teco_console.specs.declared.outcome.Outcome.TheVariants.{Done, Coded, Refused}
 use Rattle.teco_verify.specs.declared.refusal.Refusal.{Refusal}
@@ -21,10 +21,6 @@ use Rattle.teco_verify.specs.declared.refusal.Refusal.{Refusal}
 pub record IsAccepted (library : LibraryFile) (entry : ℕ) (accepted : Accepted) : Type 0 where
   pub proved : IsProved accepted
   pub is : IsOf library entry accepted
-
--- some text was written
-abbrev pub Prints : Option (List ℕ) → Option (List ℕ) → Type 0
-Prints old new = (text : List ℕ) × Appends old new text
 
 -- A macro is refused with the line of a refusal; with a fault no more is said of what was written.
 abbrev pub Refuses : {E : Type 0} → Option (List ℕ) → Option (List ℕ) → Result Outcome E → Type 0

@@ -1,18 +1,11 @@
-//! Edits of a file into another by verified macros, and lists of their steps.
+//! What `apply`, `edit` and `trace` do by a macro of a library: it is accepted first, and then run on files.
 #![tactic(auto)]
 
 mod applying;
-mod bound;
-mod following;
-pub mod laws;
-mod names;
-mod opening;
+mod editing;
 mod subject;
 mod tracing;
-mod watching;
 
-pub use applying::{Job, OneWork, Replaced, Task, Work, apply_macro, edit_by, rewrite_by};
-pub use names::Names;
-pub use opening::{call, open_pages};
-pub use subject::{Subject, read_subject, refuse_empty, refuse_subject, say_findings};
-pub use tracing::{Listing, trace_macro};
+pub use applying::apply_macro;
+pub use editing::edit_files;
+pub use tracing::trace_macro;

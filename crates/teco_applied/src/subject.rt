@@ -1,19 +1,22 @@
 //! What a task is about: a macro of a library.
 ghost use Rattle.std.specs.Prelude.{◌≡◌, IfOk, OnOk};
-ghost use Rattle.teco_applied.specs.Tasks.{IsAccepted, Prints, ReadsSubject, Refuses};
+ghost use Rattle.teco_applied.specs.Tasks.{IsAccepted, ReadsSubject, Refuses};
+ghost use Rattle.teco_jobs.specs.Edits.{Prints};
 ghost use Rattle.teco_console.specs.declared.outcome.Outcome.TheVariants.{Refused};
 
-use crate::applying::Task;
 use std::alloc::Global;
 use std::io::{Input, Write};
 use std::rt::Files;
-use teco_base::Reg;
-use teco_console::{AnswerFault, Console, Outcome, Sourced, Voice, lint};
-use teco_tools::{LetterCase, ToolFault};
-use teco_verdicts::{
-    Accepted, ClaimedCertificate, accepted, read_claim, read_library_for, refuse_claim,
+use teco_acceptance::{
+    Accepted, ClaimedCertificate, Setup, accepted, read_claim, read_library_for, refuse_claim,
     refuse_macro, tell_no_text, warn_no_text,
 };
+use teco_base::Reg;
+use teco_console::{AnswerFault, Console, Outcome, Sourced, Voice, lint};
+use teco_jobs::Task;
+use teco_options::LetterCase;
+use teco_paths::search::ClaimSearch;
+use teco_tools::ToolFault;
 use teco_verify::Refusal;
 
 /// A library, and the certificate of a macro of it, if one is named.
@@ -25,18 +28,32 @@ pub struct Subject<'a> {
 
 impl Subject<'_> {
     /// The macro, by its certificate if there is one, or verified.
-    pub fn accepted(&self, alloc: Global, entry: Reg) -> Result<Accepted<'_>, Refusal>
+    pub fn accepted<S: ClaimSearch>(
+        &self,
+        alloc: Global,
+        entry: Reg,
+    ) -> Result<Accepted<'_>, Refusal>
         ensures { IfOk result (IsAccepted self.now.sourced.library entry) }
     {
         let claim = self.claim.as_ref();
         let library = &self.sourced.library;
-        match accepted(alloc, library, entry, self.sourced.method, claim) {
+        match accepted::<S>(alloc, library, entry, self.sourced.method, claim) {
             Ok(accepted) => {
                 accepted.is_proved();
                 Ok(accepted)
             }
             Err(refusal) => Err(refusal),
         }
+    }
+}
+
+/// The macro of a task, and what registers are given before its runs. These texts do not belong to a
+/// library that a certificate is for.
+pub fn setup_of<'a>(task: &'a Task<'_, '_>) -> Setup<'a> {
+    Setup {
+        entry: task.entry,
+        settings: task.start.settings,
+        is_open: task.certificate.is_none(),
     }
 }
 
@@ -62,7 +79,7 @@ fn repeat<O: Write + Drop, E: Write + Drop>(
 
 /// Reads the certificate and the library of a task. Where the file is no library, the refusal is
 /// printed, and there is none.
-pub fn read_subject<'a, R: Files + Input, O: Write + Drop, E: Write + Drop>(
+pub fn read_subject<'a, S: ClaimSearch, R: Files + Input, O: Write + Drop, E: Write + Drop>(
     rt: &R,
     console: &mut Console<O, E>,
     task: &Task<'a, '_>,
@@ -71,7 +88,7 @@ pub fn read_subject<'a, R: Files + Input, O: Write + Drop, E: Write + Drop>(
 {
     let claim = read_claim(rt, console.alloc, task.certificate)?;
     let mut apart = console.apart();
-    match read_library_for(rt, &mut apart, task.library, task.setup()) {
+    match read_library_for::<S, _, _, _>(rt, &mut apart, task.library, setup_of(task)) {
         Ok(Some(sourced)) => {
             say_apart(&mut console.voice, apart);
             Ok(Some(Subject { sourced, claim }))
@@ -129,7 +146,7 @@ pub fn say_findings<O: Write + Drop, E: Write + Drop>(
 
 // Says why a macro is refused, by its certificate if there is one.
 #[tactic(auto, using(crate::proofs::Tasks::refuses))]
-fn refuse_by_claim<O: Write + Drop, E: Write + Drop>(
+fn refuse_by_claim<S: ClaimSearch, O: Write + Drop, E: Write + Drop>(
     console: &mut Console<O, E>,
     subject: &Subject<'_>,
     entry: Reg,
@@ -139,13 +156,13 @@ fn refuse_by_claim<O: Write + Drop, E: Write + Drop>(
 {
     let sourced = &subject.sourced;
     match &subject.claim {
-        None => refuse_macro(console, sourced, entry, refusal),
+        None => refuse_macro::<S, _, _>(console, sourced, entry, refusal),
         Some(claim) => refuse_claim(console, sourced, entry, claim, refusal),
     }
 }
 
 /// Says why a macro is refused, by its certificate if there is one.
-pub fn refuse_subject<O: Write + Drop, E: Write + Drop>(
+pub fn refuse_subject<S: ClaimSearch, O: Write + Drop, E: Write + Drop>(
     console: &mut Console<O, E>,
     subject: &Subject<'_>,
     entry: Reg,
@@ -153,7 +170,7 @@ pub fn refuse_subject<O: Write + Drop, E: Write + Drop>(
 ) -> Result<Outcome, ToolFault>
     ensures { Refuses (O.contents console.old.out) (O.contents console.new.out) result }
 {
-    match refuse_by_claim(console, subject, entry, refusal) {
+    match refuse_by_claim::<S, _, _>(console, subject, entry, refusal) {
         Ok(outcome) => Ok(outcome),
         Err(fault) => Err(ToolFault::Answer(fault)),
     }

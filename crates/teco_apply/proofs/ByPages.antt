@@ -19,15 +19,15 @@ use Rattle.teco_apply.specs.ByPages.{IsRefused, RanBy}
 use Rattle.teco_apply.specs.ByPages.{RanCounts, TooMany, TurnCounts, TurnedBy, Turning, Turns}
 use Rattle.teco_apply.specs.ByPages.{edited_with, gathering, tally_after, turning}
 use Rattle.teco_apply.specs.Sure.{Answers, loaded as with_library}
-use Rattle.teco_apply.specs.declared.by_pages.PageChoice.TheVariants.{Each, Whole}
+use Rattle.teco_options.specs.declared.editing.PageChoice.TheVariants.{Each, Whole}
 use Rattle.teco_apply.specs.declared.ready.NotReady.TheVariants as not_ready
 use Rattle.teco_apply.specs.declared.stages.Ran.TheVariants as ran
 use Rattle.teco_apply.specs.declared.stages.Turned.{Turned}
 use Rattle.teco_apply.specs.declared.stages.Turned.TheVariants as turned
 use Rattle.teco_model.specs.Session.{code_line, lines_of, without_typed}
 use Rattle.teco_model.specs.declared.stop.Stop.TheVariants as kind
-use Rattle.teco_pages.proofs.Told.{told-same}
-use Rattle.teco_pages.specs.Held.{files_of}
+use Rattle.teco_hosts.proofs.Told.{told-same}
+use Rattle.teco_hosts.specs.Held.{files_of}
 use Rattle.teco_filing.specs.Worlds.{is_some_byte}
 use Rattle.teco_run.proofs.Together.{none-open}
 use Rattle.teco_model.specs.Run.{StopCounts}

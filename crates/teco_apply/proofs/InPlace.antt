@@ -7,8 +7,8 @@ use Rattle.std.specs.List.{AllByRecursion}
 use Rattle.teco_apply.specs.InPlace.{IsRewritten}
 use Rattle.teco_in_place.proofs.Fitting.{fits-beneath}
 use Rattle.teco_in_place.specs.InPlace.{FilesAreReplaced, IsPassedOn, all_beneath, new_text}
-use Rattle.teco_pages.specs.Events.{Happened, IsOfBytes}
-use Rattle.teco_pages.specs.Noting.{EndsAtEnd}
+use Rattle.teco_hosts.specs.Events.{Happened, IsOfBytes}
+use Rattle.teco_hosts.specs.Noting.{EndsAtEnd}
 use Rattle.teco_session.specs.declared.fault.SessionFault.TheVariants as fault
 
 -- ---- what was noted

@@ -8,9 +8,9 @@ use Rattle.teco_apply.proofs.Touched.{touches-none-loaded}
 use Rattle.teco_apply.specs.Touched.{AreMeasuredAnew, Measures}
 use Rattle.teco_apply.specs.Touched.{TouchesInEdit, TouchesOpening, by_measure}
 use Rattle.teco_apply.specs.Touched.{by_macro}
-use Rattle.teco_pages.proofs.Touching.{touches-none, touches-on}
-use Rattle.teco_pages.specs.Noting.{noted_left}
-use Rattle.teco_pages.specs.Possible.{FitWhere}
+use Rattle.teco_hosts.proofs.Touching.{touches-none, touches-on}
+use Rattle.teco_hosts.specs.Noting.{noted_left}
+use Rattle.teco_hosts.specs.Possible.{FitWhere}
 use Rattle.teco_run.specs.Touched.{TouchesBetween}
 use Rattle.teco_session.specs.Touched.{TouchesByString}
 use Rattle.teco_session.specs.declared.fault.SessionFault.TheVariants as fault

@@ -13,8 +13,8 @@ pub use Rattle.teco_apply.specs.Sure.{PromisedCall}
 pub use Rattle.teco_apply.specs.Touched.{EditTouches, IsReadyLoaded, TouchesByParts, TouchesNone, by_dropping, by_none}
 pub use Rattle.teco_apply.specs.Touched.{by_string, in_turn}
 pub use Rattle.teco_apply.specs.declared.by_pages.Edited.{Edited}
-pub use Rattle.teco_apply.specs.declared.by_pages.PageChoice.{PageChoice}
-pub use Rattle.teco_apply.specs.declared.by_pages.PageChoice.TheVariants.{First}
+pub use Rattle.teco_options.specs.declared.editing.PageChoice.{PageChoice}
+pub use Rattle.teco_options.specs.declared.editing.PageChoice.TheVariants.{First}
 pub use Rattle.teco_apply.specs.declared.by_pages.TheConstants.{PAGES}
 pub use Rattle.teco_apply.specs.declared.ready.NotReady.{NotReady}
 pub use Rattle.teco_apply.specs.declared.stages.Ran.{Ran}
@@ -33,12 +33,12 @@ pub use Rattle.teco_model.specs.State.{End, Kept, Next, State, World, start}
 unfoldable pub use Rattle.teco_model.specs.Step.{step}
 pub use Rattle.teco_model.specs.declared.kind.Kind.{Kind}
 pub use Rattle.teco_model.specs.declared.stop.Stop.{Stop}
-pub use Rattle.teco_pages.proofs.Told.{told-map, told-whole}
-pub use Rattle.teco_pages.specs.Events.{Event}
-pub use Rattle.teco_pages.specs.Held.{Held, IsSameOutput, unread_bytes}
-pub use Rattle.teco_pages.specs.HostFiles.{AreOfBytes, HostFiles, Notes, Telling, Tells}
-pub use Rattle.teco_pages.specs.Noting.{Touches}
-pub use Rattle.teco_pages.specs.Possible.{NotesFit}
+pub use Rattle.teco_hosts.proofs.Told.{told-map, told-whole}
+pub use Rattle.teco_hosts.specs.Events.{Event}
+pub use Rattle.teco_hosts.specs.Held.{Held, IsSameOutput, unread_bytes}
+pub use Rattle.teco_hosts.specs.HostFiles.{AreOfBytes, HostFiles, Notes, Telling, Tells}
+pub use Rattle.teco_hosts.specs.Noting.{Touches}
+pub use Rattle.teco_hosts.specs.Possible.{NotesFit}
 pub use Rattle.teco_run.specs.Holdings.{Holdings, Joined}
 pub use Rattle.teco_run.specs.Touched.{TouchesBySteps, touched_in_run}
 pub use Rattle.teco_session.proofs.Together.{Joined-on, Joined-stays}

@@ -1,33 +1,29 @@
 -- A verified macro is sure to end.
 use Rattle.teco_apply.proofs.Prelude.{◌≡◌, ℕ, zero, suc, ◌<◌, ◌≤◌, List, [], ◌∷◌, length, Option, Some, None}
 use Rattle.teco_apply.proofs.Prelude.{option_map, IsSome, refl, subst, sym, arith, nat_tests, Calls, HasFiles}
-use Rattle.teco_apply.proofs.Prelude.{PromisedCall}
-use Rattle.teco_apply.proofs.Prelude.{IsReady, MOST, TakesArgument, call_text, kept_loaded, REGISTERS, IsLoaded, Stops}
-use Rattle.teco_apply.proofs.Prelude.{Kept, World, start, Stop, Input, Output, Held, IsSameOutput, unread_bytes}
-use Rattle.teco_apply.proofs.Prelude.{told-map, told-whole, HostFiles, AreOfBytes, Telling, world, Holdings, Joined}
-use Rattle.std.proofs.Common.{ℤ, pos, negsuc}
-use Rattle.std.proofs.Common.{get_or}
+use Rattle.teco_apply.proofs.Prelude.{PromisedCall, IsReady, MOST, TakesArgument, call_text, kept_loaded, REGISTERS}
+use Rattle.teco_apply.proofs.Prelude.{IsLoaded, Stops, Kept, World, start, Stop, Input, Output, Held, IsSameOutput}
+use Rattle.teco_apply.proofs.Prelude.{unread_bytes, told-map, told-whole, HostFiles, AreOfBytes, Telling, world}
+use Rattle.teco_apply.proofs.Prelude.{Holdings, Joined}
+use Rattle.std.proofs.Common.{ℤ, pos, negsuc, get_or}
 use Rattle.std.specs.List.{sum_by}
 use Rattle.std.proofs.lemmas.List.Sums.{sum_by-cons}
-use Rattle.teco_apply.specs.Sure.{IsTaken, IsThere, Runs}
-use Rattle.teco_apply.specs.Sure.{TypesWithin}
+use Rattle.teco_apply.specs.Sure.{IsTaken, IsThere, Runs, TypesWithin}
 use Rattle.teco_base.specs.Register.{register_name}
-use Rattle.teco_law_expansion.specs.Given.{call_given}
+use Rattle.teco_law_runs.specs.Given.{call_given}
 use Rattle.teco_model.specs.Macros.{IsAsked, Needs}
 use Rattle.teco_poly.specs.Polynomial.{value}
 use Rattle.teco_model.specs.Registers.{Pair, empty_pair, held_length_of_pair}
 use Rattle.teco_model.specs.Run.{IsSure}
 use Rattle.teco_model.specs.laws.Whole.{IsWhole}
 use Rattle.teco_model.specs.declared.stop.Stop.TheVariants as stop
-use Rattle.teco_pages.specs.Held.{HoldsBytes, input_of}
-use Rattle.teco_pages.proofs.Bytes.{files_whole}
-use Rattle.teco_law_facts.specs.Laws.{IsEntry}
+use Rattle.teco_hosts.specs.Held.{HoldsBytes, input_of}
+use Rattle.teco_hosts.proofs.Bytes.{files_whole}
+use Rattle.teco_law_runs.specs.Ready.{IsEntry, AreOpen, n_of}
 use Rattle.teco_model.specs.Paging.{unread_of}
-use Rattle.teco_law_facts.specs.SoundSteps.{AreOpen}
-use Rattle.teco_law_tables.specs.Keeping.{LeavesOpen, RunsLeaveOpen}
-use Rattle.teco_law_tables.specs.Sure.{ComesTo, RunsAreSure, RunsEndOnce}
-use Rattle.teco_law_tables.specs.Verified as tables
-use Rattle.teco_law_tables.specs.Verified.{n_of}
+use Rattle.teco_law_runs.specs.Keeping.{LeavesOpen, RunsLeaveOpen}
+use Rattle.teco_law_runs.specs.Sure.{ComesTo, RunsAreSure, RunsEndOnce}
+use Rattle.teco_law_runs.specs.Ready as beginning
 use Rattle.teco_promise.specs.Promise.{EachRunEnds, EndsTyping, IsTypedWithin, most_typed}
 
 -- ---- N
@@ -99,7 +95,7 @@ module _ (laws : Laws) (call : PromisedCall) (kept : Kept) (held : Held) (is : I
   now = world kept held files
 
   -- where it begins
-  entered : tables.IsReady call.promise.library call.promise.entry call.promise.size (n_of now) now
+  entered : beginning.IsReady call.promise.library call.promise.entry call.promise.size (n_of now) now
   entered = record {
     named = is.named;
     loaded = is.loaded;

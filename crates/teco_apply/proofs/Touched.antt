@@ -2,10 +2,10 @@
 use Rattle.teco_apply.proofs.Prelude.{◌≡◌, ℕ, zero, suc, ◌+◌, ◌-◌, ◌<◌, ◌≤◌, List, [], ◌∷◌, Bool, true, false, Option}
 use Rattle.teco_apply.proofs.Prelude.{Some, None, Result, Ok, Err, inl, inr, refl, sym, ap, subst, ◌∙◌, arith, nat_le}
 use Rattle.teco_apply.proofs.Prelude.{nat_tests, IsReady, call_text, kept_loaded, IsReadyLoaded, TouchesNone}
-use Rattle.teco_apply.proofs.Prelude.{PromisedCall}
-use Rattle.teco_apply.proofs.Prelude.{world, Element, element_at, go_on, run, State, World, Next, End, start, step}
-use Rattle.teco_apply.proofs.Prelude.{Kind, told-whole, Event, IsSameOutput, AreOfBytes, HostFiles, Telling, Tells}
-use Rattle.teco_apply.proofs.Prelude.{Notes, Touches, NotesFit, Holdings, TouchesBySteps, touched_in_run}
+use Rattle.teco_apply.proofs.Prelude.{PromisedCall, world, Element, element_at, go_on, run, State, World, Next, End}
+use Rattle.teco_apply.proofs.Prelude.{start, step, Kind, told-whole, Event, IsSameOutput, AreOfBytes, HostFiles}
+use Rattle.teco_apply.proofs.Prelude.{Telling, Tells, Notes, Touches, NotesFit, Holdings, TouchesBySteps}
+use Rattle.teco_apply.proofs.Prelude.{touched_in_run}
 use Rattle.std.proofs.Common.{nat_lt}
 use Rattle.std.proofs.lemmas.Bool.{true≢false}
 use Rattle.std.specs.Prelude.{IfSome}
@@ -13,12 +13,12 @@ use Rattle.teco_apply.proofs.Sure.{IsCalled, Laws, ends_with}
 use Rattle.teco_apply.specs.Touched.{WasNotReady}
 use Rattle.teco_base.specs.declared.code.Code as base
 use Rattle.teco_filing.specs.declared.halt.Halt.{Halt}
-use Rattle.teco_law_tables.specs.Staying.{NoFileCommands, ReadsNoFileCommand, is_of_files}
+use Rattle.teco_law_runs.specs.Staying.{NoFileCommands, ReadsNoFileCommand, is_of_files}
 use Rattle.teco_model.specs.Run.{Ends, Reaches}
 use Rattle.teco_model.specs.declared.kind.Kind.TheVariants as kind
-use Rattle.teco_pages.specs.Events.{opened_input, gave, ended, opened_output, wrote, closed, dropped, measured}
-use Rattle.teco_pages.specs.Noting.{openings}
-use Rattle.teco_pages.specs.Possible.{GivesMeasured, IsUnopened, OpensAnew, SomeFit}
+use Rattle.teco_hosts.specs.Events.{opened_input, gave, ended, opened_output, wrote, closed, dropped, measured}
+use Rattle.teco_hosts.specs.Noting.{openings}
+use Rattle.teco_hosts.specs.Possible.{GivesMeasured, IsUnopened, OpensAnew, SomeFit}
 use Rattle.teco_run.proofs.Quiet.{quiet-end}
 use Rattle.teco_run.proofs.Runs.{run-on}
 use Rattle.teco_run.specs.Touched.{ComesTo, IsDue, file_of, output_named, touched_by_read}

@@ -6,8 +6,8 @@ use Rattle.teco_apply.specs.Apply.{AnswersText, BothOpen, Course, DropsIfCoded, 
 use Rattle.teco_apply.specs.Apply.{are_plain, closing, opening}
 use Rattle.teco_apply.specs.Sure.{PromisedCall, MOST, Runs, loaded}
 use Rattle.teco_apply.specs.declared.by_pages.Edited.{Edited}
-use Rattle.teco_apply.specs.declared.by_pages.PageChoice.{PageChoice}
-use Rattle.teco_apply.specs.declared.by_pages.PageChoice.TheVariants.{First, Each, Whole}
+use Rattle.teco_options.specs.declared.editing.PageChoice.{PageChoice}
+use Rattle.teco_options.specs.declared.editing.PageChoice.TheVariants.{First, Each, Whole}
 use Rattle.teco_apply.specs.declared.by_pages.TheConstants.{PAGES}
 use Rattle.teco_apply.specs.declared.stages.Ran.{Ran}
 use Rattle.teco_apply.specs.declared.stages.Ran.TheVariants as ran

@@ -2,13 +2,13 @@
 use Rattle.std.specs.Prelude.{ℕ, ◌≡◌, List, Bool, Option, Result}
 use Rattle.teco_apply.specs.ByPages.{FileEdited, Order}
 use Rattle.teco_apply.specs.declared.by_pages.Edited.{Edited}
-use Rattle.teco_apply.specs.declared.by_pages.PageChoice.{PageChoice}
+use Rattle.teco_options.specs.declared.editing.PageChoice.{PageChoice}
 use Rattle.teco_filing.specs.Worlds.{world}
 use Rattle.teco_in_place.specs.InPlace.{AreFittedInPlace, AreInPlace, AreReady, new_text}
-use Rattle.teco_pages.specs.Events.{Event, Happened}
-use Rattle.teco_pages.specs.Held.{IsSameOutput}
-use Rattle.teco_pages.specs.HostFiles.{AreOfBytes, HostFiles, Telling, Notes}
-use Rattle.teco_pages.specs.Possible.{GivesMeasured}
+use Rattle.teco_hosts.specs.Events.{Event, Happened}
+use Rattle.teco_hosts.specs.Held.{IsSameOutput}
+use Rattle.teco_hosts.specs.HostFiles.{AreOfBytes, HostFiles, Telling, Notes}
+use Rattle.teco_hosts.specs.Possible.{GivesMeasured}
 use Rattle.teco_run.specs.Holdings.{Holdings}
 use Rattle.teco_session.specs.declared.fault.SessionFault.{SessionFault}
 

@@ -1,6 +1,6 @@
 -- What the run of a verified macro does.
-use Rattle.std.specs.Prelude.{◌≡◌, ℕ, ◌+◌, ◌-◌, ◌^◌, ◌≤◌, ℤ, pos, negsuc, List, ◌++◌, length, Bool, true}
-use Rattle.std.specs.Prelude.{Option, Some, None, Result, Ok, Err, IsSome, ⊤}
+use Rattle.std.specs.Prelude.{◌≡◌, ℕ, ◌+◌, ◌-◌, ◌^◌, ◌≤◌, ℤ, pos, negsuc, List, ◌++◌, length, Bool, true, Option, Some}
+use Rattle.std.specs.Prelude.{None, Result, Ok, Err, IsSome, ⊤}
 use Rattle.teco_base.specs.NumberText.{decimal}
 use Rattle.teco_base.specs.declared.TheConstants.{LIMIT}
 use Rattle.teco_model.specs.Macros.{Library, call_of, ArgumentRange, IsAsked, Needs}
@@ -9,9 +9,9 @@ use Rattle.teco_model.specs.Run.{Stops, IsSure}
 use Rattle.teco_model.specs.State.{Kept, World, start}
 use Rattle.teco_model.specs.declared.stop.Stop.TheVariants as stop
 use Rattle.teco_model.specs.declared.stop.Stop.{Stop}
-use Rattle.teco_law_tables.specs.Keeping.{LeavesOpen}
-use Rattle.teco_law_tables.specs.Verified.{n_of}
-use Rattle.teco_pages.specs.Held.{Held}
+use Rattle.teco_law_runs.specs.Keeping.{LeavesOpen}
+use Rattle.teco_law_runs.specs.Ready.{n_of}
+use Rattle.teco_hosts.specs.Held.{Held}
 use Rattle.teco_poly.specs.Polynomial.{value}
 use Rattle.teco_promise.specs.Promise.{IsTypedWithin, Promise, most_typed}
 use Rattle.teco_apply.specs.declared.ready.NotReady.{NotReady}

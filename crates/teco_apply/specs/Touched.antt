@@ -4,10 +4,10 @@ use Rattle.teco_apply.specs.Apply.{closing, dropping, opening}
 use Rattle.teco_apply.specs.ByPages.{gathering, to_start, turning}
 use Rattle.teco_apply.specs.Sure.{PromisedCall, IsReady, MOST, loaded}
 use Rattle.teco_model.specs.State.{World}
-use Rattle.teco_pages.specs.Events.{Event}
-use Rattle.teco_pages.specs.HostFiles.{Telling}
-use Rattle.teco_pages.specs.Noting.{noted_left}
-use Rattle.teco_pages.specs.Possible.{AreOpenedAnew, FitWhere, GivesMeasured, SomeFit}
+use Rattle.teco_hosts.specs.Events.{Event}
+use Rattle.teco_hosts.specs.HostFiles.{Telling}
+use Rattle.teco_hosts.specs.Noting.{noted_left}
+use Rattle.teco_hosts.specs.Possible.{AreOpenedAnew, FitWhere, GivesMeasured, SomeFit}
 use Rattle.teco_run.specs.Holdings.{Holdings, Joined}
 use Rattle.teco_run.specs.Touched.{TouchesBetween}
 use Rattle.teco_session.specs.Touched.{TouchesByRun, TouchesByString}

@@ -9,16 +9,17 @@ ghost use Rattle.teco_base.specs.declared.TheConstants.{LIMIT};
 ghost use Rattle.teco_run.specs.Holdings.{Joined};
 ghost use Rattle.teco_session.specs.declared.fault.SessionFault.TheVariants as fault;
 
-use crate::editing::{Heard, NAME, answer_text, drop_if_coded, opening, tell};
+use crate::editing::{Heard, answer_text, drop_if_coded, opening, tell};
 use crate::guard::{Guard, Observer, Order};
 use crate::run::{PromisedCall, takes};
 use crate::stages::{Ran, Tally, Turned, close, not_begun, run_admitted, turn};
 use std::alloc::Global;
 use std::io::Write;
 use teco_base::bytes::ESC;
+use teco_hosts::Host;
+use teco_hosts::laws::notes_fit;
 use teco_model::Stop;
-use teco_pages::Host;
-use teco_pages::laws::notes_fit;
+use teco_options::{NAME, PageChoice};
 use teco_promise::Promise;
 use teco_run::Machine;
 use teco_session::{Listener, SessionFault};
@@ -26,17 +27,6 @@ use teco_text::TextStore;
 
 /// How many pages an edit takes; more are answered with `LIM`.
 pub const PAGES: u64 = 4_294_967_296;
-
-/// Which pages of a file a macro edits.
-#[derive(Clone, Copy)]
-pub enum PageChoice {
-    /// The first; the others are copied.
-    First,
-    /// Each in turn, as long as bytes are unread.
-    Each,
-    /// All as one, with the form feeds between them.
-    Whole,
-}
 
 /// How a file is edited.
 #[derive(Drop)]

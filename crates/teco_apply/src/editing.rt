@@ -15,14 +15,11 @@ use std::alloc::{AllocError, Global};
 use std::io::Write;
 use teco_base::Code;
 use teco_base::bytes::ESC;
+use teco_hosts::Host;
 use teco_model::Stop;
-use teco_pages::Host;
 use teco_run::{Machine, Stopped};
 use teco_session::{Listener, SessionFault, write_stop};
 use teco_text::TextStore;
-
-/// How many bytes the name of a file has, at most.
-pub const NAME: usize = 4096;
 
 /// The command string that opens an input and an output, and reads the first page.
 pub fn opening(alloc: Global, source: &[u8], target: &[u8]) -> Result<Vec<u8>, AllocError>

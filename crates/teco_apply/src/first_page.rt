@@ -8,12 +8,12 @@ ghost use Rattle.teco_session.specs.Answers.{Said};
 ghost use Rattle.teco_session.specs.declared.fault.SessionFault.TheVariants as fault;
 ghost use Rattle.teco_verify.specs.Promised.{promise_of};
 
-use crate::by_pages::{Edit, PageChoice, dropped, edit_file};
-use crate::editing::NAME;
+use crate::by_pages::{Edit, dropped, edit_file};
 use crate::guard::Willing;
 use std::alloc::Global;
 use std::io::Write;
-use teco_pages::Host;
+use teco_hosts::Host;
+use teco_options::{NAME, PageChoice};
 use teco_run::Machine;
 use teco_session::{Done, SessionFault};
 use teco_text::TextStore;

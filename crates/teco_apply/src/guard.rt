@@ -3,7 +3,7 @@ ghost use Rattle.std.specs.Prelude.{ℕ, ◌≡◌, Option, Bool, true};
 
 use crate::run::PromisedCall;
 use teco_base::Code;
-use teco_pages::Host;
+use teco_hosts::Host;
 use teco_run::{Machine, Stopped};
 use teco_session::Listener;
 use teco_text::TextStore;

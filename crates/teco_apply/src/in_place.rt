@@ -3,20 +3,20 @@ ghost use Rattle.std.specs.Prelude.{◌≡◌, ◌<◌, ◌↔◌, [], Err, leng
 ghost use Rattle.teco_apply.specs.ByPages.{order_by};
 ghost use Rattle.teco_apply.specs.InPlace.{IsRewritten};
 ghost use Rattle.teco_apply.specs.Sure.{IsTaken};
-ghost use Rattle.teco_pages.specs.HostFiles.{Notes};
+ghost use Rattle.teco_hosts.specs.HostFiles.{Notes};
 ghost use Rattle.teco_session.specs.declared.fault.SessionFault.TheVariants as fault;
 
-use crate::by_pages::{Edit, Edited, PageChoice, edit_file};
-use crate::editing::NAME;
+use crate::by_pages::{Edit, Edited, edit_file};
 use crate::guard::{Asked, Guard, Observer};
 use crate::run::takes;
 use std::alloc::Global;
 use std::io::Write;
 use teco_base::Code;
+use teco_hosts::Host;
+use teco_hosts::laws::notes_fit;
 use teco_in_place::laws::files_are_replaced;
 use teco_in_place::{Ending, InPlace, new_text_of};
-use teco_pages::Host;
-use teco_pages::laws::notes_fit;
+use teco_options::{NAME, PageChoice};
 use teco_promise::Promise;
 use teco_run::{Machine, Stopped};
 use teco_session::{Listener, SessionFault};

@@ -1,39 +1,10 @@
-//! Why no claims are found.
+//! Why a part of the search stops.
 use std::alloc::{AllocError, AllocFailed};
 use teco_linear::LinearFault;
 use teco_paths::fault::PathFault;
+pub use teco_paths::search::SearchRefusal;
 use teco_rows::fault::RowFault;
 use teco_simplex::SimplexFault;
-use thiserror::Error;
-
-/// Why no claims are found.
-#[derive(Clone, Copy, Debug, Error)]
-pub enum SearchRefusal {
-    /// What comes of an element is not told.
-    #[error("what comes of this element is not told")]
-    NotTold(usize),
-    /// The file that an element wants is not one of those that are open.
-    #[error("the file that this element wants is not open")]
-    NotOpen(usize),
-    /// A condition of an element could not be shown.
-    #[error("a condition of this element could not be shown")]
-    Condition(usize),
-    /// What is held, or the length of a text, has no bound that could be shown.
-    #[error("no bound was found for what is held")]
-    Size,
-    /// The steps of the loop whose body begins at an element have no bound that could be shown.
-    #[error("no bound was found for the steps of this loop")]
-    Steps(usize),
-    /// The search would take too much work.
-    #[error("the search takes too much work")]
-    TooMuch,
-    /// What was found is not accepted.
-    #[error("what was found is not accepted: {0}")]
-    NotAccepted(PathFault),
-    /// A growth was refused.
-    #[error("out of memory")]
-    Memory,
-}
 
 // Why a part of the search stops: it gives up; it is begun again with a cut point more, or with fewer
 // numbers that are taken to be tame; or what it rests on was not the last word.

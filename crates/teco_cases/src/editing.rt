@@ -8,7 +8,7 @@ use std::alloc::{AllocError, Global};
 use teco_apply::{Edit, Edited, PageChoice, Willing, edit_file};
 use teco_base::bytes::FF;
 use teco_console::Premise;
-use teco_pages::Host;
+use teco_hosts::Host;
 use teco_poly::Poly;
 use teco_promise::Promise;
 use teco_run::Machine;

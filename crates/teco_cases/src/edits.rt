@@ -5,9 +5,10 @@ use crate::fault::CaseFault;
 use crate::findings::Findings;
 use crate::subject::{MacroSubject, library_of};
 use std::alloc::Global;
+use teco_acceptance::{Verdict, verified_by};
 use teco_apply::PageChoice;
+use teco_infer::Inference;
 use teco_promise::Promise;
-use teco_verdicts::{Verdict, verified_by};
 use teco_verify::Refusal;
 
 const KEYS: &[&str] = &[
@@ -72,7 +73,7 @@ pub fn run_edit(rt: &HostRuntime, case: &NamedCase<'_>) -> Result<Findings, Case
     case.check(CaseKeys::of_texts(KEYS))?;
     let MacroSubject { entry, method } = MacroSubject::of(case)?;
     let library = library_of(rt.alloc(), case)?;
-    match verified_by(rt.alloc(), &library, entry, method) {
+    match verified_by::<Inference>(rt.alloc(), &library, entry, method) {
         Ok(accepted) => edit_promised(rt, case, &accepted.promise()),
         Err(refusal) => refused(rt.alloc(), &refusal),
     }

@@ -3,7 +3,7 @@ use crate::case_file::NamedText;
 use crate::fault::CaseFault;
 use std::fs::DirEntry;
 use std::{env, fs, io, str};
-use teco_pages::MemHost;
+use teco_hosts::MemHost;
 
 /// The folder, which is there only while a case is run.
 const FOLDER: &str = "work";

@@ -8,12 +8,13 @@ use crate::subject::{METHODS, MacroSubject, library_of};
 use crate::verdicts::accepted_by;
 use std::alloc::Global;
 use std::str;
+use teco_acceptance::{Accepted, Verdict, verified_by};
 use teco_apply::PageChoice;
 use teco_base::Reg;
+use teco_infer::Inference;
 use teco_library::Library;
 use teco_poly::Poly;
 use teco_promise::Promise;
-use teco_verdicts::{Accepted, Verdict, verified_by};
 use teco_verify::Refusal;
 
 const KEYS: CaseKeys = CaseKeys {
@@ -108,7 +109,7 @@ fn compare_verdicts(
         let Some(wanted) = case.named_text("verdict", name.as_bytes()) else {
             continue;
         };
-        let accepted = verified_by(alloc, library, entry, *method);
+        let accepted = verified_by::<Inference>(alloc, library, entry, *method);
         if let Some(bound) = case.named_text("bound", name.as_bytes()) {
             compare_bound(alloc, findings, bound, most_of(&accepted))?;
         }
@@ -228,7 +229,7 @@ fn run_promise(
     library: &Library,
     subject: MacroSubject,
 ) -> Result<Findings, CaseFault> {
-    match verified_by(rt.alloc(), library, subject.entry, subject.method) {
+    match verified_by::<Inference>(rt.alloc(), library, subject.entry, subject.method) {
         Ok(accepted) => run_accepted(rt, case, library, subject, &accepted),
         Err(refusal) => refused(rt.alloc(), &refusal),
     }

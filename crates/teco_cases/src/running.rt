@@ -5,7 +5,9 @@ use crate::findings::Findings;
 use crate::folder;
 use crate::settings::{CaseSetting, FilePlace, Store, by_pieces};
 use std::alloc::{AllocError, Global};
-use teco_pages::{Closing, FileHost, Handling, Host, MemHost};
+use teco_files::{Closing, Handling};
+use teco_hosts::{Host, MemHost};
+use teco_pages::FileHost;
 use teco_run::Machine;
 use teco_text::{GapText, TextStore, VecText};
 

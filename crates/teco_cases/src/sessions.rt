@@ -6,7 +6,7 @@ use crate::pieces::PieceReader;
 use crate::running::{CaseRun, CaseRunner, FilesLeft, buffer_of, run_over_each};
 use crate::settings::Extent;
 use std::alloc::{AllocError, Global};
-use teco_pages::Host;
+use teco_hosts::Host;
 use teco_run::Machine;
 use teco_session::{SessionFault, session};
 use teco_text::TextStore;

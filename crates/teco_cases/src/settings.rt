@@ -1,6 +1,6 @@
 //! What cases are run over: stores of a text, and hosts of files.
 use std::fmt;
-use teco_pages::{HostCall, MemHost, TestHost};
+use teco_hosts::{HostCall, MemHost, TestHost};
 
 /// A store of a text.
 #[derive(Clone, Copy)]

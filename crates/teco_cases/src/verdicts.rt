@@ -5,9 +5,11 @@ use crate::findings::Findings;
 use crate::subject::{MacroSubject, library_of};
 use std::alloc::Global;
 use std::fs;
+use teco_acceptance::{Accepted, accepted, read_claim};
 use teco_console::{AnswerFault, Console, Escape, Method, Origin, Outcome, Request};
+use teco_infer::Inference;
 use teco_library::Library;
-use teco_verdicts::{Accepted, accepted, check_macro, read_claim, verify_macro};
+use teco_verdicts::{check_macro, verify_macro};
 use teco_verify::Refusal;
 
 const VERDICT_KEYS: &[&str] = &["library", "entry", "rules", "output", "status"];
@@ -65,7 +67,7 @@ fn verified(rt: &HostRuntime, case: &NamedCase<'_>) -> Result<ProgramOutput, Cas
     let MacroSubject { entry, method } = MacroSubject::of(case)?;
     let mut console = console(rt);
     fs::write(rt, LIBRARY_FILE, case.text("library")?)?;
-    let outcome = verify_macro(rt, &mut console, request(method), entry);
+    let outcome = verify_macro::<Inference, _, _, _>(rt, &mut console, request(method), entry);
     fs::remove_file(rt, LIBRARY_FILE)?;
     printed_by(console, outcome)
 }
@@ -108,7 +110,7 @@ pub fn accepted_by<'l>(
     fs::write(rt, CERTIFICATE_FILE, certificate)?;
     let claim = read_claim(rt, rt.alloc(), Some(CERTIFICATE_FILE));
     fs::remove_file(rt, CERTIFICATE_FILE)?;
-    Ok(accepted(rt.alloc(), library, entry, method, claim?.as_ref()))
+    Ok(accepted::<Inference>(rt.alloc(), library, entry, method, claim?.as_ref()))
 }
 
 // Compares a certificate with the one that is printed of an accepted macro.

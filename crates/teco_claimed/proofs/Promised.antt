@@ -5,7 +5,7 @@ use Rattle.teco_claimed.specs.Claimed.{LinearFinding, IsChecked, lengths_of, pro
 use Rattle.teco_claimed.specs.Reads.{IsTextOf}
 use Rattle.teco_claimed.specs.declared.certificate.LinearCertificate.{LinearCertificate}
 use Rattle.teco_claimed.specs.declared.refusal.LinearRefusal.{LinearRefusal}
-use Rattle.teco_law_expansion.specs.Linked.{ExpansionsAreLinked}
+use Rattle.teco_law_runs.specs.Linked.{ExpansionsAreLinked}
 use Rattle.teco_model.specs.Macros.{ArgumentRange, Library, Needs}
 use Rattle.teco_paths.specs.Sure.{CertainEnd}
 use Rattle.teco_poly.specs.Polynomial.{Polynomial}

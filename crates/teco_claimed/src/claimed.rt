@@ -8,7 +8,7 @@ use std::alloc::{AllocError, Global};
 use std::marker::Model;
 use teco_base::Reg;
 use teco_claims::Claims;
-use teco_law_expansion::laws::expansions_are_linked;
+use teco_law_runs::laws::expansions_are_linked;
 use teco_library::Library;
 use teco_model::{ArgumentRange, Needs};
 use teco_paths::laws::certain_ends;

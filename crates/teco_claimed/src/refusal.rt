@@ -8,8 +8,8 @@ use std::alloc::AllocError;
 use std::fmt;
 use teco_certificate::CertificateFault;
 use teco_expansion::{ExpandFault, ExpandReason, Nodes, PlacedReason};
-use teco_infer::SearchRefusal as Unfound;
 use teco_paths::fault::PathFault;
+use teco_paths::search::SearchRefusal as Unfound;
 use thiserror::Error;
 
 /// Where the element of a node stands: the place of the register in whose text, and its place there.

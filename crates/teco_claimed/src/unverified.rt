@@ -4,7 +4,7 @@ ghost use Rattle.std.specs.Prelude.{◌≡◌};
 use crate::refusal::{LinearRefusal, NodePlace, place_at};
 use std::alloc::Global;
 use teco_expansion::Nodes;
-use teco_infer::{SearchFailure, Shortfall};
+use teco_paths::search::{SearchFailure, Shortfall};
 
 /// What more would show a condition of a macro.
 #[derive(Drop)]

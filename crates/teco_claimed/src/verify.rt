@@ -11,11 +11,11 @@ use std::alloc::Global;
 use teco_base::Reg;
 use teco_claims::{Claim, ClaimMeasure, ClaimSingle, Claims};
 use teco_expansion::{Nodes, expand};
-use teco_infer::{ATTEMPTS, SearchRefusal as Unfound, infer_by, next_attempt};
 use teco_library::Library;
 use teco_model::kind::{Page, Search};
 use teco_model::{Kind, Needs};
 use teco_paths::claimed::Called;
+use teco_paths::search::{ClaimSearch, SearchRefusal as Unfound};
 
 // The files that an element wants.
 fn wanted_by(kind: Kind) -> Needs {
@@ -94,18 +94,18 @@ fn by_claims<'l>(
 
 // The macro by the claims that one way of looking for them finds. Where they are not certain, those of
 // typed bytes are left out: no bound on these is owed.
-fn attempt<'l>(
+fn verify_by_way<'l, S: ClaimSearch>(
     library: &'l Library,
     entry: Reg,
     called: &Called<'_>,
-    attempt: usize,
+    way: usize,
     alloc: Global,
 ) -> Result<Claimed<'l>, Unverified>
     ensures library { IfOk result (λ found. found.library ≡ library.now) }
     ensures declared { IfOk result (λ found. TakesDeclared library.now found.certificate) }
     ensures entry { IfOk result (λ found. found.certificate.entry ≡ entry) }
 {
-    let claims = match infer_by(called, attempt, alloc) {
+    let claims = match S::find(called, way, alloc) {
         Ok(claims) => claims,
         Err(failure) => return Err(Unverified::of_search(called.nodes, failure, alloc)),
     };
@@ -139,13 +139,17 @@ fn unfound(refused: LinearRefusal) -> Option<Unfound> {
 
 // The way of looking that is worth its time behind this refusal, where the first way had another. Claims
 // that are not certain are as good as none: the refusal is then the first way's.
-fn next_behind(first: LinearRefusal, refused: LinearRefusal, attempt: usize) -> Option<usize> {
+fn next_behind<S: ClaimSearch>(
+    first: LinearRefusal,
+    refused: LinearRefusal,
+    way: usize,
+) -> Option<usize> {
     let why = match refused {
         LinearRefusal::NotFound { why, .. } => why,
         LinearRefusal::NotCertain { .. } => unfound(first).unwrap_or(Unfound::Size),
         _ => return None,
     };
-    next_attempt(unfound(first).unwrap_or(why), why, attempt)
+    S::next_way(unfound(first).unwrap_or(why), why, way)
 }
 
 // How much is looked for.
@@ -159,7 +163,7 @@ struct Effort {
 
 // The macro by claims that are looked for with an effort. A refusal is that of the first way of looking
 // for them.
-fn attempts<'l>(
+fn verify_by_ways<'l, S: ClaimSearch>(
     library: &'l Library,
     entry: Reg,
     nodes: &Nodes<'_>,
@@ -183,12 +187,12 @@ fn attempts<'l>(
         let Some(at) = next else {
             break;
         };
-        match attempt(library, entry, &called, at, alloc) {
+        match verify_by_way::<S>(library, entry, &called, at, alloc) {
             Ok(claimed) => return Ok(claimed),
             Err(unverified) => {
                 let refusal = unverified.refusal;
                 let of_first = first.as_ref().map_or(refusal, |first| first.refusal);
-                next = next_behind(of_first, refusal, at);
+                next = next_behind::<S>(of_first, refusal, at);
                 first = first.or(Some(unverified));
             }
         }
@@ -218,7 +222,7 @@ fn nodes_of<'l>(
 
 // A macro of a library, by claims that are looked for in a number of ways. `A` alone wants an input, and
 // `nA` none: so where no input is known to be wanted, claims are looked for without one first.
-fn verify_in<'l>(
+fn verify_in<'l, S: ClaimSearch>(
     library: &'l Library,
     entry: Reg,
     ways: usize,
@@ -230,13 +234,13 @@ fn verify_in<'l>(
 {
     let nodes = nodes_of(library, entry, alloc)?;
     let needs = needs_of(&nodes);
-    match attempts(library, entry, &nodes, Effort { needs, ways }, alloc) {
+    match verify_by_ways::<S>(library, entry, &nodes, Effort { needs, ways }, alloc) {
         Err(unverified) if wants_file(unverified.refusal) && !needs.input => {
             let needs = Needs {
                 input: true,
                 output: needs.output,
             };
-            attempts(library, entry, &nodes, Effort { needs, ways }, alloc)
+            verify_by_ways::<S>(library, entry, &nodes, Effort { needs, ways }, alloc)
         }
         answer => answer,
     }
@@ -247,7 +251,7 @@ fn verify_in<'l>(
 /// # Errors
 ///
 /// Why none are found, and what more would do, where that can be told. There may be some all the same.
-pub fn verify_linear<'l>(
+pub fn verify_linear<'l, S: ClaimSearch>(
     library: &'l Library,
     entry: Reg,
     alloc: Global,
@@ -256,7 +260,7 @@ pub fn verify_linear<'l>(
     ensures declared { IfOk result (λ found. TakesDeclared library.now found.certificate) }
     ensures entry { IfOk result (λ found. found.certificate.entry ≡ entry) }
 {
-    verify_in(library, entry, ATTEMPTS, alloc)
+    verify_in::<S>(library, entry, S::WAYS, alloc)
 }
 
 /// A macro of a library, by claims that are looked for in the quickest way alone.
@@ -264,7 +268,7 @@ pub fn verify_linear<'l>(
 /// # Errors
 ///
 /// As of [`verify_linear`]; another way may find some.
-pub fn verify_quickly<'l>(
+pub fn verify_quickly<'l, S: ClaimSearch>(
     library: &'l Library,
     entry: Reg,
     alloc: Global,
@@ -273,5 +277,5 @@ pub fn verify_quickly<'l>(
     ensures declared { IfOk result (λ found. TakesDeclared library.now found.certificate) }
     ensures entry { IfOk result (λ found. found.certificate.entry ≡ entry) }
 {
-    verify_in(library, entry, 1, alloc)
+    verify_in::<S>(library, entry, 1, alloc)
 }

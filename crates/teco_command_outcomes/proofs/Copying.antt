@@ -30,7 +30,7 @@ use Rattle.teco_command_outcomes.specs.Texts.{Copies, CopiesCount, CopiesCounted
 use Rattle.teco_command_outcomes.specs.Texts.{HasRoomFor}
 use Rattle.teco_command_outcomes.specs.Texts.{IsGrownBy, IsRest, kept_with_text, rest_of}
 use Rattle.teco_command_outcomes.proofs.Lining.{ahead_within, back_within}
-use Rattle.teco_command_outcomes.proofs.Moving.{place_there}
+use Rattle.teco_motion_outcomes.proofs.Moving.{place_there}
 
 -- ---- a row that says how long the text is
 module _ (row : List Clause) (s : Point) (here : Places) (given unknown : ℕ → ℤ) (text : List ℕ)

@@ -19,7 +19,7 @@ use Rattle.teco_command_outcomes.specs.declared.deletions.TheConstants.{CUTS, CU
 use Rattle.teco_command_outcomes.specs.declared.deletions.TheConstants.{CUTS_LINE, CUTS_TOP, CUTS_UP, KEEPS, LINES}
 use Rattle.teco_command_outcomes.specs.declared.deletions.TheConstants.{LINES_BACK}
 use Rattle.teco_command_outcomes.specs.Deletions.{CutsBy}
-use Rattle.teco_command_outcomes.proofs.Codes.{left_before, left_here}
+use Rattle.teco_motion_outcomes.proofs.Codes.{left_before, left_here}
 use Rattle.teco_command_outcomes.proofs.Lining.{LiesAbove, above_within, ahead_within, back_within}
 
 -- ---- a text without a part

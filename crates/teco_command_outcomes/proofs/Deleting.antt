@@ -1,14 +1,13 @@
 -- What D and K delete: the part between two places, characters, and lines.
 use Rattle.teco_command_outcomes.proofs.Prelude.{◌≡◌, ℕ, suc, ◌+◌, ◌-◌, ◌≤◌, ℤ, pos, negsuc, ◌+ℤ◌, ◌-ℤ◌, ◌≤ℤ◌, List, []}
 use Rattle.teco_command_outcomes.proofs.Prelude.{◌∷◌, length, true, Option, Some, None, Ok, Err, if◌then◌else◌, nat_le}
-use Rattle.teco_command_outcomes.proofs.Prelude.{unwrap_or, refl, sym, ap, subst, ◌∙◌, arith, nat_tests, ints, All-head}
+use Rattle.teco_command_outcomes.proofs.Prelude.{unwrap_or, refl, sym, ap, subst, ◌∙◌, arith, nat_tests, ints}
 use Rattle.teco_command_outcomes.proofs.Prelude.{All, ok_or, line_place, Term, Valuation, value, ◌>>=◌, deletion}
 use Rattle.teco_command_outcomes.proofs.Prelude.{deletion_between, place_in, span_between, Characters, Lines, IsWhole}
 use Rattle.teco_command_outcomes.proofs.Prelude.{Case, TakenForms, PART, PART_BACK, Outcomes, Places, value_if}
 use Rattle.teco_command_outcomes.proofs.Prelude.{AreCommanded, Performs, commanded, CutsLines, CutsTo, IsDone}
 use Rattle.teco_command_outcomes.proofs.Prelude.{kept_without, Begins, Describe, IsPlace, Point, IsTrueOf, performed}
 use Rattle.teco_command_outcomes.proofs.Prelude.{line_end, line_begin, IsWay, by}
-use Rattle.std.proofs.lemmas.List.Elements.{All-tail}
 use Rattle.teco_base.specs.declared.code.Code.TheVariants as code
 use Rattle.teco_linear.specs.Implied as linear
 use Rattle.teco_model.specs.Deletion.{character_deletion, part_deletion}
@@ -16,7 +15,7 @@ use Rattle.teco_model.specs.declared.kind.Unit.{Unit as Deleted}
 use Rattle.teco_rows.specs.declared.commands.Way as command
 use Rattle.teco_command_outcomes.specs.Deletions.{DeletesCharacters, DeletesLines, DeletesPart}
 use Rattle.teco_command_outcomes.proofs.Lining.{Counted}
-use Rattle.teco_command_outcomes.proofs.Moving.{place_there}
+use Rattle.teco_motion_outcomes.proofs.Moving.{place_there}
 use Rattle.teco_command_outcomes.proofs.Cutting.{ordered_part, part_by, same_part, turned_part}
 
 -- a part that two numbers name
@@ -34,28 +33,6 @@ part_done n all s x y a b e p f q d =
     ∙ ap (λ o. (ok_or o code.Pop >>= (λ to. Ok (span_between a to)))
     >>= (λ part. Ok (deletion_between part.start part.end s.kept))) other)
     d
-
--- conditions say that a number is a place
-place_of : (text : List ℕ) (x : ℤ) → pos 0 ≤ℤ x → pos 0 ≤ℤ (pos (length text) -ℤ x) → IsPlace text x
-place_of text (pos k) h l = (k, refl, omega (arith, ints))
-place_of text (negsuc k) h l = absurd (omega (arith, ints))
-
-pub placed_both : (text : List ℕ) (n : ℕ) (v : Valuation) (first second a b c d : List Term)
-    (conditions : List (List Term)) → conditions ≡ a ∷ b ∷ c ∷ d ∷ [] → value a n v ≡ value first n v
-    → value b n v ≡ pos (length text) -ℤ value first n v → value c n v ≡ value second n v
-    → value d n v ≡ pos (length text) -ℤ value second n v → All (linear.Holds n v) conditions
-    → IsPlace text (value first n v) × IsPlace text (value second n v)
-placed_both text n v first second a b c d conditions e f g h i holds =
-    let P = linear.Holds n v in
-    let all = subst (All P) e holds in
-    let rest = All-tail P a (b ∷ c ∷ d ∷ []) all in
-    let others = All-tail P b (c ∷ d ∷ []) rest in
-    let last = All-tail P c (d ∷ []) others in (
-      place_of text (value first n v) (subst (λ x. pos 0 ≤ℤ x) f (All-head P a (b ∷ c ∷ d ∷ []) all))
-          (subst (λ x. pos 0 ≤ℤ x) g (All-head P b (c ∷ d ∷ []) rest)),
-      place_of text (value second n v) (subst (λ x. pos 0 ≤ℤ x) h (All-head P c (d ∷ []) others))
-          (subst (λ x. pos 0 ≤ℤ x) i (All-head P d [] last)),
-    )
 
 pub deletes_between : (case : Case) (ways : List command.Way) (first second : List Term) (here : Places)
     (all : Outcomes)

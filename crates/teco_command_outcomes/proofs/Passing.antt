@@ -11,7 +11,7 @@ use Rattle.teco_command_outcomes.proofs.Prelude.{leads_singles, IsEnd, end_least
 use Rattle.teco_rows.specs.declared.commands.Way as command
 use Rattle.teco_command_outcomes.specs.declared.deletions.TheConstants.{CUTS_END, CUTS_LOW, CUTS_HIGH}
 use Rattle.teco_command_outcomes.specs.Deletions.{CutsNext}
-use Rattle.teco_command_outcomes.proofs.Codes.{ends_as_before, left_before}
+use Rattle.teco_motion_outcomes.proofs.Codes.{ends_as_before, left_before}
 use Rattle.teco_command_outcomes.proofs.Cutting.{left_begin, left_end, left_long, ordered_part, unknown_of}
 
 module _ (s : Point) (here : Places) (given : ℕ → ℤ) (k : ℕ) (next : k ≡ s.kept.pointer + 1)

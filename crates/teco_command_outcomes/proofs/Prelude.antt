@@ -1,13 +1,12 @@
 -- The names that the proofs of this crate share.
 pub use Rattle.std.proofs.Common.{Bool, Err, FitsSigned, List, None, Ok, Option, Some, [], ap, arith, drop, false}
 pub use Rattle.std.proofs.Common.{if◌then◌else◌, inl, inr, length, length-append, length-take, nat_le, negsuc, pos}
-pub use Rattle.std.proofs.Common.{refl, slice_get, slice_index_or, subst, suc, sym, take, true, unwrap_or, zero, ℕ, ℤ}
+pub use Rattle.std.proofs.Common.{refl, slice_get, slice_index_or, subst, suc, sym, true, unwrap_or, zero, ℕ, ℤ}
 pub use Rattle.std.proofs.Common.{◌++◌, ◌+ℤ◌, ◌+◌, ◌-ℤ◌, ◌-◌, ◌<◌, ◌==◌, ◌∙◌, ◌∷◌, ◌≡◌, ◌≤ℤ◌, ◌≤◌, ◌⊎◌}
 pub use Rattle.std.proofs.Math.Nat.{max-eq_left, max-eq_right, min-eq_left, min-eq_right}
 pub use Rattle.std.proofs.lemmas.Bool.Decides.{nat_tests}
 pub use Rattle.std.proofs.lemmas.Grind.{common_steps}
 pub use Rattle.std.proofs.lemmas.Int.{ints}
-pub use Rattle.std.proofs.lemmas.List.{append_assoc}
 pub use Rattle.std.proofs.lemmas.List.Elements.{All-head}
 pub use Rattle.std.proofs.lemmas.Result.{IfOk-weaker}
 pub use Rattle.std.specs.List.{All}
@@ -15,11 +14,11 @@ pub use Rattle.std.specs.Option.{ok_or}
 pub use Rattle.std.specs.Prelude.{max, min}
 pub use Rattle.teco_base.specs.Arithmetic.{byte_of}
 pub use Rattle.teco_base.specs.Lines.{line_place}
-pub use Rattle.teco_base.specs.Text.{range, text_after_deletion, text_after_insertion}
+pub use Rattle.teco_base.specs.Text.{range, text_after_deletion}
 pub use Rattle.teco_base.specs.declared.TheConstants.{LIMIT, REGISTERS}
-pub use Rattle.teco_command_outcomes.specs.Deletions.{CutsLines, CutsTo, IsDone, kept_without}
-pub use Rattle.teco_command_outcomes.specs.Insertions.{end_code}
-pub use Rattle.teco_command_outcomes.specs.Motions.{IsPlace}
+pub use Rattle.teco_command_outcomes.specs.Deletions.{CutsLines, CutsTo, kept_without}
+pub use Rattle.teco_motion_outcomes.specs.Changes.{IsDone}
+pub use Rattle.teco_motion_outcomes.specs.Motions.{IsPlace}
 pub use Rattle.teco_command_outcomes.specs.Typings.{Types, view_characters}
 pub use Rattle.teco_command_outcomes.specs.declared.deletions.TheConstants.{PART, PART_BACK}
 pub use Rattle.teco_command_outcomes.specs.declared.typings.TypedCount.TheVariants.{Exactly}
@@ -37,7 +36,7 @@ pub use Rattle.teco_model.specs.Typing.{line_characters, typing}
 pub use Rattle.teco_model.specs.declared.kind.Storage.TheVariants.{Get}
 pub use Rattle.teco_model.specs.declared.kind.Unit.TheVariants.{Characters, Lines}
 pub use Rattle.teco_model.specs.laws.Whole.{IsWhole}
-pub use Rattle.teco_rows.proofs.Characters.{Sort, before_next, ends_one, is_high, is_low, sort_at, with_codes}
+pub use Rattle.teco_rows.proofs.Characters.{Sort, ends_one, is_high, is_low, sort_at, with_codes}
 pub use Rattle.teco_rows.proofs.Commanding.{read_at}
 pub use Rattle.teco_rows.proofs.Leading.{answers, by_row, is_of_singles, leads, leads_singles, leaves, left_alone}
 pub use Rattle.teco_rows.proofs.Leading.{performed}

@@ -34,7 +34,7 @@ use Rattle.teco_command_outcomes.specs.Typings.{AreAsMany, CountsLines, CountsVi
 use Rattle.teco_command_outcomes.specs.Typings.{TypesBytes, TypesLines, TypesNumber, TypesPart, TypesText, TypesView}
 use Rattle.teco_command_outcomes.proofs.Copying.{part_long}
 use Rattle.teco_command_outcomes.proofs.Lining.{ahead_within, back_within}
-use Rattle.teco_command_outcomes.proofs.Moving.{place_there}
+use Rattle.teco_motion_outcomes.proofs.Moving.{place_there}
 
 abbrev given_of : List (List Term) → ℕ → Valuation → ℕ → ℤ
 given_of given n v i = value (slice_index_or given i []) n v

@@ -1,18 +1,17 @@
 -- What is asked of deletions.
-use Rattle.std.specs.Prelude.{◌≡◌, ℕ, ◌+◌, ℤ, pos, ◌≤◌, List, length, Option, Some, None, Result, unwrap_or}
-use Rattle.teco_base.specs.declared.code.Code.{Code}
+use Rattle.std.specs.Prelude.{◌≡◌, ℕ, ◌+◌, ℤ, pos, ◌≤◌, List, length, Option, Some, None, unwrap_or}
 use Rattle.teco_base.specs.Lines.{line_place}
 use Rattle.teco_linear.specs.declared.term.Term.{Term}
 use Rattle.teco_linear.specs.Form.{Valuation, value}
 use Rattle.teco_model.specs.Deletion.{character_deletion, deletion_between, part_deletion}
-use Rattle.teco_model.specs.Effect.{Effect}
 use Rattle.teco_model.specs.Places.{span_between}
 use Rattle.teco_model.specs.State.{Kept}
+use Rattle.teco_motion_outcomes.specs.Changes.{IsDone}
 use Rattle.teco_rows.specs.declared.case.Case.{Case}
 use Rattle.teco_rows.specs.declared.outcomes.Outcomes.{Outcomes}
 use Rattle.teco_rows.specs.Cases.{value_if}
 use Rattle.teco_rows.specs.Commands.{commanded}
-use Rattle.teco_rows.specs.Foretold.{Begins, Describe, Succeeds}
+use Rattle.teco_rows.specs.Foretold.{Begins, Describe}
 use Rattle.teco_rows.specs.States.{Point}
 
 -- what is kept without the characters between two places
@@ -49,10 +48,6 @@ CutsLines form case all =
     → Begins n v case all s
     → Describe n all (commanded s
     (kept_without s.kept.pointer (line_place s.kept.text s.kept.pointer (value form n v)) s.kept) None)
-
--- Where it begins so, what is done comes to no code, and one of the cases describes the state behind.
-abbrev pub IsDone : ℕ → Outcomes → Point → Result Effect Code → Type 0
-IsDone n all s done = Succeeds (λ effect. Describe n all (commanded s effect.kept effect.answer)) done
 
 -- as many characters are deleted as a form says, or 1
 abbrev pub DeletesCharacters : Option (List Term) → Case → Outcomes → Type 0

@@ -14,7 +14,7 @@ use Rattle.teco_rows.specs.declared.case.Case.{Case}
 use Rattle.teco_rows.specs.declared.outcomes.Outcomes.{Outcomes}
 use Rattle.teco_rows.specs.Commands.{commanded}
 use Rattle.teco_rows.specs.Foretold.{Begins, Describe}
-use Rattle.teco_command_outcomes.specs.Deletions.{IsDone}
+use Rattle.teco_motion_outcomes.specs.Changes.{IsDone}
 use Rattle.teco_rows.specs.States.{Point, IsTrueOf}
 
 -- how much of a register's text stays: with a colon all, and else nothing

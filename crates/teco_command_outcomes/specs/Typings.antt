@@ -17,7 +17,7 @@ use Rattle.teco_rows.specs.Cases.{value_if}
 use Rattle.teco_rows.specs.Commands.{commanded}
 use Rattle.teco_rows.specs.Foretold.{Begins, Describe}
 use Rattle.teco_rows.specs.States.{Point, IsTrueOf}
-use Rattle.teco_command_outcomes.specs.Deletions.{IsDone}
+use Rattle.teco_motion_outcomes.specs.Changes.{IsDone}
 use Rattle.teco_command_outcomes.specs.declared.typings.TypedCount.{TypedCount}
 use Rattle.teco_command_outcomes.specs.declared.typings.TypedCount.TheVariants.{Exactly, AtMost}
 

@@ -1,24 +1,21 @@
 //! What comes of deletions: the part of the buffer between two places goes.
 ghost use Rattle.std.specs.Prelude.{◌≡◌, ℕ, IfOk, pos, negsuc, true};
-ghost use Rattle.std.specs.List.{All};
 ghost use Rattle.teco_linear.specs.Form.{Valuation, value};
-ghost use Rattle.teco_linear.specs.Implied.{Holds};
 ghost use Rattle.teco_model.specs.Deletion.{deletion};
 ghost use Rattle.teco_rows.specs.Commands.{Performs};
 ghost use Rattle.teco_command_outcomes.specs.Deletions.{CutsBy, CutsLines, CutsNext, CutsTo};
 ghost use Rattle.teco_command_outcomes.specs.Deletions.{DeletesCharacters, DeletesLines};
 ghost use Rattle.teco_command_outcomes.specs.Deletions.{DeletesPart};
-ghost use Rattle.teco_command_outcomes.specs.Motions.{IsPlace};
 ghost use Rattle.teco_rows.specs.States.{Point, IsTrueOf};
 
 use crate::line_motions::is_negative;
-use crate::motions::{
-    ANY_BEFORE, ANY_HERE, CODE_HERE, LINE_END, LINE_START, POINTER, SIZE, in_buffer, is_by,
-};
 use std::alloc::Global;
 use teco_linear::Form;
 use teco_model::kind::Unit;
-use teco_rows::applied::copied;
+use teco_motion_outcomes::motions::{
+    ANY_BEFORE, ANY_HERE, CODE_HERE, HELD, LINE_END, LINE_START, POINTER, SIZE, both_in_buffer,
+    in_buffer, is_by,
+};
 use teco_rows::case::Case;
 use teco_rows::commands::{TakenForms, Way, argument, commands};
 use teco_rows::fault::RowFault;
@@ -26,9 +23,7 @@ use teco_rows::forms::{is_number, single};
 use teco_rows::levels::{NO, at_level};
 use teco_rows::measure::Single;
 use teco_rows::outcomes::Outcomes;
-use teco_rows::row::{Clause, Mark, Of};
-
-pub const HELD: Mark = Mark::One(Single::Held);
+use teco_rows::row::{Clause, Of};
 
 // The two places between which all goes.
 const FROM: Of = Of::Given(0);
@@ -521,30 +516,6 @@ fn delete_lines(case: &Case, value: Option<Form>, alloc: Global) -> Result<Outco
     }
     let all = cut_lines(case, by, alloc)?;
     Ok(all)
-}
-
-/// The conditions that two places are in the buffer.
-pub fn both_in_buffer(
-    case: &Case,
-    first: &Form,
-    second: &Form,
-    alloc: Global,
-) -> Result<Vec<Form>, RowFault>
-    ensures { IfOk result (λ conditions. (n : ℕ) (v : Valuation) (s : Point) → IsTrueOf n v case.now s
-        → All (Holds n v) conditions.items
-        → IsPlace s.kept.text (value first.now n v) × IsPlace s.kept.text (value second.now n v)) }
-{
-    let size = single(case, Single::Size, alloc)?;
-    let least = copied(first, alloc)?;
-    let most = size.sub(first, alloc)?;
-    let other_least = copied(second, alloc)?;
-    let other_most = size.sub(second, alloc)?;
-    let mut conditions = Vec::new(alloc);
-    conditions.push(least)?;
-    conditions.push(most)?;
-    conditions.push(other_least)?;
-    conditions.push(other_most)?;
-    Ok(conditions)
 }
 
 // A part between any two places.

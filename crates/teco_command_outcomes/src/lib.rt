@@ -1,11 +1,9 @@
-//! What commands on the buffer and on registers do to states that are known by linear forms.
+//! What deletions, and commands on lines, registers and typed text, do to states that are known by linear
+//! forms.
 #![tactic(auto)]
 
-pub mod changes;
 pub mod deletions;
-pub mod insertions;
 pub mod line_motions;
-pub mod motions;
 pub mod storages;
 pub mod texts;
 pub mod typings;

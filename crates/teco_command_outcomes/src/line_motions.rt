@@ -7,9 +7,9 @@ ghost use Rattle.teco_model.specs.declared.kind.Motion.TheVariants.{Lines};
 ghost use Rattle.teco_rows.specs.Commands.{Performs};
 ghost use Rattle.teco_command_outcomes.specs.LineMotions.{GoesBy, GoesLines};
 
-use crate::motions::{ANY_BEFORE, ANY_HERE, LINE_END, LINE_START, POINTER, SIZE};
 use std::alloc::Global;
 use teco_linear::Form;
+use teco_motion_outcomes::motions::{ANY_BEFORE, ANY_HERE, LINE_END, LINE_START, POINTER, SIZE};
 use teco_rows::case::Case;
 use teco_rows::commands::{TakenForms, Way, argument, commands};
 use teco_rows::fault::RowFault;

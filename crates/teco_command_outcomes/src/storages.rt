@@ -8,16 +8,14 @@ ghost use Rattle.teco_rows.specs.Commands.{IsAtLevel, Performs};
 
 use std::alloc::Global;
 use teco_base::Reg;
+use teco_motion_outcomes::motions::NUMBER;
 use teco_rows::case::Case;
 use teco_rows::commands::{TakenForms, Way, argument, command};
 use teco_rows::fault::RowFault;
 use teco_rows::forms::{number, within_32_bits};
 use teco_rows::levels::{NO, VALUE, at_level, one};
-use teco_rows::measure::Family;
 use teco_rows::outcomes::Outcomes;
-use teco_rows::row::{Clause, Mark, Of, Places};
-
-pub const NUMBER: Mark = Mark::Here(Family::Number);
+use teco_rows::row::{Clause, Of, Places};
 
 // The number is stored.
 const STORES: [Clause; 1] = [Clause::Sets(NUMBER, 0, ((1, Of::Given(0)), NO, NO, NO))];

@@ -10,14 +10,13 @@ ghost use Rattle.teco_command_outcomes.specs.Texts.{Copies, CopiesCount, CopiesC
 ghost use Rattle.teco_command_outcomes.specs.Texts.{Fits, HasRoomFor, IsRest};
 ghost use Rattle.teco_rows.specs.Commands.{Performs};
 
-use crate::deletions::both_in_buffer;
-use crate::insertions::counted;
-use crate::motions::{LINE_END, LINE_START, POINTER, SIZE};
 use crate::storages::at_register;
 use std::alloc::Global;
 use teco_base::{LIMIT, Reg};
 use teco_linear::Form;
 use teco_model::Element;
+use teco_motion_outcomes::insertions::counted;
+use teco_motion_outcomes::motions::{LINE_END, LINE_START, POINTER, SIZE, both_in_buffer};
 use teco_rows::case::Case;
 use teco_rows::commands::{TakenForms, Way, argument, command, commands};
 use teco_rows::fault::RowFault;

@@ -8,13 +8,13 @@ ghost use Rattle.teco_command_outcomes.specs.Typings.{IsLong, CountsLines, Count
 ghost use Rattle.teco_command_outcomes.specs.Typings.{TypesNumber, TypesPart, TypesText, TypesView};
 ghost use Rattle.teco_rows.specs.Commands.{Performs};
 
-use crate::deletions::both_in_buffer;
-use crate::insertions::counted;
 use std::alloc::Global;
 use teco_base::Reg;
 use teco_linear::Form;
 use teco_model::Element;
 use teco_model::kind::{Radix, Typing};
+use teco_motion_outcomes::insertions::counted;
+use teco_motion_outcomes::motions::both_in_buffer;
 use teco_rows::case::Case;
 use teco_rows::commands::{TakenForms, Way, argument, command, commands};
 use teco_rows::fault::RowFault;

@@ -1,9 +1,9 @@
 -- Bytes that go out to a host.
 use Rattle.std.specs.Prelude.{ℕ, ◌≡◌, ◌<◌, List, Result, Ok, Err}
-use Rattle.teco_pages.specs.HostFiles.{Telling, Becomes, after_writing}
-use Rattle.teco_pages.specs.PageCalls.{WritesFront}
-use Rattle.teco_pages.specs.declared.fault.Fault.{Fault}
-use Rattle.teco_pages.specs.declared.fault.Fault.TheVariants.{NoFile, In, Out, Full, Memory}
+use Rattle.teco_hosts.specs.HostFiles.{Telling, Becomes, after_writing}
+use Rattle.teco_hosts.specs.PageCalls.{WritesFront}
+use Rattle.teco_hosts.specs.declared.fault.Fault.{Fault}
+use Rattle.teco_hosts.specs.declared.fault.Fault.TheVariants.{NoFile, In, Out, Full, Memory}
 
 -- The bytes were written; or with a fault, which is counted, some from their front; or memory was refused, before
 -- the host was called.

@@ -3,12 +3,12 @@ ghost use Rattle.std.specs.Prelude.{◌≡◌, ◌++◌, [], OnOk, OnErr};
 ghost use Rattle.teco_model.specs.Pages.{first_page, written_page};
 ghost use Rattle.teco_model.specs.Paging.{kept_with_page, page_of_buffer};
 ghost use Rattle.teco_model.specs.Search.{search_text_of};
-ghost use Rattle.teco_pages.specs.Noting.{Touches};
+ghost use Rattle.teco_hosts.specs.Noting.{Touches};
 ghost use Rattle.teco_editor.specs.Turning.{GoesOut};
 
 use crate::editor::Editor;
 use crate::finding::{make_room, put_text};
-use teco_pages::{Fault, Host, Pages};
+use teco_hosts::{Fault, Host, Pages};
 use teco_text::TextStore;
 
 impl<T: TextStore> Editor<T> {

@@ -2,9 +2,9 @@
 use Rattle.std.proofs.Common.{◌≡◌, ◌∙◌, ◌+◌, ◌<◌, ◌≤◌, sym, subst, ap, ℕ, List, [], ◌∷◌, ◌++◌, length, take, drop}
 use Rattle.std.proofs.Common.{get_or, Option, take-append-drop}
 use Rattle.std.proofs.lemmas.List.{take_all, take_more, drop_more}
-use Rattle.teco_applied.specs.declared.applying.Job.{Job}
+use Rattle.teco_jobs.specs.declared.jobs.Job.{Job}
 use Rattle.teco_edits.specs.Files.{BreaksOff, EditsEach, EditsNext, one_more}
-use Rattle.teco_edits.specs.declared.choosing.ChosenFile.{ChosenFile}
+use Rattle.teco_edit_parts.specs.declared.choosing.ChosenFile.{ChosenFile}
 use Rattle.teco_edits.specs.declared.editing.InPlaceEdits.{InPlaceEdits}
 use Rattle.teco_edits.specs.declared.editing.EditTally.{EditTally}
 

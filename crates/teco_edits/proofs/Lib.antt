@@ -1,3 +1,1 @@
 mod Files
-mod Named
-mod Tasks

@@ -1,24 +1,22 @@
 -- What the edits of files in place do, one after another, and what is printed of them.
-use Rattle.std.specs.Prelude.{ℕ, ◌≡◌, ◌≢◌, ◌<◌, ◌+◌, ◌-◌, ◌^◌, ◌⊎◌, ⊤, min, List, [], ◌∷◌, ◌++◌, length, Bool, true}
+use Rattle.std.specs.Prelude.{ℕ, ◌≡◌, ◌≢◌, ◌<◌, ◌+◌, ◌-◌, ◌^◌, ◌⊎◌, min, List, [], ◌∷◌, ◌++◌, length, Bool, true}
 use Rattle.std.specs.Prelude.{false, not, ◌&&◌, nat_lt, if◌then◌else◌, Option, Some, None, Result, Ok, Err}
 use Rattle.std.specs.Io.KnownBytes.{Appends}
 use Rattle.std.specs.List.{Contains}
-use Rattle.teco_applied.specs.Edits.{RewritesBy, call_of}
-use Rattle.teco_applied.specs.Tasks.{IsAccepted, Prints}
-use Rattle.teco_applied.specs.declared.applying.Job.{Job}
-use Rattle.teco_applied.specs.declared.applying.Task.{Task}
-use Rattle.teco_apply.specs.declared.editing.TheConstants.{NAME}
+use Rattle.teco_jobs.specs.Edits.{Prints, RewritesBy, call_of}
+use Rattle.teco_jobs.specs.declared.jobs.Job.{Job}
 use Rattle.teco_base.specs.declared.bytes.TheConstants.{ESC, LF}
-use Rattle.teco_edits.specs.Typed.{are_named, named_lines, without_code}
-use Rattle.teco_edits.specs.declared.choosing.ChosenFile.{ChosenFile}
-use Rattle.teco_edits.specs.declared.diff.Look.{Look}
-use Rattle.teco_edits.specs.declared.editing.Change.{Change}
-use Rattle.teco_edits.specs.declared.editing.Change.TheVariants.{Made, Listed, Checked}
+use Rattle.teco_edit_parts.specs.Typed.{named_lines, without_code}
+use Rattle.teco_edit_parts.specs.declared.choosing.ChosenFile.{ChosenFile}
 use Rattle.teco_edits.specs.declared.editing.EditEnd.{EditEnd}
 use Rattle.teco_edits.specs.declared.editing.InPlaceEdits.{InPlaceEdits}
 use Rattle.teco_edits.specs.declared.editing.EditTally.{EditTally}
-use Rattle.teco_library.specs.Library.{LibraryFile}
-use Rattle.teco_pages.specs.HostFiles.{Telling}
+use Rattle.teco_options.specs.Names.{are_named}
+use Rattle.teco_options.specs.declared.editing.Change.{Change}
+use Rattle.teco_options.specs.declared.editing.Change.TheVariants.{Made, Listed, Checked}
+use Rattle.teco_options.specs.declared.editing.Look.{Look}
+use Rattle.teco_options.specs.declared.editing.TheConstants.{NAME}
+use Rattle.teco_hosts.specs.HostFiles.{Telling}
 use Rattle.teco_tools.specs.declared.fault.ToolFault.{ToolFault}
 use Rattle.teco_console.specs.declared.outcome.Outcome.{Outcome}
 use Rattle.teco_console.specs.declared.outcome.Outcome.TheVariants.{Done, Coded, Refused}
@@ -211,33 +209,3 @@ pub record AnswersAll (given : InPlaceEdits) (job : Job) (old new : Option (List
 abbrev pub EditsFiles : InPlaceEdits → Job → Option (List ℕ) → Option (List ℕ) → Result Outcome ToolFault → Type 0
 EditsFiles given job old new (Ok outcome) = AnswersAll given job old new outcome
 EditsFiles given job old new (Err fault) = BreaksOff given job given.files.now old
-
--- ---- the whole
--- Nothing is edited: that is refused, or a fault comes before.
-abbrev pub EditsNone : Option (List ℕ) → Option (List ℕ) → Result Outcome ToolFault → Type 0
-EditsNone old new (Ok Done) = ⊥
-EditsNone old new (Ok Coded) = ⊥
-EditsNone old new (Ok Refused) = Prints old new
-EditsNone old new (Err fault) = ⊤
-
-abbrev pub EditsIfAny : InPlaceEdits → Job → Option (List ℕ) → Option (List ℕ) → Result Outcome ToolFault → Type 0
-EditsIfAny given job old new result = EditsNone old new result ⊎ EditsFiles given job old new result
-
--- a job of a task, by a macro that is accepted
-pub record EditsAccepted (given : InPlaceEdits) (task : Task) (library : LibraryFile) (old new : Option (List ℕ))
-    (result : Result Outcome ToolFault) : Type 0 where
-  pub job : Job
-  pub of_task : job.task.now ≡ task
-  pub accepted : IsAccepted library task.entry job.accepted.now
-  pub edits : EditsFiles given job old new result
-
-abbrev pub EditsSubject : InPlaceEdits → Task → LibraryFile → Option (List ℕ) → Option (List ℕ)
-    → Result Outcome ToolFault → Type 0
-EditsSubject given task library old new result =
-    EditsNone old new result ⊎ EditsAccepted given task library old new result
-
--- by a macro of the library that is read, if one is
-abbrev pub EditsTask : InPlaceEdits → Task → Option (List ℕ) → Option (List ℕ) → Result Outcome ToolFault → Type 0
-EditsTask given task old new result =
-    EditsNone old new result
-    ⊎ ((library : LibraryFile) × EditsAccepted given task library old new result)

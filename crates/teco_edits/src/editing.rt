@@ -1,57 +1,33 @@
-//! `edit`: files are edited in place by a verified macro.
+//! Files are edited in place, one after another, by the macro of a job.
 ghost use Rattle.std.specs.Prelude.{◌≡◌, ◌<◌, ◌↔◌, [], length, true, IsTrue, IfOk, OnOk};
 ghost use Rattle.std.specs.Io.KnownBytes.{Appends};
-ghost use Rattle.teco_apply.specs.declared.editing.TheConstants.{NAME};
+ghost use Rattle.teco_options.specs.declared.editing.TheConstants.{NAME};
 ghost use Rattle.teco_edits.specs.Files as edits;
-ghost use Rattle.teco_edits.specs.Files.{EditsAll, EditsFile, EditsFiles, EditsIfAny, EditsNamed, EditsNext};
-ghost use Rattle.teco_edits.specs.Files.{EditsOne, EditsSubject, EditsTask, IsFileName, MayBeLeft, ShowsChange};
+ghost use Rattle.teco_edits.specs.Files.{EditsAll, EditsFile, EditsFiles, EditsNamed, EditsNext};
+ghost use Rattle.teco_edits.specs.Files.{EditsOne, IsFileName, MayBeLeft, ShowsChange};
 ghost use Rattle.teco_edits.specs.Files.{ShowsEnded, is_change, is_done, is_made, listed, outcome_of, shown_typed};
 ghost use Rattle.teco_edits.specs.Files.{tally_with};
-ghost use Rattle.teco_edits.specs.Typed as lines;
-ghost use Rattle.teco_pages.specs.HostFiles.{Notes};
-ghost use Rattle.teco_console.specs.declared.outcome.Outcome.TheVariants.{Refused};
+ghost use Rattle.teco_edit_parts.specs.Typed as lines;
+ghost use Rattle.teco_hosts.specs.HostFiles.{Notes};
 
-use crate::backups::taken_backup;
-use crate::choosing::ChosenFile;
-use crate::diff::{Look, write_diff};
-use crate::folders::Folders;
-use crate::preview::{TextChange, has_nul, new_text, read_whole};
-use crate::progress::{EditProgress, FilesDone};
-use crate::typed::{Naming, named_lines, without_code};
+use crate::preview::new_text;
 use std::alloc::{AllocError, Global};
-use std::io::{Input, Write};
-use teco_applied::{
-    Job, OneWork, Replaced, Subject, Task, read_subject, refuse_empty, refuse_subject, rewrite_by,
-    say_findings,
-};
-use teco_apply::{Drops, Ending, NAME, PageChoice, Replaces};
+use std::io::Write;
+use teco_apply::{Drops, Ending, Replaces};
 use teco_base::bytes::{ESC, LF};
-use teco_console::{Console, Outcome, Premise, Sourced, Voice};
-use teco_pages::{Backup, Closed, Closing, FileHost, Handling, Host, ProcessFacts, System};
+use teco_console::{Console, Outcome, Voice};
+use teco_edit_parts::{
+    ChosenFile, EditProgress, FilesDone, Folders, TextChange, has_nul, named_lines, read_whole,
+    without_code, write_diff,
+};
+use teco_files::{Backup, Closed, Closing, Handling, ProcessFacts, System};
+use teco_hosts::Host;
+use teco_jobs::{Job, OneWork, Replaced, rewrite_by};
+use teco_options::{Change, Keeping, Look, NAME, Naming};
+use teco_pages::FileHost;
 use teco_session::SessionFault;
 use teco_source::Shown;
 use teco_tools::ToolFault;
-use teco_verdicts::tell_promise;
-
-/// How files are kept as they were.
-#[derive(Clone, Copy)]
-pub struct Keeping<'a> {
-    /// What the name of a file has behind it that is kept: some bytes, and no slash among them.
-    pub suffix: &'a str,
-    /// May one take the place of a file that has its name?
-    pub replaces: bool,
-}
-
-/// What is done with files that would change.
-#[derive(Clone, Copy)]
-pub enum Change {
-    /// They are replaced.
-    Made,
-    /// Their names are printed.
-    Listed,
-    /// Their names are printed, and it is a code where there are any.
-    Checked,
-}
 
 /// Files that are edited in place, each by itself.
 #[derive(Clone, Copy)]
@@ -592,25 +568,9 @@ fn is_coded(outcome: Outcome) -> bool
     matches!(outcome, Outcome::Coded)
 }
 
-// Says that a macro which turns pages itself does not edit whole files.
-fn refuse_whole<E: Write + Drop>(voice: &mut Voice<E>, task: &Task<'_, '_>) -> Outcome
-    ensures { result ≡ Refused }
-{
-    let name = char::from(task.entry.name());
-    voice.complain(format_args!(
-        "macro {name} reads or writes pages itself, and a file that is edited whole is one page: \
-            give --pages first, and it goes on from the first page, or --pages each"
-    ));
-    Outcome::Refused
-}
-
-// Does a macro that turns pages itself edit whole files?
-fn is_lost(job: Job<'_>) -> bool {
-    matches!(job.task.pages, PageChoice::Whole) && job.turns_pages()
-}
-
-// Edits files by a macro that was accepted.
-fn edit_by_job<R, O, E>(
+/// Edits each file in place by the macro of a job, with a new machine for each: one that fails is left as
+/// it was, named, and the others go on. A file that would stay as it is isn't replaced.
+pub fn edit_by_job<R, O, E>(
     rt: &R,
     console: &mut Console<O, E>,
     job: Job<'_>,
@@ -631,109 +591,4 @@ where
         facts,
     };
     editing.edit_each(console)
-}
-
-// Edits files by a macro that was accepted, unless its promise holds for no text, or it turns pages
-// itself and files are edited whole.
-#[tactic(auto, using(crate::proofs::Tasks::no_line, crate::proofs::Tasks::failed, crate::proofs::Tasks::nothing))]
-fn edit_by_accepted<R, O, E>(
-    rt: &R,
-    console: &mut Console<O, E>,
-    job: Job<'_>,
-    given: &InPlaceEdits<'_>,
-    sourced: &Sourced,
-) -> Result<Outcome, ToolFault>
-where
-    R: System + Copy,
-    O: Write + Drop,
-    E: Write + Drop,
-    ensures { EditsIfAny given.now job.entry
-        (O.contents console.old.out) (O.contents console.new.out) result }
-{
-    if job.task.is_strict && Premise::of_promise(&job.accepted.promise()).is_empty() {
-        return refuse_empty(console, sourced, job.accepted);
-    }
-    if job.task.tells_promise {
-        tell_promise(&mut console.voice, &job.accepted.promise())?;
-    }
-    say_findings(console, sourced, job.task);
-    if is_lost(job) {
-        return Ok(refuse_whole(&mut console.voice, job.task));
-    }
-    edit_by_job(rt, console, job, given)
-}
-
-// Edits files by the macro that a task is about, if it is accepted.
-fn edit_by_subject<R, O, E>(
-    rt: &R,
-    console: &mut Console<O, E>,
-    task: &Task<'_, '_>,
-    given: &InPlaceEdits<'_>,
-    subject: &Subject<'_>,
-) -> Result<Outcome, ToolFault>
-where
-    R: System + Copy,
-    O: Write + Drop,
-    E: Write + Drop,
-    ensures { EditsSubject given.now task.now subject.now.sourced.library
-        (O.contents console.old.out) (O.contents console.new.out) result }
-{
-    match subject.accepted(console.alloc, task.entry) {
-        Ok(accepted) => {
-            let job = Job {
-                alloc: console.alloc,
-                task,
-                accepted: &accepted,
-            };
-            edit_by_accepted(rt, console, job, given, &subject.sourced)
-        }
-        Err(refusal) => refuse_subject(console, subject, task.entry, refusal),
-    }
-}
-
-// Refuses to keep a file under the name of another that is edited.
-fn check_keeping<R: System>(
-    rt: &R,
-    alloc: Global,
-    given: &InPlaceEdits<'_>,
-) -> Result<(), ToolFault> {
-    let Some(Keeping { suffix, .. }) = given.keeping else {
-        return Ok(());
-    };
-    if suffix.is_empty() || suffix.contains('/') {
-        return Err(ToolFault::Suffix);
-    }
-    match taken_backup(rt, alloc, given.files, suffix)? {
-        None => Ok(()),
-        Some(path) => {
-            let shown = Shown(path.as_bytes());
-            Err(ToolFault::Kept {
-                path: format!(in alloc; "{shown}")?,
-            })
-        }
-    }
-}
-
-/// Accepts a macro of a library once, and edits each file by it in place, with a new machine for
-/// each. Nothing is touched where the macro is refused, or where a file would be kept under the
-/// name of another that is edited; a file that fails is left as it was, named, and the others go
-/// on. A file that would stay as it is isn't replaced.
-pub fn edit_files<R, O, E>(
-    rt: &R,
-    console: &mut Console<O, E>,
-    task: &Task<'_, '_>,
-    given: &InPlaceEdits<'_>,
-) -> Result<Outcome, ToolFault>
-where
-    R: System + Input + Copy,
-    O: Write + Drop,
-    E: Write + Drop,
-    ensures { EditsTask given.now task.now
-        (O.contents console.old.out) (O.contents console.new.out) result }
-{
-    check_keeping(rt, console.alloc, given)?;
-    match read_subject(rt, console, task)? {
-        Some(subject) => edit_by_subject(rt, console, task, given, &subject),
-        None => Ok(Outcome::Refused),
-    }
 }

@@ -6,14 +6,16 @@ use memchr::memmem;
 use std::alloc::{AllocError, Global};
 use std::io::{Input, Write};
 use std::rt::Files;
+use teco_acceptance::{read_library, refuse_macro, verified_by};
 use teco_base::Reg;
 use teco_console::{Console, Outcome, Request, Sourced};
-use teco_edits::changed_lines;
+use teco_edit_parts::changed_lines;
 use teco_library::Library;
 use teco_model::{Element, Kind};
+use teco_options::LetterCase;
+use teco_paths::search::ClaimSearch;
 use teco_source::Shown;
-use teco_tools::{LetterCase, ToolFault};
-use teco_verdicts::{read_library, refuse_macro, verified_by};
+use teco_tools::ToolFault;
 
 /// How many pieces a text has at most.
 const LONGEST: u32 = 4;
@@ -378,37 +380,37 @@ fn tell_repeat<O: Write + Drop, E: Write + Drop>(
 }
 
 // Runs a macro of a library that is accepted on texts.
-fn fuzz_accepted<O: Write + Drop, E: Write + Drop>(
+fn fuzz_accepted<S: ClaimSearch, O: Write + Drop, E: Write + Drop>(
     console: &mut Console<O, E>,
     sourced: &Sourced,
     entry: Reg,
     case: Option<LetterCase>,
 ) -> Result<Outcome, ToolFault> {
-    let subject = TextRun::of(console.alloc, sourced, entry, case);
+    let subject = TextRun::of::<S>(console.alloc, sourced, entry, case);
     let wanted = SoughtTexts::of(console.alloc, &sourced.library)?;
     let doubts = Doubts::of(&sourced.library, &subject, &wanted)?;
     doubts.tell(console, char::from(entry.name()))
 }
 
 // Runs a macro of a library on texts, or says why it is refused.
-fn fuzz_library<O: Write + Drop, E: Write + Drop>(
+fn fuzz_library<S: ClaimSearch, O: Write + Drop, E: Write + Drop>(
     console: &mut Console<O, E>,
     sourced: &Sourced,
     entry: Reg,
     case: Option<LetterCase>,
 ) -> Result<Outcome, ToolFault> {
     let alloc = console.alloc;
-    let verdict = verified_by(alloc, &sourced.library, entry, sourced.method);
+    let verdict = verified_by::<S>(alloc, &sourced.library, entry, sourced.method);
     match verdict.err() {
-        None => fuzz_accepted(console, sourced, entry, case),
-        Some(refusal) => Ok(refuse_macro(console, sourced, entry, refusal)?),
+        None => fuzz_accepted::<S, _, _>(console, sourced, entry, case),
+        Some(refusal) => Ok(refuse_macro::<S, _, _>(console, sourced, entry, refusal)?),
     }
 }
 
 /// Runs an accepted macro on short texts that are made of what it looks for, and asks about the
 /// shortest on which it changes a line that has nothing of that, and on which a second run changes
 /// the text again. A macro that is refused is not run.
-pub fn fuzz_macro<R: Files + Input, O: Write + Drop, E: Write + Drop>(
+pub fn fuzz_macro<S: ClaimSearch, R: Files + Input, O: Write + Drop, E: Write + Drop>(
     rt: &R,
     console: &mut Console<O, E>,
     request: Request<'_>,
@@ -416,7 +418,7 @@ pub fn fuzz_macro<R: Files + Input, O: Write + Drop, E: Write + Drop>(
     case: Option<LetterCase>,
 ) -> Result<Outcome, ToolFault> {
     match read_library(rt, console, request)? {
-        Some(sourced) => fuzz_library(console, &sourced, entry, case),
+        Some(sourced) => fuzz_library::<S, _, _>(console, &sourced, entry, case),
         None => Ok(Outcome::Refused),
     }
 }

@@ -1,17 +1,18 @@
 //! Runs of macros on texts in memory.
 use crate::example::Example;
 use std::alloc::{AllocError, Global};
-use teco_applied::{Names, call, open_pages};
-use teco_apply::PageChoice;
+use teco_acceptance::verified_by;
 use teco_base::{Code, Reg};
 use teco_console::Sourced;
+use teco_hosts::MemHost;
+use teco_jobs::{Names, call, open_pages};
 use teco_library::Library;
 use teco_model::Needs;
-use teco_pages::MemHost;
+use teco_options::{LetterCase, PageChoice};
+use teco_paths::search::ClaimSearch;
 use teco_run::Machine;
 use teco_text::GapText;
-use teco_tools::{LetterCase, Start, ToolFault, code_of, machine_with, prepare, within_limit};
-use teco_verdicts::verified_by;
+use teco_tools::{Start, ToolFault, code_of, machine_with, prepare, within_limit};
 
 /// How many steps the run of a macro on an example may take.
 const LIMIT: u64 = 100_000_000;
@@ -39,8 +40,13 @@ pub struct TextRun {
 
 impl TextRun {
     /// A macro of a library. Where it is refused it is not known whether it turns pages.
-    pub fn of(alloc: Global, sourced: &Sourced, entry: Reg, case: Option<LetterCase>) -> TextRun {
-        let pages = pages_of(alloc, sourced, entry);
+    pub fn of<S: ClaimSearch>(
+        alloc: Global,
+        sourced: &Sourced,
+        entry: Reg,
+        case: Option<LetterCase>,
+    ) -> TextRun {
+        let pages = pages_of::<S>(alloc, sourced, entry);
         TextRun {
             alloc,
             entry,
@@ -51,8 +57,8 @@ impl TextRun {
 }
 
 // The pages that a macro of a library is run on.
-fn pages_of(alloc: Global, sourced: &Sourced, entry: Reg) -> PageChoice {
-    match verified_by(alloc, &sourced.library, entry, sourced.method) {
+fn pages_of<S: ClaimSearch>(alloc: Global, sourced: &Sourced, entry: Reg) -> PageChoice {
+    match verified_by::<S>(alloc, &sourced.library, entry, sourced.method) {
         Ok(accepted) => pages_for(accepted.promise().needs()),
         Err(_) => PageChoice::Whole,
     }

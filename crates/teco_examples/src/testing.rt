@@ -5,13 +5,15 @@ use crate::running::{Came, TextRun, run_on};
 use std::fmt;
 use std::io::{Input, Write};
 use std::rt::Files;
+use teco_acceptance::read_library;
 use teco_base::{Code, Reg};
 use teco_console::{Console, Outcome, Request, Sourced, letters};
-use teco_edits::{Look, write_diff};
+use teco_edit_parts::write_diff;
 use teco_explain::note_of_code;
+use teco_options::{LetterCase, Look};
+use teco_paths::search::ClaimSearch;
 use teco_source::{LineAndByte, Shown, Source};
-use teco_tools::{LetterCase, ToolFault};
-use teco_verdicts::read_library;
+use teco_tools::ToolFault;
 
 /// Which examples of a library are tried, and how.
 #[derive(Clone, Copy)]
@@ -116,7 +118,7 @@ fn tell_code<O: Write + Drop, E: Write + Drop>(
 }
 
 // Tries an example. Does it hold?
-fn try_example<O: Write + Drop, E: Write + Drop>(
+fn try_example<S: ClaimSearch, O: Write + Drop, E: Write + Drop>(
     console: &mut Console<O, E>,
     sourced: &Sourced,
     tests: &Tests,
@@ -124,7 +126,7 @@ fn try_example<O: Write + Drop, E: Write + Drop>(
     example: &Example,
 ) -> Result<bool, ToolFault> {
     let source = &sourced.source;
-    let subject = TextRun::of(console.alloc, sourced, finding.register, tests.case);
+    let subject = TextRun::of::<S>(console.alloc, sourced, finding.register, tests.case);
     match run_on(&sourced.library, &subject, example)? {
         Came::Text(made) => {
             tell_text(
@@ -140,14 +142,14 @@ fn try_example<O: Write + Drop, E: Write + Drop>(
 }
 
 // Tries what was found. Is it an example that holds?
-fn try_finding<O: Write + Drop, E: Write + Drop>(
+fn try_finding<S: ClaimSearch, O: Write + Drop, E: Write + Drop>(
     console: &mut Console<O, E>,
     sourced: &Sourced,
     tests: &Tests,
     finding: &FoundComment,
 ) -> Result<bool, ToolFault> {
     if let Some(example) = &finding.example {
-        return try_example(console, sourced, tests, finding, example);
+        return try_example::<S, _, _>(console, sourced, tests, finding, example);
     }
     let what = "this is no example: write !EXAMPLE text => text!, as the manual says";
     tell_failed(console, &sourced.source, finding, what)?;
@@ -155,17 +157,17 @@ fn try_finding<O: Write + Drop, E: Write + Drop>(
 }
 
 // Tries the examples of a library that are asked for.
-fn try_all<O: Write + Drop, E: Write + Drop>(
+fn try_all<S: ClaimSearch, O: Write + Drop, E: Write + Drop>(
     console: &mut Console<O, E>,
     sourced: &Sourced,
     tests: &Tests,
 ) -> Result<ExampleTally, ToolFault> {
     let found = examples_of(console.alloc, sourced.source.text())?;
-    try_found(console, sourced, tests, &found)
+    try_found::<S, _, _>(console, sourced, tests, &found)
 }
 
 // Tries those of the comments that were found which are asked for.
-fn try_found<O: Write + Drop, E: Write + Drop>(
+fn try_found<S: ClaimSearch, O: Write + Drop, E: Write + Drop>(
     console: &mut Console<O, E>,
     sourced: &Sourced,
     tests: &Tests,
@@ -177,19 +179,19 @@ fn try_found<O: Write + Drop, E: Write + Drop>(
     };
     for finding in found {
         if tests.has(finding.register) {
-            tally = tally.with(try_finding(console, sourced, tests, finding)?);
+            tally = tally.with(try_finding::<S, _, _>(console, sourced, tests, finding)?);
         }
     }
     Ok(tally)
 }
 
 // Tries the examples of a library that are asked for, and says how many that were.
-fn test_library<O: Write + Drop, E: Write + Drop>(
+fn test_library<S: ClaimSearch, O: Write + Drop, E: Write + Drop>(
     console: &mut Console<O, E>,
     sourced: &Sourced,
     tests: &Tests,
 ) -> Result<Outcome, ToolFault> {
-    let tally = try_all(console, sourced, tests)?;
+    let tally = try_all::<S, _, _>(console, sourced, tests)?;
     Ok(tell_tally(console, tally))
 }
 
@@ -209,14 +211,14 @@ fn tell_tally<O: Write + Drop, E: Write + Drop>(
 
 /// Tries the examples of a library: prints what differs where a macro makes another text of one. The
 /// macros need not be ones that are accepted.
-pub fn test_examples<R: Files + Input, O: Write + Drop, E: Write + Drop>(
+pub fn test_examples<S: ClaimSearch, R: Files + Input, O: Write + Drop, E: Write + Drop>(
     rt: &R,
     console: &mut Console<O, E>,
     request: Request<'_>,
     tests: Tests,
 ) -> Result<Outcome, ToolFault> {
     match read_library(rt, console, request)? {
-        Some(sourced) => test_library(console, &sourced, &tests),
+        Some(sourced) => test_library::<S, _, _>(console, &sourced, &tests),
         None => Ok(Outcome::Refused),
     }
 }

@@ -11,8 +11,8 @@ pub use Rattle.teco_model.specs.Files.{Output, with_written}
 pub use Rattle.teco_model.specs.Pages.{Page, written_page}
 pub use Rattle.teco_model.specs.Paging.{page_of_buffer, unread}
 pub use Rattle.teco_model.specs.State.{Kept}
-pub use Rattle.teco_pages.proofs.Told.{told-on, told-same}
-pub use Rattle.teco_pages.proofs.Touching.{touches-more}
-pub use Rattle.teco_pages.specs.Held.{Held, IsSameOutput, files_of, unread_bytes}
-pub use Rattle.teco_pages.specs.HostFiles.{HostFiles, Telling, Told, after_writing}
-pub use Rattle.teco_pages.specs.declared.fault.Fault.{Fault}
+pub use Rattle.teco_hosts.proofs.Told.{told-on, told-same}
+pub use Rattle.teco_hosts.proofs.Touching.{touches-more}
+pub use Rattle.teco_hosts.specs.Held.{Held, IsSameOutput, files_of, unread_bytes}
+pub use Rattle.teco_hosts.specs.HostFiles.{HostFiles, Telling, Told, after_writing}
+pub use Rattle.teco_hosts.specs.declared.fault.Fault.{Fault}

@@ -2,9 +2,9 @@
 use Rattle.teco_filing.proofs.Prelude.{◌≡◌, ℕ, List, [], Option, Err, refl, Fault, halt_of}
 use Rattle.std.proofs.Common.{◌∷◌}
 use Rattle.teco_model.specs.declared.kind.File.TheVariants as file
-use Rattle.teco_pages.specs.Events.{dropped}
-use Rattle.teco_pages.specs.PageCalls.{OkOrInOut}
-use Rattle.teco_pages.specs.declared.fault.Fault.TheVariants as fault
+use Rattle.teco_hosts.specs.Events.{dropped}
+use Rattle.teco_hosts.specs.PageCalls.{OkOrInOut}
+use Rattle.teco_hosts.specs.declared.fault.Fault.TheVariants as fault
 use Rattle.teco_filing.specs.Touched.{touched_in}
 
 -- an output that all goes to is dropped

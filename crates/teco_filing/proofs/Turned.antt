@@ -15,10 +15,10 @@ use Rattle.teco_model.specs.Paging.{world_after_writing, world_seeking}
 use Rattle.teco_model.specs.Search.{search_text_of}
 use Rattle.teco_model.specs.State.{World}
 use Rattle.teco_model.specs.declared.stop.HostFault.TheVariants as host_fault
-use Rattle.teco_pages.proofs.Told.{same-files, told-map}
-use Rattle.teco_pages.specs.Held.{behind_held, input_of, written_if_any}
-use Rattle.teco_pages.specs.PageCalls.{MakesReady}
-use Rattle.teco_pages.specs.declared.fault.Fault.TheVariants as fault
+use Rattle.teco_hosts.proofs.Told.{same-files, told-map}
+use Rattle.teco_hosts.specs.Held.{behind_held, input_of, written_if_any}
+use Rattle.teco_hosts.specs.PageCalls.{MakesReady}
+use Rattle.teco_hosts.specs.declared.fault.Fault.TheVariants as fault
 use Rattle.teco_filing.specs.Failures.{turning}
 use Rattle.teco_filing.specs.Worlds.{PutsOut, Together, with_typed}
 use Rattle.teco_filing.specs.declared.halt.Halt.{Halt}

@@ -3,8 +3,8 @@ use Rattle.teco_filing.proofs.Prelude.{◌≡◌, ℕ, List, [], ◌++◌, Optio
 use Rattle.teco_filing.proofs.Prelude.{append-nil, Output, with_written, written_page, page_of_buffer, unread, Kept}
 use Rattle.teco_filing.proofs.Prelude.{Held, files_of, HostFiles, Telling, Told, after_writing, Fault, told-on}
 use Rattle.std.proofs.Common.{Result, append_assoc}
-use Rattle.teco_pages.specs.HostFiles.{Becomes, after_closing, after_dropping}
-use Rattle.teco_pages.specs.HostCalls.{Closes}
+use Rattle.teco_hosts.specs.HostFiles.{Becomes, after_closing, after_dropping}
+use Rattle.teco_hosts.specs.HostCalls.{Closes}
 use Rattle.teco_filing.specs.Files.{ClosesAll, WritesAll, WritesUnread, bytes_of_all}
 
 -- nothing is written

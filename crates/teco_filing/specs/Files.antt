@@ -3,9 +3,9 @@ use Rattle.std.specs.Prelude.{ℕ, ◌≡◌, List, ◌++◌, None, Result, Ok, 
 use Rattle.teco_model.specs.Pages.{written_page}
 use Rattle.teco_model.specs.Paging.{page_of_buffer, unread}
 use Rattle.teco_model.specs.State.{Kept}
-use Rattle.teco_pages.specs.Held.{Held, files_of}
-use Rattle.teco_pages.specs.HostFiles.{HostFiles, after_writing, after_closing}
-use Rattle.teco_pages.specs.declared.fault.Fault.{Fault}
+use Rattle.teco_hosts.specs.Held.{Held, files_of}
+use Rattle.teco_hosts.specs.HostFiles.{HostFiles, after_writing, after_closing}
+use Rattle.teco_hosts.specs.declared.fault.Fault.{Fault}
 
 -- All that is unread was written; or with a fault nothing but the output and what is unread changed.
 abbrev pub WritesUnread : Result (Unit {0}) Fault → Held → HostFiles → HostFiles → Type 0

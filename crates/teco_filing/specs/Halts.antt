@@ -4,8 +4,8 @@ use Rattle.teco_base.specs.Does as base
 use Rattle.teco_base.specs.declared.code.Code.TheVariants as code
 use Rattle.teco_model.specs.declared.stop.HostFault.{HostFault}
 use Rattle.teco_model.specs.declared.stop.HostFault.TheVariants as host_fault
-use Rattle.teco_pages.specs.declared.fault.Fault.{Fault}
-use Rattle.teco_pages.specs.declared.fault.Fault.TheVariants as fault
+use Rattle.teco_hosts.specs.declared.fault.Fault.{Fault}
+use Rattle.teco_hosts.specs.declared.fault.Fault.TheVariants as fault
 use Rattle.teco_editor.specs.declared.stuck.Stuck.{Stuck}
 use Rattle.teco_editor.specs.declared.stuck.Stuck.TheVariants as stuck
 use Rattle.teco_filing.specs.declared.halt.Halt.{Halt}

@@ -2,8 +2,8 @@
 use Rattle.std.specs.Prelude.{ℕ, List, [], ◌∷◌, Option, None, Some, Result, Ok, Err}
 use Rattle.teco_model.specs.declared.kind.File.{File}
 use Rattle.teco_model.specs.declared.kind.File.TheVariants as file
-use Rattle.teco_pages.specs.Events.{Event, closed, dropped, opened_input, opened_output}
-use Rattle.teco_pages.specs.declared.fault.Fault.{Fault}
+use Rattle.teco_hosts.specs.Events.{Event, closed, dropped, opened_input, opened_output}
+use Rattle.teco_hosts.specs.declared.fault.Fault.{Fault}
 use Rattle.teco_filing.specs.declared.halt.Halt.{Halt}
 use Rattle.teco_filing.specs.declared.halt.Halt.TheVariants.{Code, Memory, Host}
 

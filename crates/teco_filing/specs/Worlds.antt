@@ -7,9 +7,9 @@ use Rattle.teco_model.specs.Paging.{unread}
 use Rattle.teco_model.specs.State.{Kept, World}
 use Rattle.teco_model.specs.Typing.{typing_of}
 use Rattle.teco_model.specs.declared.stop.HostFault.TheVariants as host_fault
-use Rattle.teco_pages.specs.Held.{Held, files_of, IsSameOutput}
-use Rattle.teco_pages.specs.HostFiles.{HostFiles, Telling, Told, Becomes, after_writing}
-use Rattle.teco_pages.specs.PageCalls.{WritesFront}
+use Rattle.teco_hosts.specs.Held.{Held, files_of, IsSameOutput}
+use Rattle.teco_hosts.specs.HostFiles.{HostFiles, Telling, Told, Becomes, after_writing}
+use Rattle.teco_hosts.specs.PageCalls.{WritesFront}
 use Rattle.teco_filing.specs.declared.halt.Halt.{Halt}
 use Rattle.teco_filing.specs.declared.halt.Halt.TheVariants.{Code, Memory, Host}
 

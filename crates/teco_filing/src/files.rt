@@ -4,9 +4,9 @@ ghost use Rattle.teco_base.specs.Does.{Does, Updates};
 ghost use Rattle.teco_model.specs.Filing as model;
 ghost use Rattle.teco_model.specs.State.{Kept};
 ghost use Rattle.teco_model.specs.declared.kind.File.TheVariants as file;
-ghost use Rattle.teco_pages.specs.HostFiles.{Told};
-ghost use Rattle.teco_pages.specs.Noting.{Touches};
-ghost use Rattle.teco_pages.specs.PageCalls.{OkOrInOut};
+ghost use Rattle.teco_hosts.specs.HostFiles.{Told};
+ghost use Rattle.teco_hosts.specs.Noting.{Touches};
+ghost use Rattle.teco_hosts.specs.PageCalls.{OkOrInOut};
 ghost use Rattle.teco_filing.specs.Failures.{copying, letting_go, opening_input, opening_output};
 ghost use Rattle.teco_filing.specs.Files.{ClosesAll, WritesAll};
 ghost use Rattle.teco_filing.specs.Files.{WritesUnread};
@@ -17,7 +17,7 @@ ghost use Rattle.teco_filing.specs.Worlds.{Together};
 use crate::halt::Halt;
 use teco_base::Code;
 use teco_editor::Editor;
-use teco_pages::{Fault, Host, Pages};
+use teco_hosts::{Fault, Host, Pages};
 use teco_text::TextStore;
 
 // A name is not empty, nor that of the other open file.

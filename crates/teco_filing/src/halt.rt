@@ -6,8 +6,8 @@ ghost use Rattle.teco_filing.specs.declared.halt.Halt.TheVariants as halt;
 use std::alloc::AllocError;
 use teco_base::Code as Reason;
 use teco_editor::Stuck;
+use teco_hosts::Fault;
 use teco_model::HostFault;
-use teco_pages::Fault;
 
 /// Why a command is not done.
 #[derive(Clone, Copy)]

@@ -4,7 +4,7 @@ ghost use Rattle.teco_base.specs.Does.{Updates};
 ghost use Rattle.teco_model.specs.Pages.{written_page};
 ghost use Rattle.teco_model.specs.Paging as model;
 ghost use Rattle.teco_model.specs.State.{Kept};
-ghost use Rattle.teco_pages.specs.Noting.{Touches};
+ghost use Rattle.teco_hosts.specs.Noting.{Touches};
 ghost use Rattle.teco_filing.specs.Failures.{reading, turning, writing};
 ghost use Rattle.teco_filing.specs.Halts.{Counts, halt_cause};
 ghost use Rattle.teco_filing.specs.Worlds.{PutsOut, Together, TellsUnread, with_typed};
@@ -12,7 +12,7 @@ ghost use Rattle.teco_filing.specs.Worlds.{PutsOut, Together, TellsUnread, with_
 use crate::halt::Halt;
 use teco_base::Code;
 use teco_editor::Editor;
-use teco_pages::{Host, Pages};
+use teco_hosts::{Host, Pages};
 use teco_text::TextStore;
 
 /// `Y`: the next page of the input becomes the buffer.

@@ -5,10 +5,10 @@ use Rattle.std.proofs.lemmas.List.{map-append}
 use Rattle.std.specs.Prelude.{◌||◌, if◌then◌else◌}
 use Rattle.teco_in_place.specs.InPlace.{IsNotedBeneath, IsOneEdit, all_beneath, begun_by, beneath, is_new_text}
 use Rattle.teco_in_place.specs.InPlace.{noted_end}
-use Rattle.teco_pages.specs.Events.{Event, opened_input, gave, ended, opened_output, wrote, closed, dropped, measured}
-use Rattle.teco_pages.specs.HostFiles.{Telling, Tells, Notes}
-use Rattle.teco_pages.specs.Noting.{NotesJust, event_of_reading}
-use Rattle.teco_pages.specs.declared.fault.Failed.{Failed}
+use Rattle.teco_hosts.specs.Events.{Event, opened_input, gave, ended, opened_output, wrote, closed, dropped, measured}
+use Rattle.teco_hosts.specs.HostFiles.{Telling, Tells, Notes}
+use Rattle.teco_hosts.specs.Noting.{NotesJust, event_of_reading}
+use Rattle.teco_hosts.specs.declared.fault.Failed.{Failed}
 
 -- the host beneath notes the call
 noted-beneath : (replaces : Bool) (events : List Event) (event : Event) (x y : Telling)

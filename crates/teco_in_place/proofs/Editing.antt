@@ -8,10 +8,10 @@ use Rattle.teco_in_place.proofs.Calls.{opens-file, opens-new}
 use Rattle.teco_in_place.specs.InPlace.{AreInPlace, FilesAreReplaced, all_beneath, begun_by, beneath, is_new_text}
 use Rattle.teco_in_place.specs.InPlace.{new_text, text_behind}
 use Rattle.teco_model.specs.Files.{Output, file_named, with_file, with_written}
-use Rattle.teco_pages.proofs.Puts.{named-here, named-put}
-use Rattle.teco_pages.specs.Events.{Event, Happened, Happens, opened_input, gave, ended, opened_output, wrote, closed}
-use Rattle.teco_pages.specs.Events.{dropped, measured}
-use Rattle.teco_pages.specs.HostFiles.{HostFiles, after_closing, after_dropping, after_opening, after_writing}
+use Rattle.teco_hosts.proofs.Puts.{named-here, named-put}
+use Rattle.teco_hosts.specs.Events.{Event, Happened, Happens, opened_input, gave, ended, opened_output, wrote, closed}
+use Rattle.teco_hosts.specs.Events.{dropped, measured}
+use Rattle.teco_hosts.specs.HostFiles.{HostFiles, after_closing, after_dropping, after_opening, after_writing}
 
 -- the output, beneath and by the definition: none, or of one text
 abbrev written_as : List ℕ → List ℕ → Output

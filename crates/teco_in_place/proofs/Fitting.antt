@@ -9,12 +9,12 @@ use Rattle.teco_in_place.proofs.Editing.{same_name}
 use Rattle.teco_in_place.specs.InPlace.{AreFittedInPlace, IsOneEdit, all_beneath, begun_by, is_new_text, new_text}
 use Rattle.teco_model.specs.Files.{File, Output, file_named, with_closed, with_file, with_written}
 use Rattle.teco_model.specs.laws.Whole.{AreBytes}
-use Rattle.teco_pages.proofs.Puts.{named-here, named-put}
-use Rattle.teco_pages.specs.Events.{Event, Happened, Happens, IsOfBytes, opened_input, gave, ended, opened_output}
-use Rattle.teco_pages.specs.Events.{wrote, closed, dropped, measured}
-use Rattle.teco_pages.specs.HostFiles.{HostFiles, after_closing, after_dropping, after_opening, after_writing}
-use Rattle.teco_pages.specs.Noting.{EndsAtEnd}
-use Rattle.teco_pages.specs.Possible.{AreFitted, GivesMeasured, IsUnopened, NotesFit, OpensAnew}
+use Rattle.teco_hosts.proofs.Puts.{named-here, named-put}
+use Rattle.teco_hosts.specs.Events.{Event, Happened, Happens, IsOfBytes, opened_input, gave, ended, opened_output}
+use Rattle.teco_hosts.specs.Events.{wrote, closed, dropped, measured}
+use Rattle.teco_hosts.specs.HostFiles.{HostFiles, after_closing, after_dropping, after_opening, after_writing}
+use Rattle.teco_hosts.specs.Noting.{EndsAtEnd}
+use Rattle.teco_hosts.specs.Possible.{AreFitted, GivesMeasured, IsUnopened, NotesFit, OpensAnew}
 
 bytes-beneath : (replaces : Bool) (events : List Event) → AllByRecursion IsOfBytes events
     → AllByRecursion IsOfBytes (all_beneath replaces events)

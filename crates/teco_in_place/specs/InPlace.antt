@@ -2,9 +2,9 @@
 use Rattle.std.specs.Prelude.{ℕ, ◌≡◌, List, [], ◌∷◌, ◌==◌, drop, map, Bool, true, false, Option, Some, None, Result}
 use Rattle.std.specs.Prelude.{Ok, Err, ◌||◌, if◌then◌else◌}
 use Rattle.teco_model.specs.Files.{file_named}
-use Rattle.teco_pages.specs.Events.{Event, Happened, opened_input, gave, ended, opened_output, wrote, closed, dropped}
-use Rattle.teco_pages.specs.Events.{measured}
-use Rattle.teco_pages.specs.HostFiles.{AreOfBytes, HostFiles, Telling, Tells, Notes}
+use Rattle.teco_hosts.specs.Events.{Event, Happened, opened_input, gave, ended, opened_output, wrote, closed, dropped}
+use Rattle.teco_hosts.specs.Events.{measured}
+use Rattle.teco_hosts.specs.HostFiles.{AreOfBytes, HostFiles, Telling, Tells, Notes}
 
 -- the name of the new text of a file
 abbrev pub new_text : List ℕ → List ℕ

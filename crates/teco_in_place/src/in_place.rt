@@ -2,13 +2,13 @@
 ghost use Rattle.std.specs.Prelude.{◌≡◌, ◌+◌, ◌∷◌, [], Bool, true, false, IfOk, IfSome};
 ghost use Rattle.teco_in_place.specs.InPlace as edit;
 ghost use Rattle.teco_in_place.specs.InPlace.{IsNotedBeneath, IsOneEdit, IsPassedOn, noted_end};
-ghost use Rattle.teco_pages.specs.HostCalls.{Counts};
-ghost use Rattle.teco_pages.specs.HostFiles.{Notes};
-ghost use Rattle.teco_pages.specs.Noting.{NotesJust};
+ghost use Rattle.teco_hosts.specs.HostCalls.{Counts};
+ghost use Rattle.teco_hosts.specs.HostFiles.{Notes};
+ghost use Rattle.teco_hosts.specs.Noting.{NotesJust};
 
 use std::alloc::{AllocError, Global};
 use std::marker::PhantomData;
-use teco_pages::{Count, Failed, History, Host};
+use teco_hosts::{Count, Failed, History, Host};
 
 /// What becomes of a new text that is closed.
 pub trait Ending: Copy {

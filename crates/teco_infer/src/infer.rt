@@ -1,7 +1,7 @@
 //! From a macro to claims.
 use crate::known_claims::KnownClaims;
 use crate::promises::all_promises;
-use crate::reason::{Shortfall, reason_for};
+use crate::reason::reason_for;
 use crate::written::claims_of;
 use std::alloc::Global;
 use teco_base::LIMIT;
@@ -19,6 +19,7 @@ use teco_model::{Kind, Operator};
 use teco_paths::claimed::Called;
 use teco_paths::course::MacroGraph;
 use teco_paths::fault::PathFault;
+use teco_paths::search::{ClaimSearch, SearchFailure, Shortfall};
 
 // What the search may take in a way: steps of paths, and rows that programs go through.
 const FUEL: usize = 80_000;
@@ -40,6 +41,9 @@ struct Strategy {
     // Whether steep bounds are taken, for which other ways often find better ones.
     is_last: bool,
 }
+
+// How many ways there are.
+const ATTEMPTS: usize = 6;
 
 // The ways, one after the other.
 const WAYS: [Strategy; ATTEMPTS] = [
@@ -261,14 +265,6 @@ fn flags_of(nodes: &Nodes<'_>, alloc: Global) -> Result<Vec<Flag>, SearchStop> {
     Ok(flags)
 }
 
-/// Why no claims of a macro are found in a way.
-#[derive(Drop)]
-pub struct SearchFailure {
-    pub refusal: SearchRefusal,
-    /// What more would do, where the first way can tell that.
-    pub shortfall: Option<Shortfall>,
-}
-
 // What more would do where a search stops, if that is to be told.
 #[derive(Drop)]
 struct Report {
@@ -414,9 +410,6 @@ fn searched(
     Ok(tried(&mut search, way, report)?)
 }
 
-/// How many ways there are to look for claims.
-pub const ATTEMPTS: usize = 6;
-
 // The claims that a way finds, unless bounds are steep and another way may find better ones.
 fn found_by(
     called: &Called<'_>,
@@ -441,42 +434,41 @@ fn found_by(
     }
 }
 
-/// Looks for claims of a macro in one of several ways, the quickest first: how many commands it takes,
-/// how much it holds, and what holds at its cut points. The same macro has the same claims each time.
-/// They are not checked here.
-pub fn infer_by(
-    called: &Called<'_>,
-    attempt: usize,
-    alloc: Global,
-) -> Result<Claims, SearchFailure> {
-    let mut report = Report {
-        is_wanted: attempt == 0,
-        shortfall: None,
-    };
-    match found_by(called, attempt, &mut report, alloc) {
-        Ok(claims) => Ok(claims),
-        Err(refusal) => Err(SearchFailure {
-            refusal,
-            shortfall: report.shortfall,
-        }),
-    }
-}
+/// The search for claims by linear programs over their coefficients.
+pub struct Inference;
 
-/// The way that is worth its time behind one that had this refusal, where the first way had another; none
-/// if there is none. Where the first finds steep bounds, that is the second, and then the last.
-pub fn next_attempt(first: SearchRefusal, refusal: SearchRefusal, attempt: usize) -> Option<usize> {
-    let next = attempt.saturating_add(1);
-    let last = ATTEMPTS - 1;
-    if matches!(first, SearchRefusal::NotAccepted(PathFault::TooLong)) {
-        let next = if attempt == 0 { next } else { last };
-        return if attempt < last { Some(next) } else { None };
+impl ClaimSearch for Inference {
+    const WAYS: usize = ATTEMPTS;
+
+    fn find(called: &Called<'_>, way: usize, alloc: Global) -> Result<Claims, SearchFailure> {
+        let mut report = Report {
+            is_wanted: way == 0,
+            shortfall: None,
+        };
+        match found_by(called, way, &mut report, alloc) {
+            Ok(claims) => Ok(claims),
+            Err(refusal) => Err(SearchFailure {
+                refusal,
+                shortfall: report.shortfall,
+            }),
+        }
     }
-    match refusal {
-        SearchRefusal::NotTold(_)
-        | SearchRefusal::NotOpen(_)
-        | SearchRefusal::TooMuch
-        | SearchRefusal::Memory => None,
-        _ if next < last => Some(next),
-        _ => None,
+
+    // Where the first way finds steep bounds, the next is the second, and then the last.
+    fn next_way(first: SearchRefusal, refusal: SearchRefusal, way: usize) -> Option<usize> {
+        let next = way.saturating_add(1);
+        let last = ATTEMPTS - 1;
+        if matches!(first, SearchRefusal::NotAccepted(PathFault::TooLong)) {
+            let next = if way == 0 { next } else { last };
+            return if way < last { Some(next) } else { None };
+        }
+        match refusal {
+            SearchRefusal::NotTold(_)
+            | SearchRefusal::NotOpen(_)
+            | SearchRefusal::TooMuch
+            | SearchRefusal::Memory => None,
+            _ if next < last => Some(next),
+            _ => None,
+        }
     }
 }

@@ -17,6 +17,4 @@ mod ways;
 mod worth;
 mod written;
 
-pub use infer::{ATTEMPTS, SearchFailure, infer_by, next_attempt};
-pub use reason::Shortfall;
-pub use teco_bounds::fault::SearchRefusal;
+pub use infer::Inference;

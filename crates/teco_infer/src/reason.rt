@@ -10,28 +10,13 @@ use teco_bounds::record::OpenCondition;
 use teco_bounds::search::{Keys, PathSearch};
 use teco_claims::Claim;
 use teco_linear::{Form, Scale};
+use teco_paths::search::Shortfall;
 
 // The most ways that are told.
 const MOST_WAYS: usize = 3;
 
 // How many rows programs may go through that look for them.
 const WORK: usize = 2_000_000;
-
-/// Where a search has stopped: at which point, what is known there, and what more would do.
-#[derive(Drop)]
-pub struct Shortfall {
-    /// The condition that could not be shown, as a claim where its element stands, if it can be told.
-    pub needed: Option<Claim>,
-    /// The number of the element from which paths lead to the condition, or of the one that begins the
-    /// body of the loop whose steps have no bound, or of the first loop where what is held has none.
-    pub point: usize,
-    /// What would show the condition, as a claim there, if it can be told.
-    pub wanted: Option<Claim>,
-    /// What is known there.
-    pub known: Vec<Claim>,
-    /// Ways on which nothing is known to fall together, a few: the numbers of the elements on each.
-    pub ways: Vec<Vec<usize>>,
-}
 
 // The number that a form is, if it speaks of nothing.
 fn number_of(form: &Form) -> Option<i64> {

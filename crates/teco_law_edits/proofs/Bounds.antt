@@ -8,8 +8,8 @@ use Rattle.teco_apply.specs.ByPages.{EditsPages, EndsInMacro, EndsWith, FromStar
 use Rattle.teco_apply.specs.ByPages.{nothing_done, tally_after, to_start}
 use Rattle.teco_apply.specs.Sure.{MOST}
 use Rattle.teco_apply.specs.declared.by_pages.Edited.{Edited}
-use Rattle.teco_apply.specs.declared.by_pages.PageChoice.{PageChoice}
-use Rattle.teco_apply.specs.declared.by_pages.PageChoice.TheVariants as pages
+use Rattle.teco_options.specs.declared.editing.PageChoice.{PageChoice}
+use Rattle.teco_options.specs.declared.editing.PageChoice.TheVariants as pages
 use Rattle.teco_apply.specs.declared.stages.Ran.{Ran}
 use Rattle.teco_apply.specs.declared.stages.Ran.TheVariants as ran
 use Rattle.teco_apply.specs.declared.stages.Tally.{Tally}

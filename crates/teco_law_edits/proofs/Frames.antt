@@ -2,12 +2,11 @@
 use Rattle.std.proofs.Common.{◌≡◌, ℕ, ℤ, pos, negsuc, List, Option, Some, None, Result, Ok, subst}
 use Rattle.teco_apply.specs.Sure.{IsTaken, call_text}
 use Rattle.teco_law_edits.specs.Frames.{VerifiedRunsAreFramed}
-use Rattle.teco_law_expansion.specs.Given.{call_given}
-use Rattle.teco_law_expansion.specs.Linked.{ExpansionsAreLinked}
-use Rattle.teco_law_facts.specs.SoundSteps.{AreOpen}
-use Rattle.teco_law_tables.proofs.Keeping.{end_stays}
+use Rattle.teco_law_runs.specs.Given.{call_given}
+use Rattle.teco_law_runs.specs.Linked.{ExpansionsAreLinked}
+use Rattle.teco_law_runs.specs.Ready.{AreOpen, IsReady, n_of}
+use Rattle.teco_law_runs.proofs.Keeping.{end_stays}
 use Rattle.teco_law_tables.specs.Framing.{IsFramed, LiesBelow, RunsAreFramed, RunsLeaveBelow}
-use Rattle.teco_law_tables.specs.Verified.{IsReady, n_of}
 use Rattle.teco_model.specs.Macros.{IsAsked}
 use Rattle.teco_model.specs.Run.{Ends, Reaches}
 use Rattle.teco_model.specs.State.{State, World, start}

@@ -1,7 +1,6 @@
 -- What runs of command strings and of the macro come to in an edit.
-use Rattle.std.proofs.Common.{◌≡◌, ◌≤◌, inl, inr, ℕ, List, length, Bool}
-use Rattle.std.proofs.Common.{true, false, Option, Some, None, IsSome, Ok, refl}
-use Rattle.std.proofs.Common.{sym, ap, ◌∙◌, subst, arith}
+use Rattle.std.proofs.Common.{◌≡◌, ◌≤◌, inl, inr, ℕ, List, length, Bool, true, false, Option, Some, None, IsSome, Ok}
+use Rattle.std.proofs.Common.{refl, sym, ap, ◌∙◌, subst, arith}
 use Rattle.teco_apply.specs.Apply.{AnswersText, IsNotRun, Lacks, TextStops, stop_of}
 use Rattle.teco_apply.specs.ByPages.{AdmittedStops, AnswersAdmitted, Order, steps_of}
 use Rattle.teco_apply.specs.Sure.{PromisedCall, MOST}
@@ -9,9 +8,9 @@ use Rattle.teco_apply.specs.declared.ready.NotReady.{NotReady}
 use Rattle.teco_apply.specs.declared.ready.NotReady.TheVariants as not_ready
 use Rattle.teco_law_edits.specs.Bounds.{bound_at}
 use Rattle.teco_law_edits.specs.Strict.{EndsBeyond, IsBeyond, IsStrict}
-use Rattle.teco_law_tables.specs.Keeping.{LeavesOpen}
-use Rattle.teco_law_tables.specs.Staying.{AreAsOpen}
-use Rattle.teco_law_tables.specs.Sure.{ComesTo, RunsEndOnce}
+use Rattle.teco_law_runs.specs.Keeping.{LeavesOpen}
+use Rattle.teco_law_runs.specs.Staying.{AreAsOpen}
+use Rattle.teco_law_runs.specs.Sure.{ComesTo, RunsEndOnce}
 use Rattle.teco_model.specs.Files.{Files}
 use Rattle.teco_model.specs.Paging.{unread}
 use Rattle.teco_model.specs.Run.{Ends, IsSure}

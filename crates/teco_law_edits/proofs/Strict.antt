@@ -1,17 +1,16 @@
 -- A strict edit writes no code but for want of memory or a fault of the host.
-use Rattle.std.proofs.Common.{◌≡◌, ◌≢◌, ◌≤◌, ◌+◌, ◌⊎◌, inl, inr, ℕ, List, [], ◌∷◌, length, Bool}
-use Rattle.std.proofs.Common.{true, false, not, ◌&&◌, bytes_eq, Option, IsSome, Result, Ok, Err, refl}
-use Rattle.std.proofs.Common.{sym, ap, ◌∙◌, subst, arith, length-append}
+use Rattle.std.proofs.Common.{◌≡◌, ◌≢◌, ◌≤◌, ◌+◌, ◌⊎◌, inl, inr, ℕ, List, [], ◌∷◌, length, Bool, true, false, not, ◌&&◌}
+use Rattle.std.proofs.Common.{bytes_eq, Option, IsSome, Result, Ok, Err, refl, sym, ap, ◌∙◌, subst, arith}
+use Rattle.std.proofs.Common.{length-append}
 use Rattle.std.proofs.lemmas.Slice.Eq.{bytes_eq-Decides}
 use Rattle.std.specs.Bool.{⊤}
 use Rattle.teco_apply.specs.Apply.{AnswersText, closing, has_esc, opening}
 use Rattle.teco_apply.specs.ByPages.{AllPages, Behind, BehindMacro, BehindPage, Closing, EachPage, EditCourse}
-use Rattle.teco_apply.specs.ByPages.{EditsPages, EditsText, EndsWith, FromStart, Gathers, Once, Order}
-use Rattle.teco_apply.specs.ByPages.{PagesGathered, PagesTurned, Turning}
-use Rattle.teco_apply.specs.ByPages.{gathering, nothing_done, tally_after, to_start, turning}
+use Rattle.teco_apply.specs.ByPages.{EditsPages, EditsText, EndsWith, FromStart, Gathers, Once, Order, PagesGathered}
+use Rattle.teco_apply.specs.ByPages.{PagesTurned, Turning, gathering, nothing_done, tally_after, to_start, turning}
 use Rattle.teco_apply.specs.declared.by_pages.Edited.{Edited}
-use Rattle.teco_apply.specs.declared.by_pages.PageChoice.{PageChoice}
-use Rattle.teco_apply.specs.declared.by_pages.PageChoice.TheVariants as pages
+use Rattle.teco_options.specs.declared.editing.PageChoice.{PageChoice}
+use Rattle.teco_options.specs.declared.editing.PageChoice.TheVariants as pages
 use Rattle.teco_apply.specs.declared.by_pages.TheConstants.{PAGES}
 use Rattle.teco_apply.specs.declared.stages.Ran.TheVariants as ran
 use Rattle.teco_apply.specs.declared.stages.Tally.{Tally}
@@ -22,7 +21,7 @@ use Rattle.teco_law_edits.proofs.Pages.{page_is_less, page_parts, page_takes_one
 use Rattle.teco_law_edits.proofs.Running.{HasEnd, IsOpen, macro_ends, macro_stops, text_ends, text_stops}
 use Rattle.teco_law_edits.specs.Strict.{CanBegin, CannotFail, EndsBeyond, IsBeyond, IsStrict}
 use Rattle.teco_law_edits.specs.Texts.{TextsEnd, at_start, gathered, more_text, next_page}
-use Rattle.teco_law_tables.specs.Sure.{RunsEndOnce}
+use Rattle.teco_law_runs.specs.Sure.{RunsEndOnce}
 use Rattle.teco_model.specs.Filing.{world_copied}
 use Rattle.teco_model.specs.Pages.{first_page}
 use Rattle.teco_model.specs.Paging.{unread}

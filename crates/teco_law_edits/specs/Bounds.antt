@@ -1,17 +1,17 @@
 -- The bound of an edit: the sum of the printed numbers of commands of its runs.
 use Rattle.std.specs.Prelude.{◌≤◌, ◌+◌, ℕ, List, Option, Result, Ok}
-use Rattle.teco_applied.specs.Strict.{AreStrict, on_terms}
-use Rattle.teco_applied.specs.declared.watching.Terms.{Terms}
+use Rattle.teco_jobs.specs.Strict.{AreStrict, on_terms}
+use Rattle.teco_jobs.specs.declared.watching.Terms.{Terms}
 use Rattle.teco_apply.specs.Apply.{AnswersText, Course, opening}
-use Rattle.teco_apply.specs.ByPages.{Behind, BehindMacro, BehindPage, Closing, EachPage, EditCourse}
-use Rattle.teco_apply.specs.ByPages.{EditsFile, EditsPages, EditsText, FromStart, Gathers, Once, Order, PagesTurned}
-use Rattle.teco_apply.specs.ByPages.{nothing_done, to_start}
+use Rattle.teco_apply.specs.ByPages.{Behind, BehindMacro, BehindPage, Closing, EachPage, EditCourse, EditsFile}
+use Rattle.teco_apply.specs.ByPages.{EditsPages, EditsText, FromStart, Gathers, Once, Order, PagesTurned, nothing_done}
+use Rattle.teco_apply.specs.ByPages.{to_start}
 use Rattle.teco_apply.specs.Sure.{PromisedCall, loaded}
 use Rattle.teco_apply.specs.declared.by_pages.Edited.{Edited}
-use Rattle.teco_apply.specs.declared.by_pages.PageChoice.{PageChoice}
-use Rattle.teco_apply.specs.declared.by_pages.PageChoice.TheVariants as pages
+use Rattle.teco_options.specs.declared.editing.PageChoice.{PageChoice}
+use Rattle.teco_options.specs.declared.editing.PageChoice.TheVariants as pages
 use Rattle.teco_apply.specs.declared.stages.Tally.{Tally}
-use Rattle.teco_law_tables.specs.Verified.{n_of}
+use Rattle.teco_law_runs.specs.Ready.{n_of}
 use Rattle.teco_model.specs.State.{World}
 use Rattle.teco_poly.specs.Polynomial.{value}
 use Rattle.teco_session.specs.declared.fault.SessionFault.{SessionFault}

@@ -1,9 +1,8 @@
 -- The frame of a verified run: what its macro does not name stays as it was.
 use Rattle.std.specs.Prelude.{◌≡◌, ℕ, List, Ok}
 use Rattle.teco_apply.specs.Sure.{PromisedCall, Calls}
-use Rattle.teco_law_facts.specs.SoundSteps.{AreOpen}
+use Rattle.teco_law_runs.specs.Ready.{AreOpen, IsReady, n_of}
 use Rattle.teco_law_tables.specs.Framing.{IsFramed, LiesBelow}
-use Rattle.teco_law_tables.specs.Verified.{IsReady, n_of}
 use Rattle.teco_model.specs.State.{Kept, World}
 use Rattle.teco_model.specs.declared.stop.Stop.TheVariants as stop
 use Rattle.teco_verifier.specs.certificate.Fields.{Finding}

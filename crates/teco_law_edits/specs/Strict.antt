@@ -1,13 +1,13 @@
 -- What it means that an edit cannot fail: it writes no code, but for want of memory or a fault of the host.
 use Rattle.std.specs.Prelude.{◌≡◌, ◌≢◌, ◌≤◌, ◌⊎◌, ⊤, ℕ, List, [], length, true, false, Option, Some, None, Ok}
 use Rattle.std.specs.Io.KnownBytes.{Appends}
-use Rattle.teco_applied.specs.Strict.{AreStrict, on_terms}
-use Rattle.teco_applied.specs.declared.watching.Terms.{Terms}
+use Rattle.teco_jobs.specs.Strict.{AreStrict, on_terms}
+use Rattle.teco_jobs.specs.declared.watching.Terms.{Terms}
 use Rattle.teco_apply.specs.Apply.{are_plain}
 use Rattle.teco_apply.specs.ByPages.{EditsFile, IsAnswered, Order}
 use Rattle.teco_apply.specs.Sure.{PromisedCall, IsReady, loaded}
 use Rattle.teco_apply.specs.declared.by_pages.Edited.{Edited}
-use Rattle.teco_apply.specs.declared.by_pages.PageChoice.{PageChoice}
+use Rattle.teco_options.specs.declared.editing.PageChoice.{PageChoice}
 use Rattle.teco_base.specs.declared.TheConstants.{LIMIT}
 use Rattle.teco_model.specs.Files.{file_named}
 use Rattle.teco_model.specs.Session.{lines_of}

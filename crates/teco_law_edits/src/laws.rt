@@ -4,8 +4,8 @@ ghost use Rattle.teco_law_edits.specs.Frames.{VerifiedRunsAreFramed};
 ghost use Rattle.teco_law_edits.specs.Strict.{StrictEditsCannotFail};
 ghost use Rattle.teco_law_edits.specs.Texts.{TextsEnd};
 
-use teco_law_expansion::laws::expansions_are_linked;
-use teco_law_tables::laws::{runs_are_framed, runs_end_once, runs_leave_below};
+use teco_law_runs::laws::{expansions_are_linked, runs_end_once};
+use teco_law_tables::laws::{runs_are_framed, runs_leave_below};
 use teco_poly::laws::values_grow;
 
 /// Where each command string of an edit ends: those that turn pages, go to the start, and close.

@@ -18,11 +18,12 @@ use Rattle.teco_law_facts.proofs.Covering.{saved_covered, le_holds}
 use Rattle.teco_law_facts.proofs.Each.{each_length}
 use Rattle.teco_law_facts.proofs.Saved.{none_are, saved_after_are, unsaved_are}
 use Rattle.teco_model.specs.Macros.{ArgumentRange, IsInRange}
-use Rattle.teco_verifier.specs.facts.Bodies.{Choice, unknown_where, keeps, held_last, is_within, fall_if}
-use Rattle.teco_verifier.specs.facts.Bodies.{has_own_fall, own_fall}
+use Rattle.teco_verifier.specs.facts.Bodies.{Choice, unknown_where, keeps, held_last, is_within, fall_if, has_own_fall}
+use Rattle.teco_verifier.specs.facts.Bodies.{own_fall}
 use Rattle.teco_verifier.specs.facts.Facts.{entry_facts}
 use Rattle.teco_law_facts.specs.Laws.{BodyStartsAreSound, IsCarried, ReturnsAreSound, TurnsFall, HasRoom, RoomIsSound}
-use Rattle.teco_law_facts.specs.Laws.{IsEntry, EntryIsSound}
+use Rattle.teco_law_facts.specs.Laws.{EntryIsSound}
+use Rattle.teco_law_runs.specs.Ready.{IsEntry}
 use Rattle.teco_verifier.specs.declared.refusal.RefusalReason.TheVariants as refusal
 
 -- ---- numbers that are written are unknown

@@ -31,8 +31,8 @@ use Rattle.teco_law_facts.proofs.Transfers.{queries_are_sound, stacks_are_sound,
 use Rattle.teco_verifier.specs.facts.Arguments as known
 use Rattle.teco_verifier.specs.facts.Printed.{needs, needs_of_page}
 use Rattle.teco_law_facts.specs.SoundSeeking.{SearchesAtMost}
-use Rattle.teco_law_facts.specs.SoundSteps.{ReturnsGoBack, AreOpen}
-use Rattle.teco_law_facts.specs.SoundSteps.{StepsAreSound, LaterStepsAreSound, ElementsAreSound}
+use Rattle.teco_law_facts.specs.SoundSteps.{ReturnsGoBack, StepsAreSound, LaterStepsAreSound, ElementsAreSound}
+use Rattle.teco_law_runs.specs.Ready.{AreOpen}
 use Rattle.teco_verifier.specs.facts.Transfer as transfers
 use Rattle.teco_verifier.specs.declared.refusal.RefusalReason.TheVariants as refusal
 

@@ -29,7 +29,6 @@ pub mod Library
 pub mod Paging
 pub mod Steppings
 pub mod Seeking
-pub mod Whole
 pub mod Repeats
 pub mod Going
 pub mod Onward

@@ -1,8 +1,9 @@
 -- An element whose steps advance ends within the steps that are known, and what each step keeps holds there.
-use Rattle.teco_law_facts.proofs.Prelude.{◌≡◌, ◌∙◌, ap, ℕ, suc, ◌+◌, ◌≤◌, arith, refl, inl, inr, State, Outcome, Next}
+use Rattle.teco_law_facts.proofs.Prelude.{◌≡◌, ℕ, suc, ◌+◌, ◌≤◌, arith, refl, inl, inr, State, Outcome, Next}
 use Rattle.teco_law_facts.proofs.Prelude.{step}
-use Rattle.teco_model.specs.Run.{Reaches, run, go_on}
+use Rattle.teco_model.specs.Run.{Reaches, run}
 use Rattle.teco_law_facts.specs.Repeats.{Advances, IsAt, Repeats}
+use Rattle.teco_law_runs.proofs.Walking.{reaches_more}
 
 -- it came to the step that ends it
 pub record Completed
@@ -23,10 +24,6 @@ abbrev pub IsKept : (ℕ → State → Type 0) → (ℕ → State → Type 0) �
 IsKept Stays Kept s =
     (j rest : ℕ) (now new : State) → IsAt Stays s now → Reaches j s now → Kept j now → step now ≡ Next new
     → Reaches (suc j) s new → Stays rest new → Kept (suc j) new
-
-pub reaches_more : (j : ℕ) (s now new : State) → Reaches j s now → step now ≡ Next new → Reaches (suc j) s new
-unfolding run
-reaches_more j s now new came goes = ap go_on came ∙ goes
 
 module _ (Stays : ℕ → State → Type 0) (Quits : State → Type 0) (Kept : ℕ → State → Type 0) (most : ℕ) (s : State)
     (r : Repeats Stays Quits most s) (keeps : IsKept Stays Kept s) where

@@ -3,7 +3,7 @@
 use Rattle.std.specs.Prelude.{◌≡◌, ℕ, ℤ, ◌+◌, ◌-◌, ◌*◌, ◌≤◌, IsTrue, length, List, [], ◌∷◌, Bool, true, false, Option}
 use Rattle.std.specs.Prelude.{MatchOption, IfOk, IsErr, ⊤}
 use Rattle.teco_model.specs.Arguments.{Arguments, no_arguments}
-use Rattle.teco_model.specs.Registers.{Pair, pair_of}
+use Rattle.teco_model.specs.Registers.{Pair}
 use Rattle.teco_model.specs.declared.kind.Command.TheVariants as command
 use Rattle.teco_model.specs.declared.kind.Kind.{Kind}
 use Rattle.teco_model.specs.declared.kind.Kind.TheVariants as kind
@@ -15,6 +15,7 @@ use Rattle.teco_verifier.specs.facts.Bodies.{Choice, Changes, body_start, begins
 use Rattle.teco_verifier.specs.facts.Covers.{covers}
 use Rattle.teco_law_facts.specs.Describes.{Run, run_behind, run_in_turn, IsWhole, Holds, IsAnswer, Describes, AreEach}
 use Rattle.teco_law_facts.specs.Describes.{HasFallen, fore_of, back_of}
+use Rattle.teco_law_runs.specs.Ready.{IsEntry}
 use Rattle.teco_model.specs.Macros.{IsAsked, ArgumentRange}
 use Rattle.teco_verifier.specs.facts.Argument.{arguments_given, facts_given}
 use Rattle.teco_verifier.specs.facts.Facts.{Answer, Facts, without_arguments}
@@ -78,10 +79,6 @@ JoinsAreSound =
     (facts others : Facts) → MayMeet facts others → IfOk (joined facts others) (MeetsBoth facts others)
 
 -- At the entry no iteration is open, N holds all, and nothing is pending but the argument, where one is given.
-pub record IsEntry (n : ℕ) (unread : ℕ) (kept : Kept) : Type 0 where
-  pub held : length kept.text + unread ≤ n
-  pub texts : (r : ℕ) → length (pair_of r kept.registers).text ≤ n
-
 abbrev pub EntryIsSound : Type 0
 EntryIsSound =
     (n unread : ℕ) (kept : Kept) (range : Option ArgumentRange) (given : Option ℕ)

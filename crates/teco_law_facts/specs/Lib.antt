@@ -7,6 +7,5 @@ pub mod SoundFlow
 pub mod SoundSearches
 pub mod SoundPages
 pub mod SoundSeeking
-pub mod Wholeness
 pub mod Repeats
 pub mod SoundSteps

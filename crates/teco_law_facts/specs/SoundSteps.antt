@@ -7,7 +7,7 @@ use Rattle.teco_model.specs.Ahead.{Whole}
 use Rattle.teco_model.specs.Arguments.{arguments_of, levels_after_taking, no_arguments}
 use Rattle.teco_model.specs.Condition.{holds}
 use Rattle.teco_model.specs.Element.{Element, element_at}
-use Rattle.teco_model.specs.Files.{Input, Output, Files}
+use Rattle.teco_model.specs.Files.{Output}
 use Rattle.teco_model.specs.Flow.{Turn, turn_of, jump, later_turns, leaves}
 use Rattle.teco_model.specs.Going.{frames_at, frames_in}
 use Rattle.teco_model.specs.Run.{Reaches}
@@ -30,7 +30,6 @@ use Rattle.teco_poly.specs.Polynomial.{Polynomial, value}
 use Rattle.teco_law_facts.specs.Describes.{Run, Describes, run_behind, run_in_turn}
 use Rattle.teco_verifier.specs.facts.Facts.{Facts, Iteration}
 use Rattle.teco_verifier.specs.facts.Flows.{Edges}
-use Rattle.teco_model.specs.Macros.{Needs}
 use Rattle.teco_verifier.specs.facts.Printed.{needs, steps}
 use Rattle.teco_law_facts.specs.Repeats.{Advances, IsAt}
 use Rattle.teco_law_facts.specs.SoundElements.{FitsOn, IsNamedByCommand, IsNamedByQuery, IsNamedByStack}
@@ -38,8 +37,9 @@ use Rattle.teco_law_facts.specs.SoundFlow.{number_needed}
 use Rattle.teco_model.specs.Paging.{unread_of}
 use Rattle.teco_law_facts.specs.SoundPages.{ComesTo, Comes, IsTurnOrWrite}
 use Rattle.teco_law_facts.specs.SoundSeeking.{IsInPages, facts_seeking, IsSeeking}
+use Rattle.teco_law_runs.specs.Ready.{AreOpen}
 use Rattle.teco_verifier.specs.facts.Transfer.{Placed, transfer, transfer_return}
-use Rattle.teco_law_facts.specs.Wholeness.{IsWholeState}
+use Rattle.teco_law_runs.specs.Wholeness.{IsWholeState}
 
 -- a register that an element names is one of the 36
 abbrev pub IsNamed : Kind → Type 0
@@ -82,11 +82,6 @@ abbrev pub KindStands : Kind → Facts → Placed → Frame → Type 0
 KindStands (kind.Flow f) facts x frame = FlowStands f facts x frame
 KindStands (kind.Search s) facts x frame = x.colon ≡ false → IsInside facts frame × LeadsAhead x.element frame
 KindStands k facts x frame = ⊤
-
--- the files that it needs are open
-pub record AreOpen (need : Needs) (files : Files) : Type 0 where
-  pub input : need.input ≡ true → (input : Input) × (files.input ≡ Some input)
-  pub output : need.output ≡ true → (output : Output) × (files.output ≡ Some output)
 
 -- A placed element begins at a state, which the facts describe.
 pub record BeginsAt (run : Run) (facts : Facts) (x : Placed) (s : State) : Type 0 where

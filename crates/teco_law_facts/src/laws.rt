@@ -1,9 +1,7 @@
 //! Laws of facts alone: what they say of a state, and rows of them.
 ghost use Rattle.teco_law_facts.specs.Laws.{WaysAreSound, CoversAreSound, JoinsAreSound, EntryIsSound};
-ghost use Rattle.teco_law_facts.specs.Laws.{BodyStartsAreSound, ReturnsAreSound, TurnsFall, RoomIsSound};
-ghost use Rattle.teco_law_facts.specs.Laws.{LibraryStays};
+ghost use Rattle.teco_law_facts.specs.Laws.{BodyStartsAreSound, ReturnsAreSound, TurnsFall, RoomIsSound, LibraryStays};
 ghost use Rattle.teco_law_facts.specs.Rows.{FactRows};
-ghost use Rattle.teco_law_facts.specs.Wholeness.{WholeIsKept};
 
 /// The way that a number takes is reached, and what is known on it holds.
 pub fn ways_are_sound()
@@ -53,9 +51,4 @@ pub fn fact_rows()
 /// No text of the library is written.
 pub fn library_stays()
     ensures { LibraryStays }
-{}
-
-/// What always holds of a state holds at the begin of a run, and each step keeps it.
-pub fn whole_is_kept()
-    ensures { WholeIsKept }
 {}

@@ -1,21 +1,21 @@
 -- Where a run ends, the push-down list of its entry lies below.
 use Rattle.teco_law_tables.proofs.Prelude.{◌≡◌, ℕ, zero, suc, ◌+◌, ◌<◌, ◌^◌, [], Option, Some, None, Result, Ok, Err}
-use Rattle.teco_law_tables.proofs.Prelude.{refl, sym, ap, ◌∙◌, subst, arith, REGISTERS, Code, AreOutcomesAlike}
-use Rattle.teco_law_tables.proofs.Prelude.{IterationsEnd, BeginsPending, call_given, start_pending, NodesAreSound}
-use Rattle.teco_law_tables.proofs.Prelude.{AreOpen, start_given, LiesBelow, IsLong, Element, element_at, ArgumentRange}
-use Rattle.teco_law_tables.proofs.Prelude.{IsAsked, Ends, Reaches, Frames, Outcome, End, State, World, start}
-use Rattle.teco_law_tables.proofs.Prelude.{outcome_at, reply_of, step, needs_in}
+use Rattle.teco_law_tables.proofs.Prelude.{refl, sym, ap, ◌∙◌, subst, arith, REGISTERS, Code, IterationsEnd}
+use Rattle.teco_law_tables.proofs.Prelude.{BeginsPending, call_given, start_pending, NodesAreSound, AreOpen}
+use Rattle.teco_law_tables.proofs.Prelude.{start_given, LiesBelow, IsLong, Element, element_at, ArgumentRange, IsAsked}
+use Rattle.teco_law_tables.proofs.Prelude.{Reaches, Frames, Outcome, End, State, World, start, outcome_at, reply_of}
+use Rattle.teco_law_tables.proofs.Prelude.{step, needs_in, CallLaws, other_next, one_step, reaches_later, reaches_none}
+use Rattle.teco_law_runs.specs.Alike.{AreOutcomesAlike}
+use Rattle.teco_model.specs.Run.{Ends}
 use Rattle.teco_law_tables.proofs.Described as described
 use Rattle.teco_law_tables.proofs.Described.{at_first, ready_call}
 use Rattle.teco_law_tables.proofs.Ending as ending
 use Rattle.teco_law_tables.proofs.Ending.{ClosedCall, Course, course}
-use Rattle.teco_law_tables.proofs.Keeping.{end_stays}
-use Rattle.teco_law_tables.proofs.Pending.{CallLaws, other_next}
+use Rattle.teco_law_runs.proofs.Keeping.{end_stays}
 use Rattle.teco_law_tables.proofs.Stacking.{lies_below}
-use Rattle.teco_law_tables.proofs.Sure.{settle_goes}
+use Rattle.teco_law_runs.proofs.Sure.{settle_goes}
 use Rattle.teco_law_tables.proofs.Underway.{ElementsGo, element_here}
 use Rattle.teco_law_tables.proofs.Verifying as verifying
-use Rattle.teco_law_tables.proofs.Walking.{one_step, reaches_later, reaches_none}
 use Rattle.teco_law_tables.specs.Framing.{RunsLeaveBelow}
 
 -- ---- nothing is read where a run ends

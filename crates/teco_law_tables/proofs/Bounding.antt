@@ -1,13 +1,15 @@
 -- How many turns of an iteration a run begins.
 use Rattle.teco_law_tables.proofs.Prelude.{◌≡◌, ◌⊎◌, inl, inr, ℕ, zero, suc, ◌+◌, ◌≤◌, ◌<◌, ◌==◌, refl, sym, ap, ◌∙◌}
 use Rattle.teco_law_tables.proofs.Prelude.{subst, arith, eqb-true, List, [], ◌∷◌, length, nat_lt, Bool, true, false}
-use Rattle.teco_law_tables.proofs.Prelude.{◌&&◌, if◌then◌else◌, Option, Some, None, Result, Ok, Err, cases_order, Over}
+use Rattle.teco_law_tables.proofs.Prelude.{if◌then◌else◌, Option, Some, None, Result, Ok, Err, cases_order, Over}
 use Rattle.teco_law_tables.proofs.Prelude.{OpenTurn, loops_in, open_loops, loops_of, shown, OpenLoop, Shown, Move}
 use Rattle.teco_law_tables.proofs.Prelude.{Forward, Into, Back, still_open, reaches_more, Kind, Element, element_at}
 use Rattle.teco_law_tables.proofs.Prelude.{Reaches, Frames, State, Next, End, step, end_of, IsBegin, AreClosed}
 use Rattle.teco_law_tables.proofs.Prelude.{IterationsEnd, NodesAreSound, Node, over, Position, position_of, is_long}
 use Rattle.teco_law_tables.proofs.Prelude.{Polynomial, and_both, RefusalReason, start_given, IsLong, MovesOn, ComesOn}
-use Rattle.teco_law_tables.proofs.Prelude.{On, turns_at, value_of, turning}
+use Rattle.teco_law_tables.proofs.Prelude.{On, turns_at, value_of, turning, same_node, same_number, reaches_here}
+use Rattle.teco_law_tables.proofs.Prelude.{reaches_none, same_next}
+use Rattle.std.proofs.Common.{◌&&◌}
 use Rattle.teco_law_turns.specs.Moves.{Enters as EntersLoop}
 use Rattle.teco_law_turns.specs.Turns.{Repeats, TurnsAreBounded, turns_begun as turns_by}
 use Rattle.teco_model.specs.declared.kind.Flow.TheVariants as flow
@@ -19,12 +21,11 @@ use Rattle.teco_law_tables.proofs.Described as described
 use Rattle.teco_law_tables.proofs.Ending as ending
 use Rattle.teco_law_tables.proofs.Ending.{Course, course}
 use Rattle.teco_law_tables.proofs.Described.{ready_call}
-use Rattle.teco_law_tables.proofs.Lookup.{same_node, same_number}
 use Rattle.teco_law_tables.proofs.Passing.{below_is, frames_starts, opened_length}
 use Rattle.teco_law_tables.proofs.Standing.{ending as ends_innermost}
 use Rattle.teco_law_tables.proofs.Underway.{Goes, ElementsGo, element_here, one_state}
 use Rattle.teco_law_tables.proofs.Verifying as verifying
-use Rattle.teco_law_tables.proofs.Walking.{came_leads, reaches_here, reaches_none, same_next}
+use Rattle.teco_law_tables.proofs.Moves.{came_leads}
 
 -- ---- how many loops are open
 still_length : {X : Type 0} (end : X → ℕ) (j : ℕ) (xs : List X) → length (still_open end j xs) ≤ length xs

@@ -7,7 +7,7 @@ use Rattle.teco_law_tables.proofs.Prelude.{Library, AreLinked, Node, numbered, v
 use Rattle.teco_law_tables.proofs.Prelude.{Polynomial, value, and_both, Changes, Choice, body_start, begins, covers}
 use Rattle.teco_law_tables.proofs.Prelude.{Facts, say_same, is_counted, begins_by_kind, begins_iteration, check_nodes}
 use Rattle.teco_law_tables.proofs.Prelude.{TablesAreClosed, turns_at, Table, facts_at, value_of, iterations_at}
-use Rattle.teco_law_tables.proofs.Prelude.{begins_of, held_at, turning, changes_in}
+use Rattle.teco_law_tables.proofs.Prelude.{begins_of, held_at, turning, changes_in, number_within, same_number}
 use Rattle.teco_law_turns.specs.Table.{IsClosedLoop}
 use Rattle.teco_law_turns.specs.Nests.{NodesNest}
 use Rattle.teco_poly.specs.Polynomial.{is_at_most}
@@ -16,7 +16,7 @@ use Rattle.teco_verifier.specs.facts.Bodies.{has_room, stands}
 use Rattle.teco_verifier.specs.table.Printed.{turns_where}
 use Rattle.teco_law_tables.specs.Turning.{begins_at, held_in, held_if}
 use Rattle.teco_law_tables.proofs.Entering.{held_stays}
-use Rattle.teco_law_tables.proofs.Lookup.{number_within, same_number, ends_there, innermost_by}
+use Rattle.teco_law_runs.proofs.Lookup.{ends_there, innermost_by}
 use Rattle.teco_law_tables.proofs.Reading.{Body, body_is}
 use Rattle.teco_law_tables.proofs.Standing.{mark_at, begin_in, iterations_are, passed, next_at}
 

@@ -1,12 +1,13 @@
 -- What an element comes to by the laws of facts is what is known on the way that its last step goes.
 use Rattle.teco_law_tables.proofs.Prelude.{◌≡◌, inl, inr, ℕ, ℤ, zero, suc, ◌+◌, ◌≤◌, refl, sym, ap, ◌∙◌, subst, arith}
 use Rattle.teco_law_tables.proofs.Prelude.{List, ◌∷◌, drop, length, Bool, true, false, is_some, Option, Some, None}
-use Rattle.teco_law_tables.proofs.Prelude.{MatchOption, Result, Ok, Err, ok_or, Code, Taken, Loop, Flow, Kind}
-use Rattle.teco_law_tables.proofs.Prelude.{Arguments, ◌>>=◌, Element, Turn, Search, skip_of, Whole, readings, World}
-use Rattle.teco_law_tables.proofs.Prelude.{Frame, Frames, State, Node, Went, ElementWas, StepWas, Polynomial, value}
-use Rattle.teco_law_tables.proofs.Prelude.{Describes, Run, run_behind, Facts, Edges, unread_of, KindEnds, left_by}
-use Rattle.teco_law_tables.proofs.Prelude.{placed, edges_at, along_kind, along, held_of, run_by_flow, run_by_kind}
-use Rattle.teco_law_tables.proofs.Prelude.{run_along, IsLast, Alone, Again, Comes}
+use Rattle.teco_law_tables.proofs.Prelude.{MatchOption, Result, Ok, Err, Code, Taken, Loop, Flow, Kind, Arguments}
+use Rattle.teco_law_tables.proofs.Prelude.{◌>>=◌, Element, Turn, Search, skip_of, Whole, readings, World, Frame, Frames}
+use Rattle.teco_law_tables.proofs.Prelude.{State, Node, Went, ElementWas, StepWas, Polynomial, value, Describes, Run}
+use Rattle.teco_law_tables.proofs.Prelude.{run_behind, Facts, Edges, unread_of, KindEnds, left_by, placed, edges_at}
+use Rattle.teco_law_tables.proofs.Prelude.{along_kind, along, held_of, run_by_flow, run_by_kind, run_along, IsLast}
+use Rattle.teco_law_tables.proofs.Prelude.{Alone, Again, Comes}
+use Rattle.std.proofs.Common.{ok_or}
 use Rattle.teco_base.specs.declared.code.Code.TheVariants as code
 use Rattle.teco_model.specs.declared.kind.Flow.TheVariants as flow
 use Rattle.teco_model.specs.declared.kind.Kind.TheVariants as kind
@@ -16,8 +17,8 @@ use Rattle.teco_model.specs.Flow.{turn_to, leaves}
 use Rattle.teco_model.specs.Condition.{holds}
 use Rattle.teco_model.specs.declared.skip.Skip.{Skip}
 use Rattle.teco_model.specs.Skip.{route_of, skip_on}
-use Rattle.teco_law_expansion.specs.Turns.{Counts, CountsDown, Took}
-use Rattle.teco_law_expansion.specs.Was as was
+use Rattle.teco_law_runs.specs.Turns.{Counts, CountsDown, Took}
+use Rattle.teco_law_runs.specs.Was as was
 use Rattle.teco_law_facts.specs.SoundFlow.{number_needed}
 use Rattle.teco_law_facts.specs.SoundPages.{ComesTo}
 use Rattle.teco_law_facts.specs.SoundSteps as sound

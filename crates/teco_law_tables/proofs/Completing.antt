@@ -1,14 +1,15 @@
 -- An element that begins where a run is described passes, by the laws of facts.
 use Rattle.teco_law_tables.proofs.Prelude.{◌≡◌, inl, inr, ℕ, suc, refl, sym, ap, ◌∙◌, subst, arith, Bool, true, false}
-use Rattle.teco_law_tables.proofs.Prelude.{Option, Some, None, Result, Ok, Err, option_map_or, stands, Kind}
-use Rattle.teco_law_tables.proofs.Prelude.{Page, Search, Element, element_at, Reaches, Frames, State, Next, step}
-use Rattle.teco_law_tables.proofs.Prelude.{Library, IsLoaded, names_macro, position_of, position_of_frames}
-use Rattle.teco_law_tables.proofs.Prelude.{GoesTo, MovesFrom, Stayed, is_long, IsLeftAt, read_at, Polynomial, value}
-use Rattle.teco_law_tables.proofs.Prelude.{reaches_more, RefusalReason, KnownTaken, arguments_of, Run, IsWhole, Facts}
-use Rattle.teco_law_tables.proofs.Prelude.{steps, FitsOn, AreOpen, BeginsAt, KindEnds, Placed, answer_for, Edges}
-use Rattle.teco_law_tables.proofs.Prelude.{without_answer, edges_of, transfer, placed, edges_behind, edges_at, run_at}
-use Rattle.teco_law_tables.proofs.Prelude.{IsLong, IsLast, Alone, Again, steps_of, needs_in, is_of_files}
-use Rattle.teco_law_tables.proofs.Prelude.{NoFileCommands, FilesStayOpen, value_of}
+use Rattle.teco_law_tables.proofs.Prelude.{Option, Some, None, Result, Ok, Err, option_map_or, stands, Kind, Page}
+use Rattle.teco_law_tables.proofs.Prelude.{Search, Element, element_at, Reaches, Frames, State, Next, step, Library}
+use Rattle.teco_law_tables.proofs.Prelude.{IsLoaded, names_macro, position_of, position_of_frames, GoesTo, MovesFrom}
+use Rattle.teco_law_tables.proofs.Prelude.{Stayed, is_long, IsLeftAt, read_at, Polynomial, value, reaches_more}
+use Rattle.teco_law_tables.proofs.Prelude.{RefusalReason, KnownTaken, arguments_of, Run, IsWhole, Facts, steps, FitsOn}
+use Rattle.teco_law_tables.proofs.Prelude.{AreOpen, BeginsAt, KindEnds, Placed, answer_for, Edges, without_answer}
+use Rattle.teco_law_tables.proofs.Prelude.{edges_of, transfer, placed, edges_behind, edges_at, run_at, IsLong, IsLast}
+use Rattle.teco_law_tables.proofs.Prelude.{Alone, Again, steps_of, needs_in, NoFileCommands, value_of, reads_none}
+use Rattle.teco_law_tables.proofs.Prelude.{none_yet, none_more}
+use Rattle.teco_law_runs.specs.Staying.{is_of_files, FilesStayOpen}
 use Rattle.std.specs.Prelude.{IsErr}
 use Rattle.teco_model.specs.declared.kind.Command.TheVariants as command
 use Rattle.teco_model.specs.declared.kind.Storage.{Storage}
@@ -18,9 +19,9 @@ use Rattle.teco_model.specs.declared.kind.Kind.TheVariants as kind
 use Rattle.teco_model.specs.declared.kind.Page.TheVariants as page
 use Rattle.teco_model.specs.declared.kind.Search.TheVariants as search
 use Rattle.teco_model.specs.Macros.{is_macro}
-use Rattle.teco_law_expansion.specs.Loaded.{StaysLoaded}
+use Rattle.teco_law_runs.specs.Loaded.{StaysLoaded}
 use Rattle.teco_verifier.specs.expansion.Names.{named_by, written_by, writes_macro}
-use Rattle.teco_law_expansion.specs.Run.{Went, StepsGoAlongNodes}
+use Rattle.teco_law_runs.specs.Run.{Went, StepsGoAlongNodes}
 use Rattle.teco_law_facts.proofs.Library.{library_stays}
 use Rattle.teco_law_facts.proofs.Repeats.{Completed, IsKept, completed}
 use Rattle.teco_law_facts.specs.Repeats.{IsAt}
@@ -30,13 +31,11 @@ use Rattle.teco_verifier.specs.facts.Facts.{Answer}
 use Rattle.teco_law_facts.specs.Laws.{WritesText}
 use Rattle.teco_law_facts.specs.SoundPages.{IsTurnOrWrite}
 use Rattle.teco_law_facts.specs.SoundSeeking.{IsInPages}
-use Rattle.teco_law_facts.specs.SoundSteps.{KindUnderway, IsUnderway}
-use Rattle.teco_law_facts.specs.SoundSteps.{StepsAreSound, LaterStepsAreSound}
+use Rattle.teco_law_facts.specs.SoundSteps.{KindUnderway, IsUnderway, StepsAreSound, LaterStepsAreSound}
 use Rattle.teco_law_tables.proofs.Ground.{Ground, Arrival}
 use Rattle.teco_law_tables.proofs.Coming.{HasLoop, element_comes}
-use Rattle.teco_law_tables.proofs.Staying.{open_as_before}
+use Rattle.teco_law_runs.proofs.Staying.{open_as_before}
 use Rattle.teco_law_tables.proofs.Underway.{IsAmid, AreAmid, none_amid, more_amid, Goes}
-use Rattle.teco_law_tables.proofs.Walking.{reads_none, none_yet, none_more}
 
 -- ---- no register of the library is written
 one_named : (b : Bool) → (b ≡ true → ⊥) → b ≡ false

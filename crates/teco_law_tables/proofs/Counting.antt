@@ -1,19 +1,17 @@
 -- The sum that is printed is the sum over the nodes.
 use Rattle.teco_law_tables.proofs.Prelude.{◌≡◌, ℕ, suc, ◌+◌, ◌*◌, refl, sym, ap, ◌∙◌, subst, arith, List, [], ◌∷◌}
 use Rattle.teco_law_tables.proofs.Prelude.{length, Option, Some, None, Result, Ok, Err, slice_get, option_map_or, Node}
-use Rattle.teco_law_tables.proofs.Prelude.{numbered, values_of_constants, Polynomial, value, number, RefusalReason}
+use Rattle.teco_law_tables.proofs.Prelude.{numbered, Polynomial, value, number, RefusalReason}
 use Rattle.teco_law_tables.proofs.Prelude.{sum_of, at_node, turns_at, steps_of, weight, counted_with, count_from, Facts}
 use Rattle.teco_law_tables.proofs.Prelude.{steps_before, commands, Table, facts_at, value_of, own_of, iterations_of}
 use Rattle.teco_law_tables.proofs.Prelude.{turning, bound, some_of}
+use Rattle.teco_law_facts.proofs.Shapes.{value-number}
 use Rattle.teco_law_turns.specs.Table.{sum_below, product_by, weight_of}
 use Rattle.teco_poly.proofs.Lawful.{value_of_sum, value_of_product}
 use Rattle.teco_poly.specs.Polynomial.{add, mul}
 use Rattle.teco_verifier.specs.declared.refusal.RefusalReason.TheVariants as refusal
 use Rattle.teco_law_tables.specs.Laws.{CommandsAreSteps}
 use Rattle.teco_verifier.specs.table.Printed.{turns_round, product_of}
-
-numbers_have : (k n : ℕ) → value (number k) n ≡ k
-numbers_have k n = (values_of_constants n k).0
 
 product_has : (p q r : Polynomial) (n : ℕ) → product_of p q ≡ Ok r → value r n ≡ value p n * value q n
 product_has p q r n h = value_of_product p q r n (some_of (mul p q) refusal.Overflow r h)
@@ -27,7 +25,7 @@ value_is n r p h = ap (value_of n) h
 module _ (table : Table) (n : ℕ) where
   rounds_have : (begins : List ℕ) (p : Polynomial) → turns_round table begins ≡ Ok p
       → value p n ≡ product_by (λ begin. value_of n (turns_at table begin)) begins
-  rounds_have [] p h = let e : number 1 ≡ p = cc in ap (λ (p : Polynomial). value p n) (sym e) ∙ numbers_have 1 n
+  rounds_have [] p h = let e : number 1 ≡ p = cc in ap (λ (p : Polynomial). value p n) (sym e) ∙ value-number 1 n
   rounds_have (begin ∷ outer) p h =
       let rounds = bound (turns_round table outer) _ p h in
       let most = bound (turns_at table begin) _ p rounds.gives in
@@ -39,7 +37,7 @@ module _ (table : Table) (n : ℕ) where
   weighs : (node : Node) (o : Option Facts) (p : Polynomial) → weight table node o ≡ Ok p →
       value p n ≡ own_of n (Some node) o * product_by (λ begin. value_of n (turns_at table begin)) node.stand.iterations
   weighs node None p h = let e : number 0 ≡ p = cc in ap (λ (p : Polynomial). value p n) (sym e)
-      ∙ (numbers_have 0 n ∙ omega arith)
+      ∙ (value-number 0 n ∙ omega arith)
   weighs node (Some facts) p h =
       let own = bound (steps_of node.element facts) _ p h in
       let rounds = bound (turns_round table node.stand.iterations) _ p own.gives in
@@ -102,7 +100,7 @@ commands_are_steps argument nodes table printed n h =
     let there : (j : ℕ) (node : Node) → slice_get nodes j ≡ Some node → numbered nodes (1 + j) ≡ Some node =
     λ j node e. let s : 1 + j ≡ suc j = omega arith in ap (numbered nodes) s ∙ e in
     let all = counts nodes table n 1 nodes (number (steps_before argument)) printed there h in
-    let before = numbers_have (steps_before argument) n in
+    let before = value-number (steps_before argument) n in
     let first : weight_of (turning nodes table n) 0 ≡ 0 = omega arith in
     let next : 1 + length nodes ≡ suc (length nodes) = omega arith in
     let one : sum_below (weight_of (turning nodes table n)) (1 + length nodes) ≡ sum_below

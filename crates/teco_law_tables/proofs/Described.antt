@@ -5,13 +5,13 @@ use Rattle.teco_law_tables.proofs.Prelude.{LiesBelow, Reaches, run, go_on, World
 use Rattle.teco_law_tables.proofs.Prelude.{Library, ArgumentRange, IsAsked, AreLinked, Node, over, position_of}
 use Rattle.teco_law_tables.proofs.Prelude.{Polynomial, reaches_more, AreOpen, ElementsPass, start_given, MovesOn}
 use Rattle.teco_law_tables.proofs.Prelude.{ComesOn, Over, On, Table, needs_in, IsPrinted, IsReady, left_by}
+use Rattle.teco_law_tables.proofs.Prelude.{reaches_later, reaches_none}
 use Rattle.teco_law_tables.specs.Bounded.{IsKnown, AtNode, BehindCall, RunsAreDescribed}
 use Rattle.teco_law_tables.proofs.Ending as ending
 use Rattle.teco_law_tables.proofs.Ending.{Course, ClosedCall, course}
 use Rattle.teco_law_tables.proofs.Verifying as verifying
 use Rattle.teco_law_tables.proofs.Underway.{Goes, ElementsGo, elements_pass}
 use Rattle.teco_law_tables.proofs.Stacking.{below_along, lies_below}
-use Rattle.teco_law_tables.proofs.Walking.{reaches_later, reaches_none}
 
 -- ---- no state comes behind the end
 ended : (s : State) (world : World) (k : ℕ) → step s ≡ End world → run (suc k) s ≡ End world

@@ -4,14 +4,14 @@ use Rattle.teco_law_tables.proofs.Prelude.{false, Option, Some, None, MatchOptio
 use Rattle.teco_law_tables.proofs.Prelude.{Kind, Element, Library, AreLinked, Node, stands, numbered, base_of, ways_at}
 use Rattle.teco_law_tables.proofs.Prelude.{RefusalReason, arguments_of, Facts, Edges, Fits, FitsOn, edges_at, along}
 use Rattle.teco_law_tables.proofs.Prelude.{along_kind, turns_by_kind, begins_turn, check_nodes, Table, facts_at, bound}
+use Rattle.teco_law_tables.proofs.Prelude.{node_of}
 use Rattle.teco_model.specs.declared.kind.Flow.TheVariants as flow
 use Rattle.teco_model.specs.declared.kind.Kind.TheVariants as kind
 use Rattle.teco_verifier.specs.facts.Flows.{without_value}
 use Rattle.teco_law_tables.proofs.Entering.{kind_edges, enters}
 use Rattle.teco_law_tables.proofs.Fitting.{fits_covered}
 use Rattle.teco_law_tables.proofs.Going.{way_covered, way_within}
-use Rattle.teco_law_tables.proofs.Leading.{on_way, way_there}
-use Rattle.teco_law_tables.proofs.Lookup.{node_of}
+use Rattle.teco_law_runs.proofs.Targets.{on_way, way_there}
 
 on_of : (r : Result Edges RefusalReason) (edges other : Edges) → r ≡ Ok edges → r ≡ Ok other → edges.on ≡ other.on
 on_of r edges other h g = let e : r ≡ Ok other = g in let f : edges ≡ other = same (sym h ∙ g) in

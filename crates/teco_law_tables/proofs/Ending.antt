@@ -4,27 +4,27 @@ use Rattle.teco_law_tables.proofs.Prelude.{arith, List, [], true, Option, Some, 
 use Rattle.teco_law_tables.proofs.Prelude.{AllByRecursion, Shown, Move, Forward, FallFollows, steps_in, Reaches, run}
 use Rattle.teco_law_tables.proofs.Prelude.{go_on, World, State, End, step, Library, IsLoaded, ArgumentRange, IsAsked}
 use Rattle.teco_law_tables.proofs.Prelude.{AreLinked, Stand, Node, beginning, over, numbered, position_of, value}
-use Rattle.teco_law_tables.proofs.Prelude.{and_both, covers_are_sound, arguments_given, IsWhole, Facts, unread_of}
-use Rattle.teco_law_tables.proofs.Prelude.{AreOpen, say_same, is_entry, check, Passes, ElementsPass, EndsWithin}
-use Rattle.teco_law_tables.proofs.Prelude.{start_given, RunsEndInTime, OpenTurn, run_at, AreOpened, IsDescribed}
-use Rattle.teco_law_tables.proofs.Prelude.{held_of, loops_of, shown, TablesAreClosed, MovesOn, ComesOn, Over, On}
-use Rattle.teco_law_tables.proofs.Prelude.{StepsMove, steps_of, needs_in, NoFileCommands, Table, facts_at, value_of}
-use Rattle.teco_law_tables.proofs.Prelude.{own_of, held_at, turning, values_of_constants, blank_len}
+use Rattle.teco_law_tables.proofs.Prelude.{and_both, covers_are_sound, IsWhole, Facts, unread_of, AreOpen, say_same}
+use Rattle.teco_law_tables.proofs.Prelude.{is_entry, check, Passes, ElementsPass, EndsWithin, start_given}
+use Rattle.teco_law_tables.proofs.Prelude.{RunsEndInTime, OpenTurn, run_at, AreOpened, IsDescribed, held_of, loops_of}
+use Rattle.teco_law_tables.proofs.Prelude.{shown, TablesAreClosed, MovesOn, ComesOn, Over, On, StepsMove, steps_of}
+use Rattle.teco_law_tables.proofs.Prelude.{needs_in, NoFileCommands, Table, facts_at, value_of, own_of, held_at}
+use Rattle.teco_law_tables.proofs.Prelude.{turning, values_of_constants, blank_len, number_within, same_node, none_yet}
+use Rattle.teco_law_tables.proofs.Prelude.{reaches_here}
+use Rattle.teco_verifier.specs.facts.Argument.{arguments_given, facts_given}
 use Rattle.teco_law_turns.specs.Moves.{IsStart, RunsAreBounded}
 use Rattle.teco_law_turns.specs.Table.{IsClosed}
 use Rattle.teco_law_turns.specs.Turns.{RunsAreCovered}
-use Rattle.teco_law_expansion.specs.Run.{RunsEnd}
+use Rattle.teco_law_runs.specs.Run.{RunsEnd}
 use Rattle.teco_law_facts.proofs.Bodies.{entry_is_sound}
-use Rattle.teco_verifier.specs.facts.Argument.{facts_given}
-use Rattle.teco_law_facts.specs.Laws.{IsEntry}
+use Rattle.teco_law_runs.specs.Ready.{IsEntry}
 use Rattle.teco_law_tables.proofs.Ground.{Ground}
 use Rattle.teco_law_tables.proofs.Closing.{held_known, held_same}
 use Rattle.teco_law_tables.proofs.Going.{Target, AtNode, AtEnd, target_is}
-use Rattle.teco_law_tables.proofs.Lookup.{number_within, same_node}
 use Rattle.teco_law_tables.proofs.Standing.{iterations_are}
 use Rattle.teco_law_tables.proofs.Reading.{entry_checked, nodes_checked}
-use Rattle.teco_law_tables.proofs.Walking.{Came, came_leads, came_on, came_takes, none_on, none_yet, reaches_here}
-use Rattle.teco_law_tables.proofs.Walking.{reaches_on}
+use Rattle.teco_law_tables.proofs.Moves.{Came, came_leads, came_on, came_takes}
+use Rattle.teco_law_runs.proofs.Walking.{none_on, reaches_on}
 
 pub record Laws : Type 0 where
   pub bounded : RunsAreBounded

@@ -1,26 +1,27 @@
 -- A step of < into its body begins its first turn.
 use Rattle.teco_law_tables.proofs.Prelude.{◌≡◌, ◌⊎◌, inl, inr, ℕ, zero, suc, ◌≤◌, ◌<◌, refl, sym, ap, ◌∙◌, subst, arith}
 use Rattle.teco_law_tables.proofs.Prelude.{List, [], ◌∷◌, ◌++◌, map, Bool, true, false, pos, ℤ, Option, Some, None}
-use Rattle.teco_law_tables.proofs.Prelude.{Result, Ok, is_some, ◌+◌, IsTrue, ⊤, AllByRecursion, ints, Code, Into, Taken}
-use Rattle.teco_law_tables.proofs.Prelude.{Flow, Kind, Element, Turn, World, State, end_of, AreClosed, LeadsBy}
-use Rattle.teco_law_tables.proofs.Prelude.{LeadsByKind, place_at, Node, numbered, stand_at, position_of, is_long}
-use Rattle.teco_law_tables.proofs.Prelude.{StepWas, ElementWas, Turns, Polynomial, value, and_both, covers_are_sound}
-use Rattle.teco_law_tables.proofs.Prelude.{KnownTaken, arguments_of, Changes, Choice, body_start, begins, choice_stands}
-use Rattle.teco_law_tables.proofs.Prelude.{covers, each_covers, is_same_iteration, Describes, HasFallen, fore_of}
-use Rattle.teco_law_tables.proofs.Prelude.{Iteration, Facts, entered, unread_of, RefusalReason, Value, left_by}
-use Rattle.teco_law_tables.proofs.Prelude.{turns_by_kind, begins_turn, say_same, is_counted, body_stands, is_entered}
-use Rattle.teco_law_tables.proofs.Prelude.{enters_by, enters_at, closed_behind, OpenTurn, begun_of, run_at, loops_in}
-use Rattle.teco_law_tables.proofs.Prelude.{open_loops, AreMore, IsOpened, AreOpened, held_of, loops_of, shown}
-use Rattle.teco_law_tables.proofs.Prelude.{run_by_kind, run_along, IsLong, IsLast, Alone, Again, MovesOn, Table}
-use Rattle.teco_law_tables.proofs.Prelude.{facts_at, choice_at, turns_at, value_of, is_reached, turning, changes_in}
-use Rattle.teco_law_tables.proofs.Prelude.{length-map, turns_by_flow}
+use Rattle.teco_law_tables.proofs.Prelude.{Result, Ok, is_some, ◌+◌, IsTrue, ⊤, AllByRecursion, Code, Into, Taken, Flow}
+use Rattle.teco_law_tables.proofs.Prelude.{Kind, Element, Turn, World, State, end_of, AreClosed, LeadsBy, LeadsByKind}
+use Rattle.teco_law_tables.proofs.Prelude.{place_at, Node, numbered, stand_at, position_of, is_long, StepWas}
+use Rattle.teco_law_tables.proofs.Prelude.{ElementWas, Turns, Polynomial, value, and_both, covers_are_sound, KnownTaken}
+use Rattle.teco_law_tables.proofs.Prelude.{arguments_of, Changes, Choice, body_start, begins, choice_stands, covers}
+use Rattle.teco_law_tables.proofs.Prelude.{each_covers, is_same_iteration, Describes, HasFallen, fore_of, Iteration}
+use Rattle.teco_law_tables.proofs.Prelude.{Facts, entered, unread_of, RefusalReason, Value, left_by, turns_by_kind}
+use Rattle.teco_law_tables.proofs.Prelude.{begins_turn, say_same, is_counted, body_stands, is_entered, enters_by}
+use Rattle.teco_law_tables.proofs.Prelude.{enters_at, closed_behind, OpenTurn, begun_of, run_at, loops_in, open_loops}
+use Rattle.teco_law_tables.proofs.Prelude.{AreMore, IsOpened, AreOpened, held_of, loops_of, shown, run_by_kind}
+use Rattle.teco_law_tables.proofs.Prelude.{run_along, IsLong, IsLast, Alone, Again, MovesOn, Table, facts_at, choice_at}
+use Rattle.teco_law_tables.proofs.Prelude.{turns_at, value_of, is_reached, turning, changes_in, length-map}
+use Rattle.teco_law_tables.proofs.Prelude.{turns_by_flow}
+use Rattle.std.proofs.lemmas.Int.{ints}
 use Rattle.teco_law_turns.specs.Moves as moves
 use Rattle.teco_model.specs.declared.kind.Flow.TheVariants as flow
 use Rattle.teco_model.specs.declared.kind.Kind.TheVariants as kind
 use Rattle.teco_model.specs.Arguments as model
 use Rattle.teco_model.specs.Flow.{later_turns}
-use Rattle.teco_law_expansion.specs.Leading.{IsInside}
-use Rattle.teco_law_expansion.specs.Turns as went
+use Rattle.teco_law_runs.specs.Leading.{IsInside}
+use Rattle.teco_law_runs.specs.Turns as went
 use Rattle.teco_law_facts.proofs.Bodies.{body_starts_are_sound}
 use Rattle.teco_law_facts.proofs.Flowing.{taking_is, turns_are_sound}
 use Rattle.teco_law_facts.proofs.Steps.{Covers}

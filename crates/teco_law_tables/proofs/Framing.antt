@@ -2,19 +2,18 @@
 use Rattle.teco_law_tables.proofs.Prelude.{◌≡◌, ℕ, zero, suc, ◌+◌, ◌<◌, List, [], false, Option, Some, None, Ok, refl}
 use Rattle.teco_law_tables.proofs.Prelude.{sym, ap, ◌∙◌, subst, arith, ◌^◌, REGISTERS, IterationsEnd, BeginsPending}
 use Rattle.teco_law_tables.proofs.Prelude.{call_given, start_pending, AreOpen, start_given, Element, ArgumentRange}
-use Rattle.teco_law_tables.proofs.Prelude.{IsAsked, Reaches, go_on, run, Kept, Outcome, Next, State, World, start, step}
-use Rattle.teco_law_tables.proofs.Prelude.{Node, numbered, position_of, position_of_frames, read_at, needs_in}
+use Rattle.teco_law_tables.proofs.Prelude.{IsAsked, Reaches, run, Kept, Next, State, World, start, step}
+use Rattle.teco_law_tables.proofs.Prelude.{Node, numbered, position_of, position_of_frames, read_at, needs_in, CallLaws}
+use Rattle.teco_law_tables.proofs.Prelude.{other_next, one_step, reaches_later, reaches_none}
 use Rattle.std.proofs.Common.{◌≢◌}
-use Rattle.teco_law_expansion.proofs.Runs.{over_reads}
-use Rattle.teco_law_expansion.specs.Loaded.{KeepsBy, StepsKeep}
+use Rattle.teco_law_runs.proofs.Runs.{last_step, over_reads}
+use Rattle.teco_law_runs.specs.Loaded.{KeepsBy, StepsKeep}
 use Rattle.teco_law_tables.proofs.Described as described
 use Rattle.teco_law_tables.proofs.Described.{at_first, ready_call}
 use Rattle.teco_law_tables.proofs.Ending as ending
 use Rattle.teco_law_tables.proofs.Ending.{ClosedCall, Course, course}
-use Rattle.teco_law_tables.proofs.Pending.{CallLaws, other_next}
 use Rattle.teco_law_tables.proofs.Underway.{ElementsGo}
 use Rattle.teco_law_tables.proofs.Verifying as verifying
-use Rattle.teco_law_tables.proofs.Walking.{one_step, reaches_later, reaches_none}
 use Rattle.teco_law_tables.specs.Framing.{IsFramed, NoneNames, NoneSetsMode, RunsAreFramed, named_in, sets_mode_in}
 
 -- what is read is of a node, or nothing is
@@ -53,15 +52,6 @@ onward nodes a b c first next = record {
   pairs = λ r none. next.pairs r none ∙ first.pairs r none;
   mode = λ none. next.mode none ∙ first.mode none;
 }
-
-record Last (before : Outcome) (t : State) : Type 0 where
-  last : State
-  was : before ≡ Next last
-  goes : step last ≡ Next t
-
-last_step : (before : Outcome) (t : State) → go_on before ≡ Next t → Last before t
-last_step (Next s) t h = record { last = s; was = refl; goes = h }
-last_step before t h = absurd (grind arith)
 
 module _ (keep : StepsKeep) (nodes : List Node) (first : State)
     (reads : (k : ℕ) (u : State) → Reaches k first u → ReadsIn nodes u) where

@@ -5,25 +5,26 @@ use Rattle.teco_law_tables.proofs.Prelude.{false, ◌||◌, if◌then◌else◌,
 use Rattle.teco_law_tables.proofs.Prelude.{IsTrue, AllByRecursion, option_map_or, ltb-true, Forward, FallFollows}
 use Rattle.teco_law_tables.proofs.Prelude.{still_open, Flow, Kind, Element, Pair, World, Frames, State, end_of}
 use Rattle.teco_law_tables.proofs.Prelude.{AreClosed, LeftHaveEnded, IterationsAreOpen, LeadsBy, place_at, WaysLead}
-use Rattle.teco_law_tables.proofs.Prelude.{Stand, Node, over, stand_of_node, stands, numbered, stand_at, Position}
-use Rattle.teco_law_tables.proofs.Prelude.{position_of, values_compare, value, and_both, covers_are_sound, covers, Run}
-use Rattle.teco_law_tables.proofs.Prelude.{run_behind, Describes, Facts, Edges, unread_of, left_by, edges_at, along}
-use Rattle.teco_law_tables.proofs.Prelude.{turns_by_flow, turns_by_kind, begins_turn, arrives, is_known_in}
-use Rattle.teco_law_tables.proofs.Prelude.{closed_behind, closed_where, check_nodes, OpenTurn, run_at, loops_in}
-use Rattle.teco_law_tables.proofs.Prelude.{open_loops, AreOpened, held_of, loops_of, shown, left_by_flow, left_by_kind}
-use Rattle.teco_law_tables.proofs.Prelude.{left_along, run_by_flow, run_by_kind, run_along, IsLast, Alone, Again}
-use Rattle.teco_law_tables.proofs.Prelude.{MovesOn, Table, facts_at, is_reached, held_at, turning}
+use Rattle.teco_law_tables.proofs.Prelude.{Stand, Node, over, stands, numbered, stand_at, Position, position_of}
+use Rattle.teco_law_tables.proofs.Prelude.{values_compare, value, and_both, covers_are_sound, covers, Run, run_behind}
+use Rattle.teco_law_tables.proofs.Prelude.{Describes, Facts, Edges, unread_of, left_by, edges_at, along, turns_by_flow}
+use Rattle.teco_law_tables.proofs.Prelude.{turns_by_kind, begins_turn, arrives, is_known_in, closed_behind}
+use Rattle.teco_law_tables.proofs.Prelude.{closed_where, check_nodes, OpenTurn, run_at, loops_in, open_loops, AreOpened}
+use Rattle.teco_law_tables.proofs.Prelude.{held_of, loops_of, shown, left_by_flow, left_by_kind, left_along}
+use Rattle.teco_law_tables.proofs.Prelude.{run_by_flow, run_by_kind, run_along, IsLast, Alone, Again, MovesOn, Table}
+use Rattle.teco_law_tables.proofs.Prelude.{facts_at, is_reached, held_at, turning, number_within}
+use Rattle.teco_verifier.specs.expansion.Node.{stand_of_node}
 use Rattle.std.proofs.Common.{get_or}
 use Rattle.teco_law_turns.specs.Moves.{Goes}
 use Rattle.teco_model.specs.declared.kind.Flow.TheVariants as flow
 use Rattle.teco_model.specs.declared.kind.Kind.TheVariants as kind
-use Rattle.teco_law_expansion.specs.Iterations.{AreOpen}
+use Rattle.teco_law_runs.specs.Iterations.{AreOpen}
 use Rattle.teco_verifier.specs.table.Behind.{open_of, open_at}
 use Rattle.teco_verifier.specs.table.Closed.{is_return, is_covered, arrive}
 use Rattle.teco_law_tables.proofs.Ground.{Ground, Passage}
 use Rattle.teco_law_tables.proofs.Closing.{held_covered, held_known}
 use Rattle.teco_law_tables.proofs.Leaving.{step_loops}
-use Rattle.teco_law_tables.proofs.Lookup.{number_within, stand_of}
+use Rattle.teco_law_runs.proofs.Lookup.{stand_of}
 use Rattle.teco_law_tables.proofs.Passing.{Ahead, ahead, loops_length, opened_length, opened_dropped, begun_dropped}
 use Rattle.teco_law_tables.proofs.Passing.{numbers_still, loops_still, no_falls, descend_dropped}
 use Rattle.teco_law_tables.proofs.Reading.{node_checked}

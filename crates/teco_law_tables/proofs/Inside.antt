@@ -3,10 +3,11 @@ use Rattle.teco_law_tables.proofs.Prelude.{◌≡◌, ℕ, ◌≤◌, ◌<◌, r
 use Rattle.teco_law_tables.proofs.Prelude.{Bool, true, false, Option, Some, None, Ok, IsTrue, AllByRecursion}
 use Rattle.teco_law_tables.proofs.Prelude.{option_map_or, OpenTurn, loops_in, AreMore, IsOpened, AreOpened, Loop, Flow}
 use Rattle.teco_law_tables.proofs.Prelude.{Kind, Search, Whole, Element, skip_of, Frame, Descend, IsBegin, AreClosed}
-use Rattle.teco_law_tables.proofs.Prelude.{end_of, Position, start_of, search_ways, element_ways, ways_at, and_both}
-use Rattle.teco_law_tables.proofs.Prelude.{body_start, each_covers, is_same_iteration, covers, Iteration, Facts, Edges}
+use Rattle.teco_law_tables.proofs.Prelude.{end_of, Position, start_of, element_ways, ways_at, and_both, body_start}
+use Rattle.teco_law_tables.proofs.Prelude.{each_covers, is_same_iteration, covers, Iteration, Facts, Edges}
 use Rattle.teco_law_tables.proofs.Prelude.{without_answer, placed, edges_at, is_counted, is_known_in, Table, changes_in}
 use Rattle.teco_law_tables.proofs.Prelude.{bound}
+use Rattle.teco_verifier.specs.expansion.Ways.{search_ways}
 use Rattle.teco_model.specs.declared.kind.Flow.TheVariants as flow
 use Rattle.teco_model.specs.declared.kind.Goal.TheVariants as goal
 use Rattle.teco_model.specs.declared.kind.Kind.TheVariants as kind
@@ -19,7 +20,7 @@ use Rattle.teco_law_tables.proofs.Coming.{HasLoop}
 use Rattle.teco_law_tables.proofs.Entered.{counted_by}
 use Rattle.teco_law_tables.proofs.Entering.{kind_edges, Entering, enters}
 use Rattle.teco_law_tables.proofs.Going.{known_in}
-use Rattle.teco_law_tables.proofs.Leading.{JumpPlace, HasStart, FlowHas, flow_has, search_has}
+use Rattle.teco_law_runs.proofs.Targets.{JumpPlace, HasStart, FlowHas, flow_has, search_has}
 use Rattle.teco_law_tables.proofs.Reading.{Body, body_is}
 
 has_loop : (frame : Frame) (loops : List Loop) → frame.loops ≡ loops → HasStart (map start_of loops) → HasLoop frame

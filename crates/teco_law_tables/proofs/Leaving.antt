@@ -2,9 +2,10 @@
 use Rattle.teco_law_tables.proofs.Prelude.{◌≡◌, ℕ, ℤ, zero, suc, ◌-◌, inl, inr, refl, sym, ap, ◌∙◌, arith, List, []}
 use Rattle.teco_law_tables.proofs.Prelude.{◌∷◌, ◌++◌, drop, length, false, Option, Some, None, Result, Ok, Err}
 use Rattle.teco_law_tables.proofs.Prelude.{length-append, length-drop, Code, Loop, Kind, Flow, Page, Arguments, Element}
-use Rattle.teco_law_tables.proofs.Prelude.{Turn, ⊤, ◌>>=◌, Course, Behind, Reply, settled, settle, World, Frame, State}
-use Rattle.teco_law_tables.proofs.Prelude.{Next, reply_of, Went, ElementWas, StepWas, turns_by_flow, turns_by_kind}
-use Rattle.teco_law_tables.proofs.Prelude.{begins_turn, loops_in, open_loops, left_by_flow, left_by_kind, left_along}
+use Rattle.teco_law_tables.proofs.Prelude.{Turn, ⊤, ◌>>=◌, World, Frame, State, Next, reply_of, Went, ElementWas}
+use Rattle.teco_law_tables.proofs.Prelude.{StepWas, turns_by_flow, turns_by_kind, begins_turn, loops_in, open_loops}
+use Rattle.teco_law_tables.proofs.Prelude.{left_by_flow, left_by_kind, left_along}
+use Rattle.teco_model.specs.Going.{Course, Behind, Reply, settled, settle, After, Again, Along, Into, on_editor}
 use Rattle.teco_model.specs.declared.kind.Kind.TheVariants as kind
 use Rattle.teco_model.specs.declared.kind.File.{File}
 use Rattle.teco_model.specs.declared.kind.File.TheVariants as file
@@ -12,11 +13,10 @@ use Rattle.teco_model.specs.declared.kind.Flow.TheVariants as flow
 use Rattle.teco_model.specs.declared.kind.Page.TheVariants as page
 use Rattle.teco_model.specs.Arguments.{arguments_of, levels_after_taking}
 use Rattle.teco_model.specs.Filing.{open_input, open_output, close_output, copy_all}
-use Rattle.teco_model.specs.Going.{After, Again, Along, Into, on_editor}
 use Rattle.teco_model.specs.Outside.{going_on, while_left, in_pages, pages_reply, append_reply, page_reply, opened}
 use Rattle.teco_model.specs.Outside.{filed}
 use Rattle.teco_model.specs.Paging.{Progress, append, yank, pages, one_page_of, page_turned, page_written}
-use Rattle.teco_law_expansion.specs.Turns.{Jumps}
+use Rattle.teco_law_runs.specs.Turns.{Jumps}
 
 same : (s t : State) → Next s ≡ Next t → open_loops t ≡ open_loops s
 same s t h = let e : s ≡ t = cc in ap open_loops (sym e)

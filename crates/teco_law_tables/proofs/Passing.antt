@@ -9,8 +9,8 @@ use Rattle.teco_law_tables.proofs.Prelude.{begun_of, loops_in, open_loops, AreOp
 use Rattle.teco_law_tables.proofs.Prelude.{left_by_kind, left_along, Table}
 use Rattle.teco_model.specs.declared.kind.Flow.TheVariants as flow
 use Rattle.teco_model.specs.declared.kind.Kind.TheVariants as kind
-use Rattle.teco_law_expansion.specs.Iterations.{AreOpen}
-use Rattle.teco_law_expansion.specs.Leading.{Place, LeadsByFlow}
+use Rattle.teco_law_runs.specs.Iterations.{AreOpen}
+use Rattle.teco_law_runs.specs.Leading.{Place, LeadsByFlow}
 use Rattle.teco_verifier.specs.expansion.Position.{spot_of, starts_in}
 
 -- ---- a way that begins no turn leads ahead, and leaves some iterations

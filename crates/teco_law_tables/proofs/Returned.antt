@@ -13,8 +13,8 @@ use Rattle.teco_law_turns.specs.Moves as moves
 use Rattle.teco_model.specs.declared.kind.Flow.TheVariants as flow
 use Rattle.teco_model.specs.declared.kind.Kind.TheVariants as kind
 use Rattle.teco_model.specs.Arguments as model
-use Rattle.teco_law_expansion.specs.Leading.{IsBack}
-use Rattle.teco_law_expansion.specs.Turns as went
+use Rattle.teco_law_runs.specs.Leading.{IsBack}
+use Rattle.teco_law_runs.specs.Turns as went
 use Rattle.teco_law_facts.proofs.Bodies.{returns_are_sound, turns_fall}
 use Rattle.teco_verifier.specs.facts.Bodies.{returns}
 use Rattle.teco_law_facts.specs.Describes.{run_in_turn, AreEach}

@@ -1,17 +1,19 @@
 -- The iterations round the nodes, as one pass over them tells.
 use Rattle.teco_law_tables.proofs.Prelude.{◌≡◌, ℕ, zero, suc, ◌≤◌, ◌<◌, refl, sym, ap, ◌∙◌, subst, arith, List, [], ◌∷◌}
 use Rattle.teco_law_tables.proofs.Prelude.{drop, length, true, false, Option, Some, None, Ok, AllByRecursion}
-use Rattle.teco_law_tables.proofs.Prelude.{option_map_or, Begin, onward, Flow, Kind, Element, is_innermost}
-use Rattle.teco_law_tables.proofs.Prelude.{ends_by_kind, ends_by, ends, end_of, AreClosed, AreOpenIn, IterationsAreOpen}
-use Rattle.teco_law_tables.proofs.Prelude.{Library, AreLinked, Stand, Node, beginning, numbered, Spot, Position}
-use Rattle.teco_law_tables.proofs.Prelude.{end_ways, flow_ways, element_ways, ways_at, Table, begins_by_kind}
-use Rattle.teco_law_tables.proofs.Prelude.{begins_iteration, iterations_of, iterations_at, begins_of, turning}
+use Rattle.teco_law_tables.proofs.Prelude.{option_map_or, Begin, onward, Flow, Kind, Element, end_of, AreClosed}
+use Rattle.teco_law_tables.proofs.Prelude.{AreOpenIn, IterationsAreOpen, Library, AreLinked, Stand, Node, beginning}
+use Rattle.teco_law_tables.proofs.Prelude.{numbered, Spot, Position, flow_ways, element_ways, ways_at, Table}
+use Rattle.teco_law_tables.proofs.Prelude.{begins_by_kind, begins_iteration, iterations_of, iterations_at, begins_of}
+use Rattle.teco_law_tables.proofs.Prelude.{turning, node_of, same_number}
+use Rattle.teco_verifier.specs.expansion.Ends.{is_innermost, ends_by_kind, ends_by, ends}
+use Rattle.teco_verifier.specs.expansion.Ways.{end_ways}
 use Rattle.teco_law_turns.specs.Nests.{LoopMark, End, Plain, EndsInnermost, IsPassed}
 use Rattle.teco_model.specs.declared.kind.Flow.TheVariants as flow
 use Rattle.teco_model.specs.declared.kind.Kind.TheVariants as kind
-use Rattle.teco_law_expansion.specs.Iterations.{AreOpen}
+use Rattle.teco_law_runs.specs.Iterations.{AreOpen}
 use Rattle.teco_verifier.specs.expansion.Order.{stand_behind_kind, stand_behind}
-use Rattle.teco_law_tables.proofs.Lookup.{node_of, same_stand, same_number}
+use Rattle.teco_law_runs.proofs.Lookup.{same_stand}
 
 -- ---- what a node is
 abbrev pub mark_of_flow : Flow → LoopMark

@@ -3,9 +3,8 @@ use Rattle.teco_law_tables.proofs.Prelude.{◌≡◌, ◌⊎◌, inl, inr, ℕ, 
 use Rattle.teco_law_tables.proofs.Prelude.{Option, Some, Ok, cases_order, element_at-again, Element, element_at, Pair}
 use Rattle.teco_law_tables.proofs.Prelude.{Reaches, run, State, End, step, Library, NodesAreSound, Node, stands}
 use Rattle.teco_law_tables.proofs.Prelude.{Position, AreOpen, Passes, ElementsPass, OpenTurn, IsDescribed, IsLong}
-use Rattle.teco_law_tables.proofs.Prelude.{needs_in, Table}
+use Rattle.teco_law_tables.proofs.Prelude.{needs_in, Table, same_next}
 use Rattle.teco_law_tables.proofs.Ground.{Ground, Arrival}
-use Rattle.teco_law_tables.proofs.Walking.{same_next}
 
 -- the element that is read where a run is described is the node's
 pub element_here : NodesAreSound → (ground : Ground) (a : Arrival ground)

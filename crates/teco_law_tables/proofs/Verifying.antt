@@ -1,27 +1,30 @@
 -- A macro whose table is closed runs to its end in time.
 use Rattle.teco_law_tables.proofs.Prelude.{◌≡◌, ◌⊎◌, inl, inr, ℕ, zero, suc, ◌+◌, ◌<◌, ◌≤◌, refl, sym, ap, ◌∙◌, subst}
 use Rattle.teco_law_tables.proofs.Prelude.{arith, List, [], ◌∷◌, map, Bool, true, false, ◌||◌, Option, Some, None}
-use Rattle.teco_law_tables.proofs.Prelude.{Result, Ok, Err, slice_get, rules, IsTrue, option_map_or, Loop}
-use Rattle.teco_law_tables.proofs.Prelude.{Element, element_at, Files, Reaches, run, go_on, has_colon, World, Kept}
-use Rattle.teco_law_tables.proofs.Prelude.{Frame, State, Outcome, Next, End, start, frame_of, end_outcome, end_of_text}
-use Rattle.teco_law_tables.proofs.Prelude.{outcome_at, step, AreClosed, IterationsEnd, Library, ArgumentRange, IsAsked}
-use Rattle.teco_law_tables.proofs.Prelude.{Needs, AreLinked, NodesAreSound, Node, stands, numbered, Spot, Position}
-use Rattle.teco_law_tables.proofs.Prelude.{start_of, GoesTo, MovesFrom, Stayed, IsLeftAt, ways_at, values_of_constants}
-use Rattle.teco_law_tables.proofs.Prelude.{unread_of, Alone, run_along, value_of, turning, Polynomial, value}
-use Rattle.teco_law_tables.proofs.Prelude.{LIMIT, REGISTERS, Arguments, steps_in, call_given, Run}
+use Rattle.teco_law_tables.proofs.Prelude.{Result, Ok, Err, slice_get, rules, IsTrue, option_map_or, Loop, Element}
+use Rattle.teco_law_tables.proofs.Prelude.{element_at, Reaches, run, go_on, World, Kept, Frame, State, Outcome, Next}
+use Rattle.teco_law_tables.proofs.Prelude.{End, start, outcome_at, step, AreClosed, IterationsEnd, Library}
+use Rattle.teco_law_tables.proofs.Prelude.{ArgumentRange, IsAsked, AreLinked, NodesAreSound, Node, stands, numbered}
+use Rattle.teco_law_tables.proofs.Prelude.{Spot, Position, start_of, GoesTo, MovesFrom, Stayed, IsLeftAt, ways_at}
+use Rattle.teco_law_tables.proofs.Prelude.{values_of_constants, unread_of, Alone, run_along, value_of, turning}
+use Rattle.teco_law_tables.proofs.Prelude.{Polynomial, value, LIMIT, REGISTERS, Arguments, steps_in, call_given, Run}
 use Rattle.teco_law_tables.proofs.Prelude.{Describes, without_answer, Facts, Edges, no_needs, needs, AreOpen, BeginsAt}
 use Rattle.teco_law_tables.proofs.Prelude.{left_by, placed, edges_behind, edges_at, along, closed_behind, EndsWithin}
 use Rattle.teco_law_tables.proofs.Prelude.{start_given, RunsEndInTime, run_at, steps_before, steps_of, needs_from}
-use Rattle.teco_law_tables.proofs.Prelude.{needs_in, IsPrinted, changes_files, ReadsNoFileCommand, Table, facts_at}
-use Rattle.teco_law_tables.proofs.Prelude.{IsReady, RefusalReason}
+use Rattle.teco_law_tables.proofs.Prelude.{needs_in, IsPrinted, Table, facts_at, IsReady, RefusalReason, CallLaws}
+use Rattle.teco_law_tables.proofs.Prelude.{reads_none, none_yet, none_more}
+use Rattle.teco_model.specs.Files.{Files}
+use Rattle.teco_model.specs.Searching.{has_colon}
+use Rattle.teco_model.specs.State.{frame_of}
+use Rattle.teco_model.specs.Step.{end_outcome, end_of_text}
+use Rattle.teco_model.specs.Macros.{Needs, call_of}
+use Rattle.teco_law_runs.specs.Staying.{changes_files, ReadsNoFileCommand}
 use Rattle.std.proofs.Common.{IfOk}
-use Rattle.teco_model.specs.Macros.{call_of}
-use Rattle.teco_law_expansion.specs.Run.{Went}
+use Rattle.teco_law_runs.specs.Run.{Went}
 use Rattle.teco_verifier.specs.expansion.Ways.{return_ways}
 use Rattle.teco_verifier.specs.facts.Transfer.{transfer_return}
 use Rattle.teco_law_facts.specs.SoundSteps.{ElementsAreNamed}
-use Rattle.teco_law_facts.specs.Wholeness.{AreBytes, IsWholeWorld, IsWholeState, IsWholeOutcome}
-use Rattle.teco_law_facts.specs.Wholeness.{WholeIsKept}
+use Rattle.teco_law_runs.specs.Wholeness.{AreBytes, IsWholeWorld, IsWholeState, IsWholeOutcome, WholeIsKept}
 use Rattle.teco_verifier.specs.table.Printed.{needs_of, known_needs}
 use Rattle.teco_law_tables.specs.Verified.{RunsAreVerified}
 use Rattle.teco_law_tables.proofs.Ground.{Ground, Arrival}
@@ -31,10 +34,9 @@ use Rattle.teco_law_tables.proofs.Fitting.{steps_known, facts_fit}
 use Rattle.teco_law_tables.proofs.Going.{where_checked}
 use Rattle.teco_law_tables.proofs.Inside.{stands as stands_there, search_inside}
 use Rattle.teco_law_tables.proofs.Counting.{commands_are_steps}
-use Rattle.teco_law_tables.proofs.Pending.{CallLaws, argument_whole, given_ends}
+use Rattle.teco_law_runs.proofs.Pending.{argument_whole, given_ends}
 use Rattle.teco_law_tables.proofs.Reading.{nodes_checked}
 use Rattle.teco_law_tables.proofs.Underway.{element_here, none_amid, Goes, ElementsGo, elements_pass}
-use Rattle.teco_law_tables.proofs.Walking.{reads_none, none_yet, none_more}
 
 -- ---- what is whole stays so
 whole_behind : (whole : WholeIsKept) (o : Outcome) → IsWholeOutcome o → IsWholeOutcome (go_on o)

@@ -11,18 +11,17 @@ use Rattle.teco_model.specs.Registers.{Pair}
 use Rattle.teco_model.specs.Run.{Reaches}
 use Rattle.teco_model.specs.State.{World, State, Next}
 use Rattle.teco_model.specs.Step.{step}
-use Rattle.teco_law_expansion.specs.Ends.{IsBegin}
+use Rattle.teco_law_runs.specs.Ends.{IsBegin}
 use Rattle.teco_model.specs.Macros.{Library, ArgumentRange, IsAsked}
-use Rattle.teco_law_expansion.specs.Linked.{AreLinked}
+use Rattle.teco_law_runs.specs.Linked.{AreLinked}
 use Rattle.teco_verifier.specs.expansion.Node.{Node, over}
 use Rattle.teco_verifier.specs.expansion.Position.{position_of}
 use Rattle.teco_poly.specs.Polynomial.{Polynomial, value}
-use Rattle.teco_law_facts.specs.SoundSteps.{AreOpen}
-use Rattle.teco_law_tables.specs.Ending.{start_given}
+use Rattle.teco_law_runs.specs.Ready.{AreOpen, IsReady}
+use Rattle.teco_law_runs.specs.Given.{start_given}
 use Rattle.teco_law_tables.specs.Following.{OpenTurn, open_loops, IsDescribed}
 use Rattle.teco_verifier.specs.table.Printed.{turns_at, needs_in, IsPrinted}
 use Rattle.teco_verifier.specs.table.Table.{Table}
-use Rattle.teco_law_tables.specs.Verified.{IsReady}
 
 -- ---- each element that begins
 -- A run stands at a node, and what the table knows there describes it; or it stands behind the call of the macro.

@@ -2,23 +2,23 @@
 use Rattle.std.specs.Prelude.{◌≡◌, ◌⊎◌, ℕ, suc, ◌≤◌, List, Option, Ok}
 use Rattle.teco_law_turns.specs.Table.{commands as steps_in}
 use Rattle.teco_model.specs.Registers.{Pair}
-use Rattle.teco_model.specs.Run.{Reaches, Ends}
-use Rattle.teco_model.specs.State.{World, State, Next, End, start}
+use Rattle.teco_model.specs.Run.{Reaches}
+use Rattle.teco_model.specs.State.{World, State, Next, End}
 use Rattle.teco_model.specs.Step.{step}
-use Rattle.teco_model.specs.Macros.{Library, IsLoaded, call_of, ArgumentRange, IsAsked}
-use Rattle.teco_law_expansion.specs.Linked.{AreLinked}
+use Rattle.teco_model.specs.Macros.{Library, IsLoaded, ArgumentRange, IsAsked}
+use Rattle.teco_law_runs.specs.Linked.{AreLinked}
 use Rattle.teco_verifier.specs.expansion.Node.{Node, stands}
-use Rattle.teco_law_expansion.specs.Run.{GoesTo}
-use Rattle.teco_verifier.specs.facts.Argument.{arguments_given}
+use Rattle.teco_law_runs.specs.Run.{GoesTo}
 use Rattle.teco_law_facts.specs.Describes.{IsWhole}
-use Rattle.teco_law_facts.specs.Laws.{IsEntry}
+use Rattle.teco_law_runs.specs.Ending.{EndsWithin}
+use Rattle.teco_law_runs.specs.Given.{start_given}
+use Rattle.teco_law_runs.specs.Ready.{IsEntry, AreOpen}
 use Rattle.teco_model.specs.Paging.{unread_of}
-use Rattle.teco_law_facts.specs.SoundSteps.{AreOpen}
 use Rattle.teco_verifier.specs.table.Closed.{check}
 use Rattle.teco_law_tables.specs.Following.{OpenTurn, run_at, IsDescribed}
 use Rattle.teco_law_tables.specs.Moving.{IsLast, Comes}
 use Rattle.teco_verifier.specs.table.Printed.{steps_of, needs_in}
-use Rattle.teco_law_tables.specs.Staying.{NoFileCommands}
+use Rattle.teco_law_runs.specs.Staying.{NoFileCommands}
 use Rattle.teco_verifier.specs.table.Table.{Table}
 use Rattle.teco_law_tables.specs.Turning.{value_of, turning}
 
@@ -51,19 +51,6 @@ ElementsPass library entry nodes table n below first =
     → (here : IsDescribed library nodes table n below number turns s)
     → AreOpen (needs_in nodes table) s.world.files
     → (step s ≡ End s.world) ⊎ Passes library entry nodes table n below number turns s here
-
--- the run comes to its end, after no more than so many steps, none of them a command of files
-pub record EndsWithin (s : State) (most : ℕ) : Type 0 where
-  pub steps : ℕ
-  pub new : World
-  pub few : steps ≤ most
-  pub none : NoFileCommands s steps
-  pub ends : Ends s steps new
-
--- the call, where the argument that is given is pending already
-abbrev pub start_given : ℕ → Option ℕ → World → State
-start_given entry given world =
-    record (start (call_of entry) world) { arguments = arguments_given given }
 
 abbrev pub RunsEndInTime : Type 0
 RunsEndInTime =

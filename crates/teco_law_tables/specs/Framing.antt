@@ -1,11 +1,10 @@
 -- What a run of a macro with a closed table leaves: registers that no element of the macro names, the search
 -- mode, where none may set it, and the push-down list of its entry.
 use Rattle.std.specs.Prelude.{◌≡◌, ◌≢◌, ℕ, List, ◌++◌, Bool, false, Option, Some, None}
-use Rattle.teco_law_expansion.specs.Given.{call_given}
-use Rattle.teco_law_expansion.specs.Linked.{AreLinked}
-use Rattle.teco_law_expansion.specs.Loaded.{sets_mode}
-use Rattle.teco_law_facts.specs.SoundSteps.{AreOpen}
-use Rattle.teco_law_tables.specs.Verified.{IsReady}
+use Rattle.teco_law_runs.specs.Given.{call_given}
+use Rattle.teco_law_runs.specs.Linked.{AreLinked}
+use Rattle.teco_law_runs.specs.Loaded.{sets_mode}
+use Rattle.teco_law_runs.specs.Ready.{AreOpen, IsReady}
 use Rattle.teco_model.specs.Element.{Element}
 use Rattle.teco_model.specs.Macros.{Library, ArgumentRange, IsAsked}
 use Rattle.teco_model.specs.Registers.{Pair, pair_of}

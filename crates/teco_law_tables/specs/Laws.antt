@@ -2,7 +2,7 @@
 use Rattle.std.specs.Prelude.{◌≡◌, ℕ, ◌+◌, List, Ok, Option}
 use Rattle.teco_law_turns.specs.Table.{IsClosed, commands as steps_in}
 use Rattle.teco_model.specs.Macros.{Library, ArgumentRange}
-use Rattle.teco_law_expansion.specs.Linked.{AreLinked}
+use Rattle.teco_law_runs.specs.Linked.{AreLinked}
 use Rattle.teco_verifier.specs.expansion.Node.{Node}
 use Rattle.teco_poly.specs.Polynomial.{Polynomial, value}
 use Rattle.teco_verifier.specs.table.Closed.{check_nodes}

@@ -3,12 +3,9 @@ pub mod Turning
 pub mod Laws
 pub mod Following
 pub mod Moving
-pub mod Staying
 pub mod Ending
 pub mod Rows
 pub mod Verified
-pub mod Sure
-pub mod Keeping
 pub mod Framing
 pub mod Bounded
 pub mod straight_text

@@ -9,11 +9,11 @@ use Rattle.teco_model.specs.Element.{Element}
 use Rattle.teco_model.specs.Registers.{Pair}
 use Rattle.teco_model.specs.State.{World, State}
 use Rattle.teco_model.specs.Macros.{Library, IsLoaded}
-use Rattle.teco_law_expansion.specs.Linked.{AreLinked}
+use Rattle.teco_law_runs.specs.Linked.{AreLinked}
 use Rattle.teco_verifier.specs.expansion.Node.{Node, over, stands, numbered}
 use Rattle.teco_verifier.specs.expansion.Position.{position_of}
-use Rattle.teco_law_expansion.specs.Run.{GoesTo}
-use Rattle.teco_law_expansion.specs.Steps.{is_long}
+use Rattle.teco_law_runs.specs.Run.{GoesTo}
+use Rattle.teco_law_runs.specs.Steps.{is_long}
 use Rattle.teco_poly.specs.Polynomial.{value}
 use Rattle.teco_law_facts.specs.Describes.{Run, run_behind, run_in_turn, IsWhole, Describes}
 use Rattle.teco_verifier.specs.facts.Facts.{Facts}

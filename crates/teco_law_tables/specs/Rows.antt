@@ -5,7 +5,7 @@ use Rattle.teco_verifier.specs.expansion.Expansion.{expansion}
 use Rattle.teco_model.specs.Macros.{Library, Needs, ArgumentRange}
 use Rattle.teco_verifier.specs.expansion.Node.{Node}
 use Rattle.teco_verifier.specs.expansion.Refusal.{Refusal as NotExpanded}
-use Rattle.teco_law_expansion.specs.Rows.{only, then, mark_foo}
+use Rattle.teco_law_runs.specs.Rows.{only, then, mark_foo}
 use Rattle.teco_poly.specs.Polynomial.{Polynomial, first}
 use Rattle.teco_poly.specs.Text.{text}
 use Rattle.teco_verifier.specs.declared.refusal.RefusalReason.{RefusalReason}

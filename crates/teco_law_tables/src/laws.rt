@@ -2,12 +2,9 @@
 ghost use Rattle.teco_law_tables.specs.Bounded.{IterationsAreBounded, RunsAreDescribed};
 ghost use Rattle.teco_law_tables.specs.Ending.{RunsEndInTime};
 ghost use Rattle.teco_law_tables.specs.Framing.{RunsAreFramed, RunsLeaveBelow};
-ghost use Rattle.teco_law_tables.specs.Keeping.{RunsLeaveOpen};
 ghost use Rattle.teco_law_tables.specs.Laws.{CommandsAreSteps, TablesAreClosed};
 ghost use Rattle.teco_law_tables.specs.Moving.{StepsMove};
 ghost use Rattle.teco_law_tables.specs.Rows.{WorkedTables};
-ghost use Rattle.teco_law_tables.specs.Staying.{FilesStayOpen};
-ghost use Rattle.teco_law_tables.specs.Sure.{RunsAreSure, RunsEndOnce};
 ghost use Rattle.teco_law_tables.specs.Verified.{RunsAreVerified};
 
 /// The definition gives what is worked by hand.
@@ -25,8 +22,8 @@ pub fn commands_are_steps()
 pub fn tables_are_closed()
     ensures { TablesAreClosed }
 {
-    teco_law_expansion::laws::iterations_are_open();
-    teco_law_expansion::laws::iterations_end();
+    teco_law_runs::laws::iterations_are_open();
+    teco_law_runs::laws::iterations_end();
     teco_law_turns::laws::nodes_nest();
 }
 
@@ -34,16 +31,11 @@ pub fn tables_are_closed()
 pub fn steps_move()
     ensures { StepsMove }
 {
-    teco_law_expansion::laws::iterations_are_open();
-    teco_law_expansion::laws::iterations_end();
-    teco_law_expansion::laws::left_have_ended();
-    teco_law_expansion::laws::ways_lead();
+    teco_law_runs::laws::iterations_are_open();
+    teco_law_runs::laws::iterations_end();
+    teco_law_runs::laws::left_have_ended();
+    teco_law_runs::laws::ways_lead();
 }
-
-/// Files stay as open as they are, through each step whose element is no command of files.
-pub fn files_stay_open()
-    ensures { FilesStayOpen }
-{}
 
 /// A run of a macro ends without a code within the steps that its table tells, where each element
 /// does what the laws of facts say.
@@ -52,7 +44,7 @@ pub fn runs_end_in_time()
 {
     teco_law_turns::laws::runs_are_bounded();
     teco_law_turns::laws::runs_are_covered();
-    teco_law_expansion::laws::runs_end();
+    teco_law_runs::laws::runs_end();
     tables_are_closed();
     steps_move();
 }
@@ -66,16 +58,16 @@ pub fn runs_are_verified()
     teco_law_facts::sound::steps_are_sound();
     teco_law_facts::sound::later_steps_are_sound();
     teco_law_facts::sound::elements_are_named();
-    teco_law_facts::laws::whole_is_kept();
-    teco_law_expansion::laws::steps_go_along_nodes();
-    teco_law_expansion::laws::stays_loaded();
-    teco_law_expansion::laws::nodes_are_sound();
-    teco_law_expansion::laws::iterations_end();
-    teco_law_expansion::laws::steps_are_alike();
-    teco_law_expansion::laws::runs_are_alike();
-    teco_law_expansion::laws::readings_are_alike();
-    teco_law_expansion::laws::numbers_are_pending();
-    files_stay_open();
+    teco_law_runs::laws::whole_is_kept();
+    teco_law_runs::laws::steps_go_along_nodes();
+    teco_law_runs::laws::stays_loaded();
+    teco_law_runs::laws::nodes_are_sound();
+    teco_law_runs::laws::iterations_end();
+    teco_law_runs::laws::steps_are_alike();
+    teco_law_runs::laws::runs_are_alike();
+    teco_law_runs::laws::readings_are_alike();
+    teco_law_runs::laws::numbers_are_pending();
+    teco_law_runs::laws::files_stay_open();
     runs_end_in_time();
 }
 
@@ -87,15 +79,15 @@ pub fn runs_are_described()
     teco_law_facts::sound::steps_are_sound();
     teco_law_facts::sound::later_steps_are_sound();
     teco_law_facts::sound::elements_are_named();
-    teco_law_facts::laws::whole_is_kept();
-    teco_law_expansion::laws::steps_go_along_nodes();
-    teco_law_expansion::laws::stays_loaded();
-    teco_law_expansion::laws::nodes_are_sound();
-    teco_law_expansion::laws::iterations_end();
-    teco_law_expansion::laws::runs_end();
+    teco_law_runs::laws::whole_is_kept();
+    teco_law_runs::laws::steps_go_along_nodes();
+    teco_law_runs::laws::stays_loaded();
+    teco_law_runs::laws::nodes_are_sound();
+    teco_law_runs::laws::iterations_end();
+    teco_law_runs::laws::runs_end();
     teco_law_turns::laws::runs_are_bounded();
     teco_law_turns::laws::runs_are_covered();
-    files_stay_open();
+    teco_law_runs::laws::files_stay_open();
     tables_are_closed();
     steps_move();
 }
@@ -108,20 +100,20 @@ pub fn runs_are_framed()
     teco_law_facts::sound::steps_are_sound();
     teco_law_facts::sound::later_steps_are_sound();
     teco_law_facts::sound::elements_are_named();
-    teco_law_facts::laws::whole_is_kept();
-    teco_law_expansion::laws::steps_go_along_nodes();
-    teco_law_expansion::laws::stays_loaded();
-    teco_law_expansion::laws::nodes_are_sound();
-    teco_law_expansion::laws::iterations_end();
-    teco_law_expansion::laws::runs_end();
-    teco_law_expansion::laws::steps_keep();
-    teco_law_expansion::laws::steps_are_alike();
-    teco_law_expansion::laws::runs_are_alike();
-    teco_law_expansion::laws::readings_are_alike();
-    teco_law_expansion::laws::numbers_are_pending();
+    teco_law_runs::laws::whole_is_kept();
+    teco_law_runs::laws::steps_go_along_nodes();
+    teco_law_runs::laws::stays_loaded();
+    teco_law_runs::laws::nodes_are_sound();
+    teco_law_runs::laws::iterations_end();
+    teco_law_runs::laws::runs_end();
+    teco_law_runs::laws::steps_keep();
+    teco_law_runs::laws::steps_are_alike();
+    teco_law_runs::laws::runs_are_alike();
+    teco_law_runs::laws::readings_are_alike();
+    teco_law_runs::laws::numbers_are_pending();
     teco_law_turns::laws::runs_are_bounded();
     teco_law_turns::laws::runs_are_covered();
-    files_stay_open();
+    teco_law_runs::laws::files_stay_open();
     tables_are_closed();
     steps_move();
 }
@@ -134,19 +126,19 @@ pub fn runs_leave_below()
     teco_law_facts::sound::steps_are_sound();
     teco_law_facts::sound::later_steps_are_sound();
     teco_law_facts::sound::elements_are_named();
-    teco_law_facts::laws::whole_is_kept();
-    teco_law_expansion::laws::steps_go_along_nodes();
-    teco_law_expansion::laws::stays_loaded();
-    teco_law_expansion::laws::nodes_are_sound();
-    teco_law_expansion::laws::iterations_end();
-    teco_law_expansion::laws::runs_end();
-    teco_law_expansion::laws::steps_are_alike();
-    teco_law_expansion::laws::runs_are_alike();
-    teco_law_expansion::laws::readings_are_alike();
-    teco_law_expansion::laws::numbers_are_pending();
+    teco_law_runs::laws::whole_is_kept();
+    teco_law_runs::laws::steps_go_along_nodes();
+    teco_law_runs::laws::stays_loaded();
+    teco_law_runs::laws::nodes_are_sound();
+    teco_law_runs::laws::iterations_end();
+    teco_law_runs::laws::runs_end();
+    teco_law_runs::laws::steps_are_alike();
+    teco_law_runs::laws::runs_are_alike();
+    teco_law_runs::laws::readings_are_alike();
+    teco_law_runs::laws::numbers_are_pending();
     teco_law_turns::laws::runs_are_bounded();
     teco_law_turns::laws::runs_are_covered();
-    files_stay_open();
+    teco_law_runs::laws::files_stay_open();
     tables_are_closed();
     steps_move();
 }
@@ -159,33 +151,16 @@ pub fn turns_are_bounded()
     teco_law_facts::sound::steps_are_sound();
     teco_law_facts::sound::later_steps_are_sound();
     teco_law_facts::sound::elements_are_named();
-    teco_law_facts::laws::whole_is_kept();
-    teco_law_expansion::laws::steps_go_along_nodes();
-    teco_law_expansion::laws::stays_loaded();
-    teco_law_expansion::laws::nodes_are_sound();
-    teco_law_expansion::laws::iterations_end();
-    teco_law_expansion::laws::runs_end();
+    teco_law_runs::laws::whole_is_kept();
+    teco_law_runs::laws::steps_go_along_nodes();
+    teco_law_runs::laws::stays_loaded();
+    teco_law_runs::laws::nodes_are_sound();
+    teco_law_runs::laws::iterations_end();
+    teco_law_runs::laws::runs_end();
     teco_law_turns::laws::runs_are_bounded();
     teco_law_turns::laws::runs_are_covered();
     teco_law_turns::laws::turns_are_bounded();
-    files_stay_open();
+    teco_law_runs::laws::files_stay_open();
     tables_are_closed();
     steps_move();
 }
-
-/// A run has one end: it comes to no other, nor to a code or a limit of steps; but want of memory
-/// may stop it before, or the host.
-pub fn runs_end_once()
-    ensures { RunsEndOnce }
-{}
-
-/// A run that ends within some steps, none of them a command of files, stops for nothing but its
-/// end, want of memory, or a fault of the host in reading or in writing.
-pub fn runs_are_sure()
-    ensures { RunsAreSure }
-{}
-
-/// At the end of such a run the files are as open as they were, and no more is unread.
-pub fn runs_leave_open()
-    ensures { RunsLeaveOpen }
-{}

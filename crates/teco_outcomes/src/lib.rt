@@ -2,10 +2,4 @@
 //! of changes and inequalities.
 #![tactic(auto)]
 
-pub mod characters;
-pub mod conversions;
 pub mod elements;
-pub mod pushes;
-pub mod queries;
-pub mod values;
-mod ways;

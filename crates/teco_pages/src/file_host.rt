@@ -1,6 +1,6 @@
 //! A host of the files of the system.
 ghost use Rattle.std.specs.Prelude.{◌≡◌, ◌≤◌, ◌<◌, [], suc, length, IfOk, IsErr};
-ghost use Rattle.teco_pages.specs.HostFiles.{Notes};
+ghost use Rattle.teco_hosts.specs.HostFiles.{Notes};
 ghost use Rattle.teco_pages.specs.Kept.{output_contents};
 ghost use Rattle.teco_base.specs.declared.TheConstants.{LIMIT};
 ghost use Rattle.std.specs.Io.KnownBytes.{WriteAppends};
@@ -8,8 +8,6 @@ ghost use Rattle.std.specs.Io.KnownBytes.{WriteAppends};
 mod calls;
 
 use self::calls::Calls;
-use crate::fault::Failed;
-use crate::host::Host;
 use std::alloc::Global;
 use std::fs::{Files, OpenFile};
 use std::io::{Read, Write};
@@ -18,6 +16,7 @@ use teco_files::{
     Backup, Closed, Closing, Ended, Finish, Handling, Identity, Likeness, ProcessFacts, Purpose,
     ReadFile, System, Trouble, TroubleReason, Unfinished, folder_of,
 };
+use teco_hosts::{Failed, Host};
 
 /// Outputs replace their targets, and outlast a power cut.
 const REPLACING: Handling = Handling {

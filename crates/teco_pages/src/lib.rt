@@ -1,27 +1,11 @@
-//! Hosts, which have the files outside, and the pages of an input that is read from one.
+//! The host of the files of the system, and all of hosts and pages.
 #![tactic(auto)]
 
-mod ahead;
-mod count;
-mod fault;
 mod file_host;
-mod history;
-mod host;
-pub mod laws;
-mod mem_host;
-mod pages;
-mod test_host;
-mod write;
 
-pub use count::Count;
-pub use fault::{Failed, Fault};
 pub use file_host::FileHost;
-pub use history::History;
-pub use host::Host;
-pub use mem_host::MemHost;
-pub use pages::Pages;
 pub use teco_files::{
     Backup, Closed, Closing, Handling, ProcessFacts, Purpose, System, Trouble, TroubleReason,
     folder_of, remove_strays, sync_folder,
 };
-pub use test_host::{HostCall, TestHost};
+pub use teco_hosts::{Count, Failed, Fault, History, Host, HostCall, MemHost, Pages, TestHost};

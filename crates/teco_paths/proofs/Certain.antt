@@ -6,11 +6,10 @@ use Rattle.teco_paths.proofs.Prelude.{State, Case, point_of, CutState, IsCaseOf,
 use Rattle.teco_paths.proofs.Prelude.{IsFollowed, Leads, Ground, IsAt, EndsBy, held_in, IsCertain, numbers_of}
 use Rattle.teco_paths.proofs.Prelude.{Polynomial, most_typed, Node, steps_before}
 use Rattle.std.specs.Prelude.{slice_index_or}
-use Rattle.teco_law_expansion.specs.Given.{call_given, start_pending, BeginsPending}
-use Rattle.teco_law_tables.proofs.Pending.{CallLaws, argument_whole, ends_given, none_given, other_next}
-use Rattle.teco_law_tables.proofs.Walking.{one_step, reaches_here, reaches_later, reaches_none}
-use Rattle.teco_law_tables.specs.Ending.{start_given}
-use Rattle.teco_law_tables.specs.Verified.{IsReady, n_of}
+use Rattle.teco_law_runs.specs.Given.{call_given, start_pending, BeginsPending, start_given}
+use Rattle.teco_law_runs.proofs.Pending.{CallLaws, argument_whole, ends_given, none_given, other_next}
+use Rattle.teco_law_runs.proofs.Walking.{one_step, reaches_here, reaches_later, reaches_none}
+use Rattle.teco_law_runs.specs.Ready.{IsReady, n_of}
 use Rattle.teco_model.specs.Files.{Input}
 use Rattle.teco_model.specs.Macros.{macro}
 use Rattle.teco_model.specs.Run.{Ends}

@@ -3,7 +3,7 @@ use Rattle.teco_paths.proofs.Prelude.{◌≡◌, ◌⊎◌, inl, inr, ℕ, zero,
 use Rattle.teco_paths.proofs.Prelude.{cases_order, All, Any, NoFileCommands, Reaches, State, step, Case, point_of}
 use Rattle.teco_paths.proofs.Prelude.{Describes, Course, Ends, IsFollowed, Leads, Ground, IsAt, EndsBy, held_in}
 use Rattle.teco_paths.proofs.Prelude.{IsTypedWithin}
-use Rattle.teco_law_tables.proofs.Walking.{none_on, none_yet, reaches_here, reaches_later, reaches_none, reaches_on}
+use Rattle.teco_law_runs.proofs.Walking.{none_on, none_yet, reaches_here, reaches_later, reaches_none, reaches_on}
 use Rattle.teco_model.specs.State.{End}
 use Rattle.teco_paths.specs.Paths.{IsAtCut, IsOf, CutsEnd}
 use Rattle.teco_poly.specs.Polynomial.{value}

@@ -5,8 +5,8 @@ use Rattle.teco_paths.proofs.Prelude.{NodesAreSound, AreOpen, Whole, Loop, Kind,
 use Rattle.teco_paths.proofs.Prelude.{skip_of, route_of, State, step, Case, Outcomes, Goes, StepsTo, Comes, Ground}
 use Rattle.teco_paths.proofs.Prelude.{IsAt, IsMet, IsRead, LawAt, Node, numbered, Position, start_of, position_of}
 use Rattle.teco_paths.proofs.Prelude.{ways_at}
-use Rattle.teco_law_tables.proofs.Leading.{FlowHas, HasStart, flow_has, search_has}
-use Rattle.teco_law_tables.proofs.Lookup.{node_of}
+use Rattle.teco_law_runs.proofs.Targets.{FlowHas, HasStart, flow_has, search_has}
+use Rattle.teco_law_runs.proofs.Lookup.{node_of}
 use Rattle.teco_model.specs.declared.kind.Flow.{Flow}
 use Rattle.teco_model.specs.declared.kind.Flow.TheVariants as flow
 use Rattle.teco_model.specs.declared.kind.Goal.TheVariants as goal

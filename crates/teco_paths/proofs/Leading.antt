@@ -4,8 +4,8 @@ use Rattle.teco_paths.proofs.Prelude.{◌++◌, length, Bool, true, false, Optio
 use Rattle.teco_paths.proofs.Prelude.{GoesTo, StepsGoAlongNodes, Whole, Test, Element, skip_of, Frames, State, Case}
 use Rattle.teco_paths.proofs.Prelude.{loops_in, point_of, IsShape, Ground, StandsBy, GoesBy, IsTarget, IsTold, Steps}
 use Rattle.teco_paths.proofs.Prelude.{Node, stands, numbered}
-use Rattle.teco_law_expansion.specs.Was.{Turns, ElementWas, StepWas}
-use Rattle.teco_law_tables.proofs.Lookup.{node_of}
+use Rattle.teco_law_runs.specs.Was.{Turns, ElementWas, StepWas}
+use Rattle.teco_law_runs.proofs.Lookup.{node_of}
 use Rattle.teco_model.specs.declared.kind.Flow.TheVariants as flow
 use Rattle.teco_model.specs.declared.kind.Kind.TheVariants as kind
 use Rattle.teco_model.specs.Flow.{Turn}

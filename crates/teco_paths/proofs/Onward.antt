@@ -5,7 +5,7 @@ use Rattle.teco_paths.proofs.Prelude.{NodeCase, ComesTo, IsCaseOf, Arrives, Cour
 use Rattle.teco_paths.proofs.Prelude.{held_in, most_typed, GoOn, IsInTime, IsSharper, IsSmall, IsThere, TypesNoMore}
 use Rattle.teco_paths.proofs.Prelude.{numbers_of, Stand, stands, numbered}
 use Rattle.std.specs.Prelude.{slice_index_or}
-use Rattle.teco_law_expansion.specs.Run.{RunsEnd}
+use Rattle.teco_law_runs.specs.Run.{RunsEnd}
 use Rattle.teco_paths.proofs.Ending.{cut_here, cuts_later, cuts_on, ends_here, ends_on}
 use Rattle.teco_paths.proofs.Lists.{all_both, over_behind}
 use Rattle.teco_poly.specs.Polynomial.{value}

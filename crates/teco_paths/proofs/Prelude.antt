@@ -12,12 +12,12 @@ pub use Rattle.std.specs.Prelude.{OnOk, is_some, negsuc, option_and_then, pos, u
 pub use Rattle.teco_base.specs.declared.TheConstants.{LIMIT, REGISTERS}
 pub use Rattle.teco_flow_outcomes.specs.Flow.{turned}
 pub use Rattle.teco_flow_outcomes.specs.Law.{Goes, StepsTo, loops_in, point_of}
-pub use Rattle.teco_law_expansion.specs.Iterations.{IterationsAreOpen}
-pub use Rattle.teco_law_expansion.specs.Linked.{AreLinked, NodesAreSound}
-pub use Rattle.teco_law_expansion.specs.Run.{GoesTo, StepsGoAlongNodes}
-pub use Rattle.teco_law_expansion.specs.Steps.{IsLeftAt}
-pub use Rattle.teco_law_facts.specs.SoundSteps.{AreOpen}
-pub use Rattle.teco_law_tables.specs.Staying.{NoFileCommands}
+pub use Rattle.teco_law_runs.specs.Iterations.{IterationsAreOpen}
+pub use Rattle.teco_law_runs.specs.Linked.{AreLinked, NodesAreSound}
+pub use Rattle.teco_law_runs.specs.Run.{GoesTo, StepsGoAlongNodes}
+pub use Rattle.teco_law_runs.specs.Steps.{IsLeftAt}
+pub use Rattle.teco_law_runs.specs.Ready.{AreOpen}
+pub use Rattle.teco_law_runs.specs.Staying.{NoFileCommands}
 pub use Rattle.teco_linear.specs.Form.{Valuation, value, values}
 pub use Rattle.teco_linear.specs.Implied.{Holds, Implies}
 pub use Rattle.teco_linear.specs.declared.difference.Difference.{Difference}

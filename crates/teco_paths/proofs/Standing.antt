@@ -5,10 +5,10 @@ use Rattle.teco_paths.proofs.Prelude.{StepsGoAlongNodes, IsLeftAt, Loop, element
 use Rattle.teco_paths.proofs.Prelude.{loops_in, Ground, StandsBy, Node, Stand, stands, numbered, Position, start_of}
 use Rattle.teco_paths.proofs.Prelude.{spot_of, position_of}
 use Rattle.std.proofs.Common.{length-append}
-use Rattle.teco_law_expansion.specs.Iterations.{AreOpenIn, AreOpen}
-use Rattle.teco_law_expansion.specs.Linked.{IsLinked}
-use Rattle.teco_law_expansion.specs.Run.{MovesFrom, Went, Stayed}
-use Rattle.teco_law_tables.proofs.Lookup.{same_stand}
+use Rattle.teco_law_runs.specs.Iterations.{AreOpenIn, AreOpen}
+use Rattle.teco_law_runs.specs.Linked.{IsLinked}
+use Rattle.teco_law_runs.specs.Run.{MovesFrom, Went, Stayed}
+use Rattle.teco_law_runs.proofs.Lookup.{same_stand}
 use Rattle.teco_model.proofs.Ahead.{element_at-again}
 use Rattle.teco_verifier.specs.expansion.Position.{Spot, starts_in}
 use Rattle.teco_verifier.specs.expansion.Ways.{read_at}

@@ -8,14 +8,14 @@ use Rattle.teco_paths.proofs.Prelude.{Next, step, text_in, Case, Guarded, Outcom
 use Rattle.teco_paths.proofs.Prelude.{point_of, Describes, IsTrueOf, NodeCase, Comes, Ground, IsAt, held_in, AreSpots}
 use Rattle.teco_paths.proofs.Prelude.{GoOn, GoesBy, AreMet, IsKept, IsPlain, IsRead, IsTold, LawAt, Passes, cases_by}
 use Rattle.teco_paths.proofs.Prelude.{Node, Stand, numbered, Position, start_of, spot_of, ways_at}
-use Rattle.teco_law_expansion.specs.Linked.{Lead}
-use Rattle.teco_law_expansion.specs.Loaded.{StaysLoaded}
-use Rattle.teco_law_facts.specs.Wholeness.{IsWholeState, IsWholeOutcome, WholeIsKept}
-use Rattle.teco_law_tables.proofs.Lookup.{node_of}
-use Rattle.teco_law_tables.proofs.Staying.{open_as_before}
-use Rattle.teco_law_tables.proofs.Walking.{none_more, none_yet, one_step, reads_none, reaches_here, reaches_none}
-use Rattle.teco_law_tables.proofs.Walking.{reaches_on, same_next}
-use Rattle.teco_law_tables.specs.Staying.{FilesStayOpen, changes_files, is_of_files}
+use Rattle.teco_law_runs.specs.Linked.{Lead}
+use Rattle.teco_law_runs.specs.Loaded.{StaysLoaded}
+use Rattle.teco_law_runs.specs.Wholeness.{IsWholeState, IsWholeOutcome, WholeIsKept}
+use Rattle.teco_law_runs.proofs.Lookup.{node_of}
+use Rattle.teco_law_runs.proofs.Staying.{open_as_before}
+use Rattle.teco_law_runs.proofs.Walking.{none_more, none_yet, one_step, reads_none, reaches_here, reaches_none}
+use Rattle.teco_law_runs.proofs.Walking.{reaches_on, same_next}
+use Rattle.teco_law_runs.specs.Staying.{FilesStayOpen, changes_files, is_of_files}
 use Rattle.teco_model.specs.declared.kind.Call.{Call}
 use Rattle.teco_model.specs.declared.kind.Command.TheVariants as command
 use Rattle.teco_model.specs.declared.kind.Kind.TheVariants as kind
@@ -29,8 +29,7 @@ use Rattle.teco_model.specs.Run.{run}
 use Rattle.teco_model.specs.State.{Outcome}
 use Rattle.teco_rows.specs.Foretold.{Begins, IsGuarded}
 use Rattle.teco_search_outcomes.specs.PageSearches.{IsStill}
-use Rattle.teco_paths.specs.Steps.{GoesByFrames, GoesOn, IsCall, IsDuring, IsEndOrCall}
-use Rattle.teco_paths.specs.Steps.{IsTextEnd}
+use Rattle.teco_paths.specs.Steps.{GoesByFrames, GoesOn, IsCall, IsDuring, IsEndOrCall, IsTextEnd}
 use Rattle.teco_paths.proofs.Standing.{left_behind, position_here, linked_here, reads_here, reads_there}
 use Rattle.teco_verifier.specs.expansion.Names.{named_by, written_by, names_macro, writes_macro}
 use Rattle.teco_verifier.specs.expansion.Position.{position_of_frames}

@@ -2,7 +2,7 @@
 use Rattle.std.specs.Prelude.{◌≡◌, ℕ, ◌+◌, ◌≤◌, List, Option}
 use Rattle.std.specs.List.{Any}
 use Rattle.teco_base.specs.declared.TheConstants.{LIMIT}
-use Rattle.teco_law_expansion.specs.Linked.{AreLinked}
+use Rattle.teco_law_runs.specs.Linked.{AreLinked}
 use Rattle.teco_model.specs.Macros.{Needs}
 use Rattle.teco_model.specs.Run.{Reaches}
 use Rattle.teco_model.specs.State.{State}

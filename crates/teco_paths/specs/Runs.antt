@@ -1,8 +1,8 @@
 -- Runs of a macro among the nodes of its expansion.
 use Rattle.std.specs.Prelude.{◌≡◌, ℕ, ◌+◌, ◌≤◌, List, length, Option, Some, None}
-use Rattle.teco_law_facts.specs.SoundSteps.{AreOpen}
-use Rattle.teco_law_facts.specs.Wholeness.{IsWholeState}
-use Rattle.teco_law_tables.specs.Staying.{NoFileCommands}
+use Rattle.teco_law_runs.specs.Ready.{AreOpen}
+use Rattle.teco_law_runs.specs.Wholeness.{IsWholeState}
+use Rattle.teco_law_runs.specs.Staying.{NoFileCommands}
 use Rattle.teco_model.specs.Macros.{Library, IsLoaded, Needs}
 use Rattle.teco_model.specs.Run.{Reaches, Ends}
 use Rattle.teco_model.specs.State.{World, State}

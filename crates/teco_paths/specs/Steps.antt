@@ -2,15 +2,15 @@
 use Rattle.std.specs.Prelude.{◌≡◌, ◌≢◌, ℕ, ◌+◌, ◌≤◌, ◌<◌, List, length, Bool, true, false, Option, Some, None, ◌⊎◌, ⊤}
 use Rattle.std.specs.Prelude.{pos, ◌-ℤ◌}
 use Rattle.std.specs.List.{All, Any}
-use Rattle.teco_law_expansion.specs.Linked.{AreLinked}
+use Rattle.teco_law_runs.specs.Linked.{AreLinked}
 use Rattle.teco_linear.specs.declared.term.Term.{Term}
 use Rattle.teco_linear.specs.Form as linear
 use Rattle.teco_linear.specs.Form.{Valuation}
 use Rattle.teco_linear.specs.Implied.{Holds, Implies}
-use Rattle.teco_law_facts.specs.SoundSteps.{AreOpen}
-use Rattle.teco_law_facts.specs.Wholeness.{IsWholeState}
-use Rattle.teco_law_expansion.specs.Steps.{IsLeftAt}
-use Rattle.teco_law_tables.specs.Staying.{NoFileCommands}
+use Rattle.teco_law_runs.specs.Ready.{AreOpen}
+use Rattle.teco_law_runs.specs.Wholeness.{IsWholeState}
+use Rattle.teco_law_runs.specs.Steps.{IsLeftAt}
+use Rattle.teco_law_runs.specs.Staying.{NoFileCommands}
 use Rattle.teco_model.specs.declared.kind.Flow.TheVariants as flow
 use Rattle.teco_model.specs.declared.kind.Kind.{Kind}
 use Rattle.teco_model.specs.declared.kind.Kind.TheVariants as kind

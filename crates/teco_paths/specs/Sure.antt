@@ -1,9 +1,8 @@
 -- A macro whose claims hang together runs to its end, without a code, within the printed number of commands.
 use Rattle.std.specs.Prelude.{◌≡◌, ℕ, List, map, length, Option, option_map}
-use Rattle.teco_law_expansion.specs.Given.{call_given}
-use Rattle.teco_law_expansion.specs.Linked.{AreLinked}
-use Rattle.teco_law_facts.specs.SoundSteps.{AreOpen}
-use Rattle.teco_law_tables.specs.Verified.{IsReady, n_of}
+use Rattle.teco_law_runs.specs.Given.{call_given}
+use Rattle.teco_law_runs.specs.Linked.{AreLinked}
+use Rattle.teco_law_runs.specs.Ready.{AreOpen, IsReady, n_of}
 use Rattle.teco_model.specs.Macros.{Library, ArgumentRange, IsAsked, Needs}
 use Rattle.teco_model.specs.State.{World, start}
 use Rattle.teco_paths.specs.Runs.{EndsBy}

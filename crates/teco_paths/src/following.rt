@@ -22,7 +22,7 @@ pub const MOST_SPOTS: usize = 20_000;
 fn is_over(course: &MacroGraph<'_>, spot: &NodeCase, alloc: Global) -> Result<bool, PathFault>
     ensures { IfOk result (λ answer. OnTrue answer (LeadsOn course.now spot.now)) }
 {
-    teco_law_expansion::laws::runs_end();
+    teco_law_runs::laws::runs_end();
     if spot.number == 0 || spot.number - 1 != course.nodes.len() {
         return Ok(false);
     }

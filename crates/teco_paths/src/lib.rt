@@ -21,6 +21,7 @@ pub mod outcomes;
 mod points;
 mod possible;
 mod relevant;
+pub mod search;
 pub mod shapes;
 mod sharp;
 mod shifted;

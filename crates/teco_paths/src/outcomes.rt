@@ -69,7 +69,7 @@ fn search_at(
     requires reads { IsRead course.now.nodes number (Some (seen element.now)) }
     ensures { IfOk result (λ all. LawAt course.now.nodes course.now.needs number (seen element.now) case.now all) }
 {
-    teco_law_expansion::laws::nodes_are_sound();
+    teco_law_runs::laws::nodes_are_sound();
     let Kind::Search(kind) = element.kind else {
         return Err(PathFault::NotTold(number));
     };
@@ -107,7 +107,7 @@ fn long_search_at(
     requires reads { IsRead course.now.nodes number (Some (seen element.now)) }
     ensures { IfOk result (λ all. LawAt course.now.nodes course.now.needs number (seen element.now) case.now all) }
 {
-    teco_law_expansion::laws::nodes_are_sound();
+    teco_law_runs::laws::nodes_are_sound();
     let Kind::Search(kind) = element.kind else {
         return Err(PathFault::NotTold(number));
     };
@@ -138,7 +138,7 @@ fn page_at(
     requires reads { IsRead course.now.nodes number (Some (seen element.now)) }
     ensures { IfOk result (λ all. LawAt course.now.nodes course.now.needs number (seen element.now) case.now all) }
 {
-    teco_law_expansion::laws::nodes_are_sound();
+    teco_law_runs::laws::nodes_are_sound();
     let Kind::Page(page) = element.kind else {
         return Err(PathFault::NotTold(number));
     };
@@ -164,7 +164,7 @@ fn fitting_at(
     requires reads { IsRead course.now.nodes number (Some (seen element.now)) }
     ensures { IfOk result (λ all. LawAt course.now.nodes course.now.needs number (seen element.now) case.now all) }
 {
-    teco_law_expansion::laws::nodes_are_sound();
+    teco_law_runs::laws::nodes_are_sound();
     if !has_pair(element.kind) {
         return Err(PathFault::NotTold(number));
     }
@@ -229,7 +229,7 @@ pub fn wrapped_at(
     requires reads { IsRead course.now.nodes number (Some (seen element.now)) }
     ensures { IfOk result (λ all. LawAt course.now.nodes course.now.needs number (seen element.now) case.now all) }
 {
-    teco_law_expansion::laws::nodes_are_sound();
+    teco_law_runs::laws::nodes_are_sound();
     if !has_pair(element.kind) {
         return Err(PathFault::Condition(number));
     }

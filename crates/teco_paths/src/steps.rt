@@ -179,11 +179,11 @@ fn behind_element(
     requires reads { IsRead course.now.nodes number (Some (seen element.now)) }
     ensures { IfOk result (λ spots. GoOn course.now.nodes course.now.needs number case.now spots.items) }
 {
-    teco_law_facts::laws::whole_is_kept();
-    teco_law_expansion::laws::steps_go_along_nodes();
-    teco_law_expansion::laws::stays_loaded();
-    teco_law_expansion::laws::nodes_are_sound();
-    teco_law_tables::laws::files_stay_open();
+    teco_law_runs::laws::whole_is_kept();
+    teco_law_runs::laws::steps_go_along_nodes();
+    teco_law_runs::laws::stays_loaded();
+    teco_law_runs::laws::nodes_are_sound();
+    teco_law_runs::laws::files_stay_open();
     if !is_plain(course.nodes, number, element.kind) {
         return Err(PathFault::NotTold(number));
     }
@@ -209,11 +209,11 @@ fn behind_text(
     requires reads { IsTextEnd course.now.nodes number }
     ensures { IfOk result (λ spots. GoOn course.now.nodes course.now.needs number case.now spots.items) }
 {
-    teco_law_facts::laws::whole_is_kept();
-    teco_law_expansion::laws::steps_go_along_nodes();
-    teco_law_expansion::laws::stays_loaded();
-    teco_law_expansion::laws::nodes_are_sound();
-    teco_law_tables::laws::files_stay_open();
+    teco_law_runs::laws::whole_is_kept();
+    teco_law_runs::laws::steps_go_along_nodes();
+    teco_law_runs::laws::stays_loaded();
+    teco_law_runs::laws::nodes_are_sound();
+    teco_law_runs::laws::files_stay_open();
     if course.nodes.ways(number) != 1 {
         return Err(PathFault::NotTold(number));
     }

@@ -61,8 +61,8 @@ pub fn target(
     requires last { number ≤ length nodes.now }
     ensures { IfOk result (λ target. IsTarget nodes.now number is_away case.now target) }
 {
-    teco_law_expansion::laws::steps_go_along_nodes();
-    teco_law_expansion::laws::iterations_are_open();
+    teco_law_runs::laws::steps_go_along_nodes();
+    teco_law_runs::laws::iterations_are_open();
     let fault = PathFault::NotTold(number);
     let Some(first) = nodes.way(number, 0) else {
         return Err(fault);

@@ -20,10 +20,10 @@ pub fn check_claims(
     ensures { OnOk result (IsCertain course.now.nodes course.now.lengths argument course.now.needs
         course.now.commands course.now.size course.now.types) }
 {
-    teco_law_expansion::laws::steps_are_alike();
-    teco_law_expansion::laws::runs_are_alike();
-    teco_law_expansion::laws::readings_are_alike();
-    teco_law_expansion::laws::numbers_are_pending();
+    teco_law_runs::laws::steps_are_alike();
+    teco_law_runs::laws::runs_are_alike();
+    teco_law_runs::laws::readings_are_alike();
+    teco_law_runs::laws::numbers_are_pending();
     let cut = entry_cut(course.lengths, argument, course.used, alloc)?;
     let case = case_of(course.size, &cut, alloc)?;
     follow_cuts(course, alloc)?;

@@ -1,9 +1,8 @@
 -- What is promised of a macro, however it was found: each run of it ends in time, and without a code.
 use Rattle.std.specs.Prelude.{ℕ, ◌+◌, ◌≤◌, ⊤, length, Option, Some, None, option_map}
-use Rattle.teco_law_expansion.specs.Given.{call_given}
-use Rattle.teco_law_facts.specs.SoundSteps.{AreOpen}
-use Rattle.teco_law_tables.specs.Ending.{EndsWithin}
-use Rattle.teco_law_tables.specs.Verified.{IsReady, n_of}
+use Rattle.teco_law_runs.specs.Given.{call_given}
+use Rattle.teco_law_runs.specs.Ready.{AreOpen, IsReady, n_of}
+use Rattle.teco_law_runs.specs.Ending.{EndsWithin}
 use Rattle.teco_model.specs.Macros.{Library, ArgumentRange, IsAsked, Needs}
 use Rattle.teco_model.specs.State.{Kept, World, State, start}
 use Rattle.teco_poly.specs.Polynomial.{Polynomial, value}

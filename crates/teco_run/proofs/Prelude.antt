@@ -46,11 +46,11 @@ pub use Rattle.teco_model.specs.declared.kind.Search.{Search}
 pub use Rattle.teco_model.specs.declared.stop.HostFault.TheVariants.{In, NoFile, Out}
 pub use Rattle.teco_model.specs.declared.stop.Stop.{Stop}
 pub use Rattle.teco_model.specs.laws.StepCodes.{TellsStepCode}
-pub use Rattle.teco_pages.proofs.Told.{told-map}
-pub use Rattle.teco_pages.proofs.Touching.{touches-none, touches-on}
-pub use Rattle.teco_pages.specs.Events.{Event}
-pub use Rattle.teco_pages.specs.Held.{Held}
-pub use Rattle.teco_pages.specs.HostFiles.{HostFiles, Telling}
+pub use Rattle.teco_hosts.proofs.Told.{told-map}
+pub use Rattle.teco_hosts.proofs.Touching.{touches-none, touches-on}
+pub use Rattle.teco_hosts.specs.Events.{Event}
+pub use Rattle.teco_hosts.specs.Held.{Held}
+pub use Rattle.teco_hosts.specs.HostFiles.{HostFiles, Telling}
 pub use Rattle.teco_run.specs.AtOnce.{FindsAtOnce, ReachesAtOnce}
 pub use Rattle.teco_run.specs.Courses.{may_grow}
 pub use Rattle.teco_run.specs.Frames.{halt_in, is_at_end}

@@ -12,9 +12,9 @@ use Rattle.teco_model.specs.declared.kind.Kind.{Kind}
 use Rattle.teco_model.specs.declared.kind.Kind.TheVariants as kind
 use Rattle.teco_model.specs.declared.stop.Stop.{Stop}
 use Rattle.teco_model.specs.declared.stop.Stop.TheVariants as stop
-use Rattle.teco_pages.specs.Events.{Event, measured}
-use Rattle.teco_pages.specs.HostFiles.{Telling}
-use Rattle.teco_pages.specs.Noting.{Touches}
+use Rattle.teco_hosts.specs.Events.{Event, measured}
+use Rattle.teco_hosts.specs.HostFiles.{Telling}
+use Rattle.teco_hosts.specs.Noting.{Touches}
 use Rattle.teco_filing.specs.Touched.{touched_in}
 use Rattle.teco_filing.specs.declared.halt.Halt.{Halt}
 use Rattle.teco_filing.specs.declared.halt.Halt.TheVariants as halt

@@ -4,7 +4,7 @@ use std::alloc::Global;
 use std::marker::Model;
 use teco_editor::Editor;
 use teco_find::LastPattern;
-use teco_pages::Pages;
+use teco_hosts::Pages;
 use teco_text::TextStore;
 
 /// What elements work on: the editor, what it has open, and the pattern of the last search. Further

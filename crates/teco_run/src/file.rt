@@ -15,8 +15,8 @@ use crate::course::{Course, then};
 use crate::desk::Desk;
 use crate::pending::Pending;
 use teco_filing::{Halt, abandon_output, close_output, copy_all, exit, open_input, open_output};
+use teco_hosts::Host;
 use teco_model::kind::File;
-use teco_pages::Host;
 use teco_text::TextStore;
 
 // A command of files whose arguments are taken.

@@ -17,9 +17,9 @@ use crate::desk::Desk;
 use crate::pending::Pending;
 use teco_base::Code;
 use teco_filing::{self as filing, Halt};
+use teco_hosts::{Host, Pages};
 use teco_model::Taken;
 use teco_model::kind::Page;
-use teco_pages::{Host, Pages};
 use teco_text::TextStore;
 
 /// How many pages or matches there are to be, one at least.

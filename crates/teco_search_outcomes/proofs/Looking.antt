@@ -40,8 +40,8 @@ use Rattle.teco_model.specs.declared.pattern.Sought.TheVariants.{Last, Wanted}
 use Rattle.teco_model.specs.laws.Matching.{HasNoneFrom}
 use Rattle.teco_model.proofs.Searches.{first_finds}
 use Rattle.teco_rows.specs.Foretold.{Begins}
-use Rattle.teco_command_outcomes.specs.Changes.{DescribesFrom, with_steps}
-use Rattle.teco_command_outcomes.proofs.Changing.{changes_later}
+use Rattle.teco_motion_outcomes.specs.Changes.{DescribesFrom, with_steps}
+use Rattle.teco_motion_outcomes.proofs.Changing.{changes_later}
 use Rattle.teco_flow_outcomes.specs.Flow.{turned as turned_point}
 use Rattle.teco_search_outcomes.specs.declared.page_searches.TheConstants.{LATER_PAGE, THROUGH}
 use Rattle.teco_search_outcomes.specs.PageSearches.{Comes, HasMore, HasPageRoom, IsBegunInPages}

@@ -36,11 +36,11 @@ use Rattle.teco_rows.specs.Foretold.{IsOne}
 use Rattle.teco_rows.proofs.Giving.{describes_one}
 use Rattle.teco_rows.proofs.Lines.{end_least}
 use Rattle.teco_search_outcomes.specs.declared.pages.TheConstants.{APPENDED, EMPTIED, STAYS, TURNED}
-use Rattle.teco_command_outcomes.specs.Changes.{IsChanged}
-use Rattle.teco_command_outcomes.specs.Motions.{IsPlace}
+use Rattle.teco_motion_outcomes.specs.Changes.{IsChanged}
+use Rattle.teco_motion_outcomes.specs.Motions.{IsPlace}
 use Rattle.teco_search_outcomes.specs.Pages.{AreTold, IsDoneAtOnce, IsOnce, IsOpenFor, IsPaged, Reads, TurnsPage}
 use Rattle.teco_search_outcomes.specs.Pages.{with_next_page}
-use Rattle.teco_command_outcomes.proofs.Moving.{place_there}
+use Rattle.teco_motion_outcomes.proofs.Moving.{place_there}
 
 -- ---- how long a page is, and what is behind it
 pub record IsSplit (page rest all : ℕ) : Type 0 where

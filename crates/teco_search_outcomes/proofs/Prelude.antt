@@ -19,8 +19,8 @@ pub use Rattle.teco_base.specs.Text.{text_after_replacement}
 pub use Rattle.teco_base.specs.declared.TheConstants.{LIMIT}
 pub use Rattle.teco_base.specs.declared.bytes.TheConstants.{FF}
 pub use Rattle.teco_base.specs.declared.code.Code.{Code}
-pub use Rattle.teco_command_outcomes.proofs.Changing.{changes_plainly, changes_singles}
-pub use Rattle.teco_command_outcomes.specs.Changes.{IsChangedFrom, IsTold, read_given, with_kept, with_page}
+pub use Rattle.teco_motion_outcomes.proofs.Changing.{changes_plainly, changes_singles}
+pub use Rattle.teco_motion_outcomes.specs.Changes.{IsChangedFrom, IsTold, read_given, with_kept, with_page}
 pub use Rattle.teco_flow_outcomes.specs.Law.{Goes, StepsTo, loops_in, place_away, point_of, unread_in}
 pub use Rattle.teco_linear.specs.Form.{Valuation, value}
 pub use Rattle.teco_linear.specs.declared.term.Term.{Term}

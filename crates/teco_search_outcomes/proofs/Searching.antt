@@ -30,7 +30,7 @@ use Rattle.teco_search_outcomes.specs.declared.searches.TheConstants.{ENDS_IN, E
 use Rattle.teco_search_outcomes.specs.declared.searches.TheConstants.{OTHER_LINE, REPLACED, SAME_LINE, STARTED}
 use Rattle.teco_search_outcomes.specs.declared.searches.TheConstants.{WARNS}
 use Rattle.teco_search_outcomes.specs.Patterns.{IsLong}
-use Rattle.teco_command_outcomes.specs.Changes.{Changes}
+use Rattle.teco_motion_outcomes.specs.Changes.{Changes}
 use Rattle.teco_search_outcomes.specs.Searches.{HasFound, HasReplaced, IsKnown}
 use Rattle.teco_search_outcomes.specs.Searches.{IsMissedPlace}
 use Rattle.teco_search_outcomes.specs.Searches.{direction_clauses, extra_clauses}

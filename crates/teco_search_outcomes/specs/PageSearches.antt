@@ -21,7 +21,7 @@ use Rattle.teco_rows.specs.declared.outcomes.Outcomes.{Outcomes}
 use Rattle.teco_rows.specs.Cases.{value_if}
 use Rattle.teco_rows.specs.Foretold.{Begins}
 use Rattle.teco_rows.specs.States.{Origin, Point, IsTrueOf, Describes}
-use Rattle.teco_command_outcomes.specs.Changes.{DescribesFrom, IsTold, with_steps}
+use Rattle.teco_motion_outcomes.specs.Changes.{DescribesFrom, IsTold, with_steps}
 use Rattle.teco_flow_outcomes.specs.Law.{Goes, StepsTo, point_of, unread_in}
 use Rattle.teco_search_outcomes.specs.Searches.{Ends, IsAsked, TakesNumber}
 use Rattle.teco_search_outcomes.specs.declared.page_searches.BegunInPages.{BegunInPages}

@@ -19,7 +19,7 @@ use Rattle.teco_rows.specs.Cases.{value_if}
 use Rattle.teco_rows.specs.Commands.{commanded, taken_by}
 use Rattle.teco_rows.specs.Foretold.{Begins, Describe, Succeeds}
 use Rattle.teco_rows.specs.States.{Origin, Point, IsTrueOf, Describes}
-use Rattle.teco_command_outcomes.specs.Changes.{with_page}
+use Rattle.teco_motion_outcomes.specs.Changes.{with_page}
 use Rattle.teco_flow_outcomes.specs.Law.{Goes, StandsAt, StepsTo, point_of, unread_in}
 
 -- where one of two cases describes a state, one of these describes that behind it, and nothing is answered

@@ -38,7 +38,7 @@ use Rattle.teco_search_outcomes.specs.declared.searches.Direction.{Direction}
 use Rattle.teco_search_outcomes.specs.declared.searches.Direction.TheVariants.{Ahead, Back, Here}
 use Rattle.teco_search_outcomes.specs.declared.searches.KnownMatch.{KnownMatch}
 use Rattle.teco_search_outcomes.specs.declared.searches.TheConstants as rows
-use Rattle.teco_command_outcomes.specs.Changes.{DescribesFrom, with_kept}
+use Rattle.teco_motion_outcomes.specs.Changes.{DescribesFrom, with_kept}
 use Rattle.teco_flow_outcomes.specs.Flow.{turned}
 use Rattle.teco_flow_outcomes.specs.Law.{Goes, StepsTo, point_of}
 use Rattle.teco_search_outcomes.specs.Patterns.{EndsLine, IsSingle, StaysInLine}

@@ -3,7 +3,7 @@
 ghost use Rattle.std.specs.Prelude.{◌≡◌, ◌≤◌, ◌∷◌, [], IfOk};
 ghost use Rattle.teco_model.specs.Element.{seen};
 ghost use Rattle.teco_model.specs.declared.kind.Kind.TheVariants as kinds;
-ghost use Rattle.teco_command_outcomes.specs.Changes.{IsTold};
+ghost use Rattle.teco_motion_outcomes.specs.Changes.{IsTold};
 ghost use Rattle.teco_search_outcomes.specs.PageSearches.{EndsInPages, HasMore, HasPageRoom, IsBegunInPages};
 ghost use Rattle.teco_search_outcomes.specs.PageSearches.{IsLaterPage, IsPositive, IsThrough, LongLaw, answer_of};
 ghost use Rattle.teco_search_outcomes.specs.Searches.{HaveRoom, IsFoundBy, IsReplacedBy};
@@ -13,13 +13,14 @@ use crate::pages::room;
 use crate::patterns::parts;
 use crate::searches::{AskedSearch, Direction, YES, ended, find, fitted, number_sought, replace};
 use std::alloc::Global;
-use teco_command_outcomes::changes::{changed, told};
-use teco_command_outcomes::deletions::HELD;
-use teco_command_outcomes::motions::{ANY_BEFORE, ANY_HERE, LINE_END, LINE_START, POINTER, SIZE};
 use teco_linear::Form;
 use teco_model::Element;
 use teco_model::kind::Search;
 use teco_model::pattern::Part;
+use teco_motion_outcomes::changes::{changed, told};
+use teco_motion_outcomes::motions::{
+    ANY_BEFORE, ANY_HERE, HELD, LINE_END, LINE_START, POINTER, SIZE,
+};
 use teco_rows::case::Case;
 use teco_rows::commands::argument;
 use teco_rows::fault::RowFault;

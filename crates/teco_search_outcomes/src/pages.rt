@@ -13,12 +13,13 @@ ghost use Rattle.teco_rows.specs.States.{Point, IsTrueOf};
 
 use std::alloc::Global;
 use teco_base::LIMIT;
-use teco_command_outcomes::changes::{changed, told};
-use teco_command_outcomes::deletions::{HELD, both_in_buffer};
-use teco_command_outcomes::insertions::counted;
-use teco_command_outcomes::motions::{ANY_BEFORE, ANY_HERE, LINE_END, LINE_START, POINTER, SIZE};
 use teco_linear::Form;
 use teco_model::kind::Page;
+use teco_motion_outcomes::changes::{changed, told};
+use teco_motion_outcomes::insertions::counted;
+use teco_motion_outcomes::motions::{
+    ANY_BEFORE, ANY_HERE, HELD, LINE_END, LINE_START, POINTER, SIZE, both_in_buffer,
+};
 use teco_rows::case::Case;
 use teco_rows::commands::{TakenForms, argument, take_arguments};
 use teco_rows::fault::RowFault;

@@ -18,18 +18,17 @@ use crate::patterns::{
 };
 use std::alloc::Global;
 use teco_base::LIMIT;
-use teco_command_outcomes::changes::{changed, told};
-use teco_command_outcomes::deletions::HELD;
-use teco_command_outcomes::insertions::{counted, last_start};
-use teco_command_outcomes::motions::{
-    ANY_BEFORE, ANY_HERE, CODE_BEFORE, LINE_END, LINE_START, POINTER, SIZE, THERE,
-};
 use teco_flow_outcomes::flow::left;
 use teco_flow_outcomes::ranges::NumberRange;
 use teco_linear::Form;
 use teco_model::Element;
 use teco_model::kind::Search;
 use teco_model::pattern::Part;
+use teco_motion_outcomes::changes::{changed, told};
+use teco_motion_outcomes::insertions::{counted, last_start};
+use teco_motion_outcomes::motions::{
+    ANY_BEFORE, ANY_HERE, CODE_BEFORE, HELD, LINE_END, LINE_START, POINTER, SIZE, THERE,
+};
 use teco_rows::applied::copied_constraints;
 use teco_rows::case::Case;
 use teco_rows::commands::{TakenForms, take_arguments};

@@ -14,7 +14,7 @@ unfoldable pub use Rattle.teco_model.specs.Session.{string_end}
 pub use Rattle.teco_model.specs.State.{World, start}
 pub use Rattle.teco_model.specs.declared.session.Limits.{Limits}
 pub use Rattle.teco_model.specs.declared.stop.Stop.{Stop}
-pub use Rattle.teco_pages.specs.HostFiles.{Telling}
+pub use Rattle.teco_hosts.specs.HostFiles.{Telling}
 pub use Rattle.teco_run.specs.Holdings.{Holdings, Joined}
 pub use Rattle.teco_session.specs.Answers.{Answers, Runs, Said}
 pub use Rattle.teco_session.specs.FirstCode.{Hears}

@@ -1,7 +1,7 @@
 -- What follows of what stays with machine and host together.
 use Rattle.teco_session.proofs.Prelude.{◌≡◌, [], refl, World, Telling, Holdings, Joined}
 use Rattle.teco_model.specs.Session.{without_typed}
-use Rattle.teco_pages.proofs.Told.{told-map}
+use Rattle.teco_hosts.proofs.Told.{told-map}
 use Rattle.teco_run.proofs.Together.{Beside}
 pub use Rattle.teco_run.proofs.Together.{Joined-on, Joined-stays, Joined-then}
 

@@ -4,11 +4,11 @@ use Rattle.teco_session.proofs.Prelude.{Consumes-nil, Consumes-trans, prepend_kn
 use Rattle.teco_session.proofs.Prelude.{Consumes, prepend_known, Limits, Telling, Holdings, IsPiece, Piece, Command}
 use Rattle.teco_session.proofs.Prelude.{Rest}
 use Rattle.std.specs.List.{AllByRecursion}
-use Rattle.teco_pages.proofs.Touching.{touches-none, touches-on}
-use Rattle.teco_pages.specs.Events.{Event, opened_input, gave, ended, opened_output, wrote, closed, dropped, measured}
-use Rattle.teco_pages.specs.HostFiles.{Tells, Notes}
-use Rattle.teco_pages.specs.Noting.{Touches, openings}
-use Rattle.teco_pages.specs.Possible.{AreOpenedAnew, FitWhere, GivesMeasured, NotesFit}
+use Rattle.teco_hosts.proofs.Touching.{touches-none, touches-on}
+use Rattle.teco_hosts.specs.Events.{Event, opened_input, gave, ended, opened_output, wrote, closed, dropped, measured}
+use Rattle.teco_hosts.specs.HostFiles.{Tells, Notes}
+use Rattle.teco_hosts.specs.Noting.{Touches, openings}
+use Rattle.teco_hosts.specs.Possible.{AreOpenedAnew, FitWhere, GivesMeasured, NotesFit}
 use Rattle.teco_run.proofs.Due.{unmeasured-on}
 use Rattle.teco_run.specs.Touched.{IsUnmeasured, TouchesBetween}
 use Rattle.teco_session.proofs.Known.{Consumes-ahead}

@@ -5,9 +5,9 @@ use Rattle.teco_model.specs.Run.{Stops}
 use Rattle.teco_model.specs.Session.{IsCommandString}
 use Rattle.teco_model.specs.State.{start}
 use Rattle.teco_model.specs.declared.session.Limits.{Limits}
-use Rattle.teco_pages.specs.Events.{Event}
-use Rattle.teco_pages.specs.HostFiles.{Telling}
-use Rattle.teco_pages.specs.Possible.{AreOpenedAnew, FitWhere}
+use Rattle.teco_hosts.specs.Events.{Event}
+use Rattle.teco_hosts.specs.HostFiles.{Telling}
+use Rattle.teco_hosts.specs.Possible.{AreOpenedAnew, FitWhere}
 use Rattle.teco_run.specs.Holdings.{Holdings, Joined}
 use Rattle.teco_run.specs.Touched.{TouchesBetween, TouchesBySteps, touched_in_run}
 use Rattle.teco_run.specs.declared.site.Stopped.{Stopped}

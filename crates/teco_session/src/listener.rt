@@ -1,6 +1,6 @@
 //! What hears how the command strings of a session stop.
 use teco_base::Code;
-use teco_pages::Host;
+use teco_hosts::Host;
 use teco_run::{Machine, Stopped};
 use teco_text::TextStore;
 

@@ -22,9 +22,9 @@ use std::alloc::Global;
 use std::io::{Read, Write};
 use teco_base::bytes::is_blank;
 use teco_base::{Code, LIMIT};
+use teco_hosts::Host;
+use teco_hosts::laws::notes_fit;
 use teco_model::{HostFault, Limits};
-use teco_pages::Host;
-use teco_pages::laws::notes_fit;
 use teco_run::{Machine, Stop};
 use teco_text::TextStore;
 

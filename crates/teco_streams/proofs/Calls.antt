@@ -3,9 +3,9 @@ use Rattle.std.proofs.Common.{◌≡◌, ℕ, List, [], ◌∷◌, ◌++◌, ◌
 use Rattle.std.proofs.Common.{refl, sym, ap, subst, ◌∙◌}
 use Rattle.std.proofs.lemmas.Slice.Eq.{bytes_eq-Decides}
 use Rattle.std.specs.Prelude.{bytes_eq}
-use Rattle.teco_pages.specs.Events.{Event, opened_input, gave, ended, opened_output, wrote, closed, dropped, measured}
-use Rattle.teco_pages.specs.HostFiles.{Telling, Tells, Notes}
-use Rattle.teco_pages.specs.Noting.{NotesJust, event_of_reading}
+use Rattle.teco_hosts.specs.Events.{Event, opened_input, gave, ended, opened_output, wrote, closed, dropped, measured}
+use Rattle.teco_hosts.specs.HostFiles.{Telling, Tells, Notes}
+use Rattle.teco_hosts.specs.Noting.{NotesJust, event_of_reading}
 use Rattle.teco_streams.specs.Streams.{input_behind, input_name, named_as, of_files, output_behind, output_name}
 use Rattle.teco_streams.specs.Streams.{with_call, with_notes}
 use Rattle.teco_streams.specs.declared.streams.Open.{Open}

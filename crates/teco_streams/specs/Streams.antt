@@ -1,7 +1,7 @@
 -- Which calls of a host of files and streams go to its host of files.
 use Rattle.std.specs.Prelude.{ℕ, ◌≡◌, List, [], ◌∷◌, bytes_eq, codes, if◌then◌else◌}
-use Rattle.teco_pages.specs.Events.{Event, opened_input, gave, ended, opened_output, wrote, closed, dropped, measured}
-use Rattle.teco_pages.specs.HostFiles.{Telling, Tells, Notes}
+use Rattle.teco_hosts.specs.Events.{Event, opened_input, gave, ended, opened_output, wrote, closed, dropped, measured}
+use Rattle.teco_hosts.specs.HostFiles.{Telling, Tells, Notes}
 use Rattle.teco_streams.specs.declared.streams.Open.{Open}
 use Rattle.teco_streams.specs.declared.streams.Open.TheVariants.{File, Stream}
 

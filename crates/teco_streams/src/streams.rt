@@ -1,8 +1,8 @@
 //! Files, and the standard streams under a name of theirs.
 ghost use Rattle.std.specs.Prelude.{◌≡◌, ◌≤◌, ◌<◌, ◌+◌, suc, length, IfOk, IsErr, OnErr};
 ghost use Rattle.teco_base.specs.declared.TheConstants.{LIMIT};
-ghost use Rattle.teco_pages.specs.HostCalls.{Counts};
-ghost use Rattle.teco_pages.specs.HostFiles.{Notes};
+ghost use Rattle.teco_hosts.specs.HostCalls.{Counts};
+ghost use Rattle.teco_hosts.specs.HostFiles.{Notes};
 ghost use Rattle.teco_streams.specs.Streams.{IsFresh, PassesOn, given_of, input_behind, of_files, output_behind};
 ghost use Rattle.teco_streams.specs.Streams.{with_notes};
 ghost use Rattle.teco_streams.specs.declared.streams.Open.TheVariants as open_as;
@@ -11,7 +11,8 @@ use std::alloc::Global;
 use std::io;
 use std::io::{ErrorKind, Read, Write};
 use teco_base::LIMIT;
-use teco_pages::{Count, Failed, History, Host, Purpose, Trouble, TroubleReason};
+use teco_files::{Purpose, Trouble, TroubleReason};
+use teco_hosts::{Count, Failed, History, Host};
 
 /// What names standard input for a machine. No file can have a name with a NUL.
 pub const INPUT: &[u8] = b"\0input";

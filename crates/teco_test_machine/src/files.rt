@@ -3,7 +3,7 @@ use super::trial::{STORES, SessionRan, TrialStore, expect, run_over};
 use std::alloc::{AllocError, Global};
 use std::process::Abort;
 use teco_base::LIMIT;
-use teco_pages::{HostCall, MemHost, TestHost};
+use teco_hosts::{HostCall, MemHost, TestHost};
 
 /// What the file `in` has, the input, what is written, what it comes to, and what the file `out` has then.
 type FileRow = (Bytes, &'static str, Bytes, &'static str, Option<Bytes>);

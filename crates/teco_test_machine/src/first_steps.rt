@@ -2,7 +2,7 @@
 use crate::trial::machine_over;
 use std::alloc::Global;
 use std::process::Abort;
-use teco_pages::{Fault, MemHost, Pages};
+use teco_hosts::{Fault, MemHost, Pages};
 use teco_run::{Machine, Stop};
 use teco_session::{SessionFault, session};
 use teco_text::{GapText, TextFault, TextStore};

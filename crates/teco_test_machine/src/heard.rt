@@ -2,7 +2,7 @@
 use crate::trial::machine_over;
 use std::alloc::Global;
 use teco_base::{Code, LIMIT};
-use teco_pages::{Host, MemHost};
+use teco_hosts::{Host, MemHost};
 use teco_run::{Machine, Site, Stopped};
 use teco_session::{Conduct, Done, Limits, Listener, SessionFault, session_heard};
 use teco_text::{TextStore, VecText};

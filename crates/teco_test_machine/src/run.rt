@@ -10,8 +10,8 @@ use crate::trial::machine_over;
 use std::alloc::{AllocError, Global};
 use std::process::Abort;
 use teco_base::{Code, LIMIT, REGISTERS, Reg};
+use teco_hosts::MemHost;
 use teco_model::HostFault;
-use teco_pages::MemHost;
 use teco_run::{Machine, Stop};
 use teco_text::VecText;
 

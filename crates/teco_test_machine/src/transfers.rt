@@ -7,7 +7,7 @@ use std::io;
 use std::io::{ErrorKind, Read, Write};
 use std::process::Abort;
 use teco_base::LIMIT;
-use teco_pages::MemHost;
+use teco_hosts::MemHost;
 use teco_run::Machine;
 use teco_session::session;
 use teco_text::VecText;

@@ -2,7 +2,7 @@
 use std::alloc::Global;
 use std::process::Abort;
 use teco_base::LIMIT;
-use teco_pages::{Host, MemHost};
+use teco_hosts::{Host, MemHost};
 use teco_run::Machine;
 use teco_session::{Done, SessionFault, session_max};
 use teco_text::{GapText, TextStore, VecText};

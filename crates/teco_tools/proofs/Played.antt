@@ -5,7 +5,7 @@ use Rattle.std.proofs.Common.{take-append-drop}
 use Rattle.std.proofs.lemmas.List.{take_all, drop_more}
 use Rattle.teco_model.specs.State.{World}
 use Rattle.teco_model.specs.declared.session.Limits.{Limits}
-use Rattle.teco_pages.specs.HostFiles.{Telling}
+use Rattle.teco_hosts.specs.HostFiles.{Telling}
 use Rattle.teco_run.proofs.Together.{Joined-on, Joined-stays, Joined-then}
 use Rattle.teco_run.specs.Holdings.{Holdings, Joined}
 use Rattle.teco_session.specs.FirstCode.{Hears}
@@ -16,7 +16,7 @@ use Rattle.teco_tools.specs.Scripts.{Around, at, Comes, EndsIn, HearsScript, IsA
 use Rattle.teco_tools.specs.Scripts.{Terms, is_last, none, one_more}
 use Rattle.teco_tools.specs.declared.fault.ToolFault.{ToolFault}
 use Rattle.teco_console.specs.declared.outcome.Outcome.{Outcome}
-use Rattle.teco_tools.specs.declared.running.Script.{Script}
+use Rattle.teco_options.specs.declared.running.Script.{Script}
 
 -- the front, the script at a place, and those behind
 pub whole_at : (scripts : List Script) (i : ℕ) (d : Script) → i < length scripts

@@ -4,9 +4,9 @@ use Rattle.std.specs.Prelude.{None, Result, Ok, Err, IsErr, IfSome, ⊤}
 use Rattle.teco_model.specs.declared.session.Limits.{Limits}
 use Rattle.teco_session.specs.FirstCode.{Hears}
 use Rattle.teco_model.specs.State.{World, kept_of_store}
-use Rattle.teco_pages.specs.HostFiles.{Telling}
+use Rattle.teco_hosts.specs.HostFiles.{Telling}
 use Rattle.teco_run.specs.Holdings.{Holdings, Joined}
-use Rattle.teco_pages.specs.Held.{nothing_held}
+use Rattle.teco_hosts.specs.Held.{nothing_held}
 use Rattle.teco_session.specs.Sessions.{Setting, setting}
 use Rattle.teco_tools.specs.Starts.{IsBare}
 use Rattle.teco_session.specs.declared.fault.SessionFault.{SessionFault}
@@ -18,8 +18,8 @@ use Rattle.teco_session.specs.declared.sessions.Conduct.{Conduct}
 use Rattle.teco_base.specs.declared.TheConstants.{LIMIT}
 use Rattle.teco_tools.specs.declared.fault.ToolFault.{ToolFault}
 use Rattle.teco_tools.specs.declared.running.Run.{Run}
-use Rattle.teco_tools.specs.declared.running.Script.{Script}
-use Rattle.teco_tools.specs.declared.running.Script.TheVariants.{Stream, File, Word}
+use Rattle.teco_options.specs.declared.running.Script.{Script}
+use Rattle.teco_options.specs.declared.running.Script.TheVariants.{Stream, File, Word}
 use Rattle.teco_console.specs.Sources.{IsFileForm}
 use Rattle.teco_console.specs.declared.forms.Escape.{Escape}
 use Rattle.teco_console.specs.declared.outcome.Outcome.{Outcome}

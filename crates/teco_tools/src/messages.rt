@@ -2,7 +2,7 @@
 use std::fmt;
 use std::io::Write;
 use teco_console::Voice;
-use teco_pages::{Purpose, Trouble, TroubleReason};
+use teco_files::{Purpose, Trouble, TroubleReason};
 use teco_source::Shown;
 
 // The code that is typed for it.

@@ -2,7 +2,9 @@
 use crate::messages::tell;
 use std::io::{Read, Write};
 use teco_console::Voice;
-use teco_pages::{FileHost, Host, System, Trouble};
+use teco_files::{System, Trouble};
+use teco_hosts::Host;
+use teco_pages::FileHost;
 use teco_streams::Streams;
 
 /// A host that says what is left of its input, and why its last call that failed did.

@@ -20,23 +20,13 @@ use teco_base::{Code, LIMIT};
 use teco_console::{
     Console, Escape, Outcome, Shelf, Voice, form_of, form_of_word, letters, read_file,
 };
+use teco_hosts::Host;
 use teco_model::Limits;
-use teco_pages::Host;
+use teco_options::Script;
 use teco_run::{Machine, Stop, Stopped};
 use teco_session::{Conduct, Done, Listener, SessionFault, session_heard};
 use teco_source::{LineAndByte, Shown, Source};
 use teco_text::{GapText, TextStore};
-
-/// What command strings are read from.
-#[derive(Clone, Copy)]
-pub enum Script<'a> {
-    /// Standard input.
-    Stream,
-    /// The file of a name.
-    File(&'a str),
-    /// A word of the command line. It gets the two ESC at its end that it lacks.
-    Word(&'a str),
-}
 
 /// What is run, and how.
 #[derive(Clone, Copy)]

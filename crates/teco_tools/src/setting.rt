@@ -9,7 +9,8 @@ use crate::fault::ToolFault;
 use crate::machines::within_limit;
 use teco_base::{LIMIT, REGISTERS, Reg};
 use teco_console::{AnswerFault, Setting};
-use teco_pages::Host;
+use teco_hosts::Host;
+use teco_options::LetterCase;
 use teco_run::{Machine, Stop};
 use teco_text::TextStore;
 
@@ -35,22 +36,11 @@ fn with_text<'a>(
     texts
 }
 
-/// How searches treat the case of letters.
-#[derive(Clone, Copy)]
-pub enum LetterCase {
-    /// A letter matches itself alone.
-    Exact,
-    /// A letter matches itself in either case.
-    Any,
-}
-
-impl LetterCase {
-    // The command string that makes searches treat it so.
-    fn command(self) -> &'static [u8] {
-        match self {
-            LetterCase::Exact => b"1^X",
-            LetterCase::Any => b"0^X",
-        }
+// The command string that makes searches treat case so.
+fn command_of(case: LetterCase) -> &'static [u8] {
+    match case {
+        LetterCase::Exact => b"1^X",
+        LetterCase::Any => b"0^X",
     }
 }
 
@@ -105,7 +95,7 @@ pub fn prepare<T: TextStore, H: Host>(
     let Some(case) = start.case else {
         return Ok(());
     };
-    match machine.run(within_limit(case.command())?, u64::MAX, host) {
+    match machine.run(within_limit(command_of(case))?, u64::MAX, host) {
         Stop::Memory => Err(AnswerFault::Memory.into()),
         _ => Ok(()),
     }

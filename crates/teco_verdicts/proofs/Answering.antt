@@ -14,13 +14,16 @@ use Rattle.teco_verify.specs.declared.refusal.Refusal.TheVariants.{No, Memory}
 use Rattle.teco_verify.specs.Refusing.{IsOfCertificate, PrintedIsFound, RefusedIsDerived, RefusedIsExpansions}
 use Rattle.teco_verify.specs.Refusing.{RefusedIsOverflow, RefusedIsUnclosed}
 use Rattle.std.specs.Result.{IfErr}
-use Rattle.teco_verdicts.specs.Answers.{Answer, Answers, AnswersIn, ChecksByTable, IsDenied, IsDeniedBy, IsRefusal}
-use Rattle.teco_verdicts.specs.Answers.{IsStraightVerdict, OfText, ReadsNone, Refuses, VerdictByTable}
+use Rattle.teco_verdicts.specs.Answers.{Answer, Answers, AnswersIn, ChecksByTable, IsRefusal}
+use Rattle.teco_acceptance.specs.Refused.{IsDenied, IsDeniedBy}
+use Rattle.teco_verdicts.specs.Answers.{IsStraightVerdict, OfText, VerdictByTable}
+use Rattle.teco_acceptance.specs.Refused.{ReadsNone, Refuses}
 use Rattle.teco_verdicts.specs.Certificates.{IsCertificate}
 use Rattle.teco_verdicts.specs.Linear.{ChecksByClaims, RefusesCertificate, VerdictByClaims}
-use Rattle.teco_verdicts.specs.Lines.{refused_line}
+use Rattle.teco_acceptance.specs.Lines.{refused_line}
 use Rattle.teco_console.specs.Output.{Writes}
-use Rattle.teco_verdicts.specs.Methods.{ChecksBy, ChecksIn, IsAmong, VerdictBy, VerdictIn}
+use Rattle.teco_verdicts.specs.Methods.{ChecksBy, ChecksIn, VerdictBy, VerdictIn}
+use Rattle.teco_acceptance.specs.Accepted.{IsAmong}
 use Rattle.teco_console.specs.declared.method.Edition.{Edition}
 use Rattle.teco_console.specs.declared.method.Method.{Method}
 use Rattle.teco_console.specs.declared.outcome.Outcome.{Outcome}
@@ -88,29 +91,6 @@ pub straight_verdict : (library : LibraryFile) (entry : ℕ) (verdict : Result F
     → StraightIsVerified library entry verdict → IsStraightVerdict library entry verdict
 straight_verdict library entry (Ok found) straight = straight
 straight_verdict library entry (Err refusal) straight = tt
-
--- bytes that are refused as a certificate, since no certificate is read of them
-pub denied_by : (bytes : List ℕ) (library : LibraryFile) (entry : ℕ) (refusal : Refusal)
-    → StraightIsChecked library bytes (Err refusal) → PrintedIsAccepted library bytes (Err refusal)
-    → IsDeniedBy bytes library entry refusal
-denied_by bytes library entry (No reason register place) straight again =
-    record {
-      straight = λ text elements none is same. straight entry text elements none is same;
-      none = λ fields made of_entry same. again fields made same;
-    }
-denied_by bytes library entry Memory straight again = tt
-
--- or since it is one of another entry
-pub denied_other : (bytes : List ℕ) (library : LibraryFile) (entry : ℕ) (found : Finding)
-    → StraightIsChecked library bytes (Ok found) → PrintedIsAccepted library bytes (Ok found)
-    → found.fields.entry ≢ entry → IsDenied bytes library entry
-denied_other bytes library entry found straight again other =
-    record {
-      straight = λ text elements none is same.
-          other (ap (λ (fields : Fields). fields.entry) (straight entry text elements none is same));
-      none = λ fields made of_entry same.
-          other (ap (λ (fields : Fields). fields.entry) (again fields made same) ∙ of_entry);
-    }
 
 -- the verdicts of `verify` by a table
 pub of_verified : {E : Type 0} (library : LibraryFile) (entry : ℕ) (old new : Option (List ℕ))

@@ -1,7 +1,7 @@
 -- The macro of a certificate ends.
 use Rattle.std.proofs.Common.{subst}
-use Rattle.teco_law_expansion.specs.Linked.{ExpansionsAreLinked}
-use Rattle.teco_law_facts.specs.SoundSteps.{AreOpen}
+use Rattle.teco_law_runs.specs.Linked.{ExpansionsAreLinked}
+use Rattle.teco_law_runs.specs.Ready.{AreOpen}
 use Rattle.teco_law_tables.specs.Verified.{RunsAreVerified}
 use Rattle.teco_verdicts.specs.Ending.{CertifiedMacrosEnd}
 

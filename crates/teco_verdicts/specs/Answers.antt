@@ -1,6 +1,7 @@
 -- What `verify` and `check` answer of an entry, and what is written of an answer.
 use Rattle.std.specs.Prelude.{ℕ, ◌≡◌, ◌≢◌, ◌⊎◌, ⊤, List, codes, Option, None, Result, Ok, Err, IsErr}
 use Rattle.std.specs.Io.KnownBytes.{Appends, Keeps}
+use Rattle.teco_acceptance.specs.Refused.{IsDenied, StraightIs}
 use Rattle.teco_certificate.specs.Text.{certificate_text}
 use Rattle.teco_law_tables.specs.straight_text.Straight.{IsStraight}
 use Rattle.teco_library.specs.Library.{LibraryFile, argument_of}
@@ -15,7 +16,7 @@ use Rattle.teco_verify.specs.Straight.{StraightIsVerified, straight_fields}
 use Rattle.teco_verify.specs.declared.refusal.Refusal.{Refusal}
 use Rattle.teco_verify.specs.declared.refusal.Refusal.TheVariants.{No, Memory}
 use Rattle.teco_verdicts.specs.Certificates.{IsCertificate}
-use Rattle.teco_verdicts.specs.Lines.{refused_line}
+use Rattle.teco_acceptance.specs.Lines.{refused_line}
 use Rattle.teco_console.specs.Output.{Writes, WritesFront}
 use Rattle.teco_console.specs.Sources.{IsReadFor}
 use Rattle.teco_console.specs.declared.outcome.Outcome.{Outcome}
@@ -43,17 +44,6 @@ pub record BreaksOff (IsAnswer : Answer) (old new : Option (List ℕ)) : Type 0 
 abbrev pub Answers : {E : Type 0} → Answer → Option (List ℕ) → Option (List ℕ) → Result Outcome E → Type 0
 Answers IsAnswer old new (Ok outcome) = WritesAnswer IsAnswer old new outcome
 Answers IsAnswer old new (Err fault) = Keeps old new ⊎ BreaksOff IsAnswer old new
-
--- The line of a refusal was written. For want of memory, which is a fault, nothing was.
-abbrev pub Refuses : {E : Type 0} → Option (List ℕ) → Option (List ℕ) → Refusal → Result Outcome E → Type 0
-Refuses old new (No reason register place) result = Writes old new (refused_line (No reason register place)) result
-Refuses old new Memory result = IsErr result × Keeps old new
-
--- P is so of the elements of an entry without a declared argument, if its text is straight
-abbrev pub StraightIs : LibraryFile → ℕ → (List Element → Type 0) → Type 0
-StraightIs library entry P =
-    (text : List ℕ) (elements : List Element)
-    → argument_of library entry ≡ None → IsStraight library.texts entry text elements → P elements
 
 -- what is found of straight text is the definition's
 abbrev pub IsStraightVerdict : LibraryFile → ℕ → Result Finding Refusal → Type 0
@@ -85,28 +75,12 @@ VerdictByTable library entry Done text = IsFoundCertificate library entry text
 VerdictByTable library entry Coded text = ⊥
 VerdictByTable library entry Refused text = IsRefusalLine library entry text
 
--- bytes that are refused as a certificate: they are that of nothing that is made again from it, nor of straight text
-pub record IsDenied (bytes : List ℕ) (library : LibraryFile) (entry : ℕ) : Type 0 where
-  pub straight : StraightIs library entry (λ elements. bytes ≢ certificate_text (straight_fields entry elements))
-  pub none : (fields : Fields) → AreMadeAgain library fields → fields.entry ≡ entry → bytes ≢ certificate_text fields
-
--- so they are, where memory is not what is wanted
-abbrev pub IsDeniedBy : List ℕ → LibraryFile → ℕ → Refusal → Type 0
-IsDeniedBy bytes library entry (No reason register place) = IsDenied bytes library entry
-IsDeniedBy bytes library entry Memory = ⊤
-
 -- what `check` answers of bytes by a table: that they are a certificate, or that they are refused
 abbrev pub ChecksByTable : List ℕ → LibraryFile → ℕ → Answer
 ChecksByTable bytes library entry Done text = IsCertificate library entry bytes × (text ≡ codes "accepted\n")
 ChecksByTable bytes library entry Coded text = ⊥
 ChecksByTable bytes library entry Refused text =
     IsDenied bytes library entry × (text ≡ refused_line refusal_of_certificate)
-
--- why a text is read as no library
-abbrev pub ReadsNone : List ℕ → Refusal → Type 0
-ReadsNone source (No reason register place) =
-    (No reason register place ≡ No why.Library None place) × Reads source (Err (NotALibrary place))
-ReadsNone source Memory = ⊤
 
 -- the line for a text that is no library
 pub record IsNoLibraryLine (source text : List ℕ) : Type 0 where

@@ -1,9 +1,8 @@
 -- What a printed or an accepted certificate promises of the machine.
 use Rattle.std.specs.Prelude.{ℕ, List, Option}
-use Rattle.teco_law_expansion.specs.Given.{call_given}
-use Rattle.teco_law_facts.specs.SoundSteps.{AreOpen}
-use Rattle.teco_law_tables.specs.Ending.{EndsWithin}
-use Rattle.teco_law_tables.specs.Verified.{IsReady}
+use Rattle.teco_law_runs.specs.Given.{call_given}
+use Rattle.teco_law_runs.specs.Ready.{AreOpen, IsReady}
+use Rattle.teco_law_runs.specs.Ending.{EndsWithin}
 use Rattle.teco_library.specs.Library.{LibraryFile}
 use Rattle.teco_model.specs.Macros.{IsAsked}
 use Rattle.teco_model.specs.State.{World, start}

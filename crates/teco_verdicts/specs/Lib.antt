@@ -1,9 +1,7 @@
 -- What is printed, and what is accepted as a certificate.
-pub mod Lines
 pub mod Certificates
 pub mod Answers
 pub mod Ending
 pub mod RoundTrip
-pub mod Accepted
 pub mod Linear
 pub mod Methods

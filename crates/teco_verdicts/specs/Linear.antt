@@ -4,8 +4,9 @@ use Rattle.teco_claimed.specs.Claimed.{IsChecked}
 use Rattle.teco_claimed.specs.Text.{linear_text}
 use Rattle.teco_claimed.specs.declared.certificate.LinearCertificate.{LinearCertificate}
 use Rattle.teco_library.specs.Library.{LibraryFile}
-use Rattle.teco_verdicts.specs.Answers.{Answer, Refuses}
-use Rattle.teco_verdicts.specs.Lines.{refused_line}
+use Rattle.teco_verdicts.specs.Answers.{Answer}
+use Rattle.teco_acceptance.specs.Refused.{Refuses}
+use Rattle.teco_acceptance.specs.Lines.{refused_line}
 use Rattle.teco_console.specs.declared.outcome.Outcome.{Outcome}
 use Rattle.teco_console.specs.declared.outcome.Outcome.TheVariants.{Done, Coded, Refused}
 use Rattle.teco_verify.specs.Refusing.{IsOfCertificate, refusal_of_certificate}

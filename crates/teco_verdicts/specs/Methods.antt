@@ -1,6 +1,7 @@
 -- What `verify` and `check` answer by whichever method.
 use Rattle.std.specs.Prelude.{ℕ, ◌≡◌, ◌⊎◌, ⊤, List, Option, Result, IsErr, IfSome}
 use Rattle.std.specs.Io.KnownBytes.{Keeps}
+use Rattle.teco_acceptance.specs.Accepted.{IsAmong}
 use Rattle.teco_library.specs.Library.{LibraryFile}
 use Rattle.teco_verdicts.specs.Answers.{Answer, AnswersFor, ChecksByTable, VerdictByTable}
 use Rattle.teco_verdicts.specs.Linear.{ChecksByClaims, VerdictByClaims}
@@ -10,11 +11,6 @@ use Rattle.teco_console.specs.declared.method.Method.{Method}
 use Rattle.teco_console.specs.declared.method.Method.TheVariants.{Only, Best}
 use Rattle.teco_console.specs.declared.outcome.Outcome.{Outcome}
 use Rattle.teco_console.specs.declared.request.Request.{Request}
-
--- an edition of the rules is one by which a method verifies
-abbrev pub IsAmong : Method → Edition → Type 0
-IsAmong (Only asked) edition = edition ≡ asked
-IsAmong Best edition = ⊤
 
 -- what `verify` answers of an entry by an edition
 abbrev pub VerdictIn : Edition → LibraryFile → ℕ → Answer

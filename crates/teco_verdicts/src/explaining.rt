@@ -1,21 +1,18 @@
 //! `explain` of a macro: its elements, and what is known before each.
 ghost use Rattle.std.specs.Prelude.{◌≡◌};
 
-use crate::blame::tell_premise;
-use crate::known::{words_of, words_of_choice};
-use crate::library::read_library;
 use crate::linear::tell_refused;
 use crate::listing::list_claimed;
-use crate::verdict::Verdict;
-use crate::verifying::refuse;
 use std::alloc::{AllocError, Global};
 use std::io::Write;
+use teco_acceptance::{read_library, refuse, tell_premise, words_of, words_of_choice};
 use teco_base::Reg;
 use teco_claimed::verify_linear;
 use teco_console::{
     AnswerFault, Console, Edition, Method, Outcome, Request, Shelf, Sourced, element_at, written,
 };
 use teco_library::Library;
+use teco_paths::search::ClaimSearch;
 use teco_source::{LineAndByte, Shown};
 use teco_verify::{Account, account_of};
 
@@ -127,23 +124,6 @@ fn list_elements<O: Write + Drop, E: Write + Drop>(
     Ok(())
 }
 
-/// Says what is known at the element at which a macro is refused.
-pub fn tell_known<O: Write + Drop, E: Write + Drop>(
-    console: &mut Console<O, E>,
-    account: &Account<'_>,
-) -> Result<(), AnswerFault>
-    ensures { console.new.out ≡ console.old.out }
-{
-    let Some(number) = account.stop() else {
-        return Ok(());
-    };
-    if let Some(known) = account.known(number) {
-        let words = words_of(console.alloc, &known)?;
-        console.say(format_args!("  known there: {words}"));
-    }
-    Ok(())
-}
-
 // Prints the verdict behind the elements.
 fn conclude<O: Write + Drop, E: Write + Drop>(
     console: &mut Console<O, E>,
@@ -187,19 +167,19 @@ fn explain_table<O: Write + Drop, E: Write + Drop>(
 }
 
 // Explains a macro of a library by its claims, or by its table where that alone accepts it.
-fn explain_by_either<O: Write + Drop, E: Write + Drop>(
+fn explain_by_either<S: ClaimSearch, O: Write + Drop, E: Write + Drop>(
     console: &mut Console<O, E>,
     sourced: &Sourced,
     entry: Reg,
 ) -> Result<Outcome, AnswerFault> {
-    match verify_linear(&sourced.library, entry, console.alloc) {
+    match verify_linear::<S>(&sourced.library, entry, console.alloc) {
         Ok(claimed) => list_claimed(console, sourced, &claimed),
         Err(unverified) => {
             let account = account_of(console.alloc, &sourced.library, entry)?;
             if account.verdict().is_ok() {
                 return list_account(console, sourced, &account);
             }
-            tell_refused(
+            tell_refused::<S, _, _>(
                 console,
                 &sourced.source,
                 &sourced.library,
@@ -211,14 +191,14 @@ fn explain_by_either<O: Write + Drop, E: Write + Drop>(
 }
 
 // Explains a macro of a library by its claims.
-fn explain_claims<O: Write + Drop, E: Write + Drop>(
+fn explain_claims<S: ClaimSearch, O: Write + Drop, E: Write + Drop>(
     console: &mut Console<O, E>,
     sourced: &Sourced,
     entry: Reg,
 ) -> Result<Outcome, AnswerFault> {
-    match verify_linear(&sourced.library, entry, console.alloc) {
+    match verify_linear::<S>(&sourced.library, entry, console.alloc) {
         Ok(claimed) => list_claimed(console, sourced, &claimed),
-        Err(unverified) => tell_refused(
+        Err(unverified) => tell_refused::<S, _, _>(
             console,
             &sourced.source,
             &sourced.library,
@@ -229,28 +209,28 @@ fn explain_claims<O: Write + Drop, E: Write + Drop>(
 }
 
 // Explains a macro of a library by a method.
-fn explain_by_method<O: Write + Drop, E: Write + Drop>(
+fn explain_by_method<S: ClaimSearch, O: Write + Drop, E: Write + Drop>(
     console: &mut Console<O, E>,
     sourced: &Sourced,
     entry: Reg,
 ) -> Result<Outcome, AnswerFault> {
     match sourced.method {
         Method::Only(Edition::First) => explain_table(console, sourced, entry),
-        Method::Only(Edition::Second) => explain_claims(console, sourced, entry),
-        Method::Best => explain_by_either(console, sourced, entry),
+        Method::Only(Edition::Second) => explain_claims::<S, _, _>(console, sourced, entry),
+        Method::Best => explain_by_either::<S, _, _>(console, sourced, entry),
     }
 }
 
 /// Lists the elements that a macro of a library comes to, up to the one at which it is refused,
 /// with what is known before each, what is chosen for each iteration, and the verdict.
-pub fn explain_macro<R: Shelf, O: Write + Drop, E: Write + Drop>(
+pub fn explain_macro<S: ClaimSearch, R: Shelf, O: Write + Drop, E: Write + Drop>(
     rt: &R,
     console: &mut Console<O, E>,
     request: Request<'_>,
     entry: Reg,
 ) -> Result<Outcome, AnswerFault> {
     match read_library(rt, console, request)? {
-        Some(sourced) => explain_by_method(console, &sourced, entry),
+        Some(sourced) => explain_by_method::<S, _, _>(console, &sourced, entry),
         None => Ok(Outcome::Refused),
     }
 }

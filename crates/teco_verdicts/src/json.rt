@@ -1,16 +1,15 @@
 //! Verdicts for machines: an object of JSON in each line.
-use crate::acceptance::verified_by;
-use crate::library::library_of;
-use crate::verdict::Verdict;
 use std::alloc::{AllocError, Global};
 use std::fmt;
 use std::io::Write;
+use teco_acceptance::{Verdict, library_of, verified_by};
 use teco_base::Reg;
 use teco_console::{
     AnswerFault, Console, Method, NAMES, Outcome, Premise, Request, Shelf, macro_named, read_source,
 };
 use teco_explain::{number_of, position_in};
 use teco_library::Library;
+use teco_paths::search::ClaimSearch;
 use teco_poly::Poly;
 use teco_promise::Promise;
 use teco_source::{LineAndByte, Source};
@@ -198,45 +197,45 @@ impl fmt::Display for Quoted {
 }
 
 // Prints the verdict on a macro.
-fn answer_verdict<O: Write + Drop, E: Write + Drop>(
+fn answer_verdict<S: ClaimSearch, O: Write + Drop, E: Write + Drop>(
     console: &mut Console<O, E>,
     source: &Source,
     library: &Library,
     entry: Reg,
     method: Method,
 ) -> Result<Outcome, AnswerFault> {
-    match verified_by(console.alloc, library, entry, method) {
+    match verified_by::<S>(console.alloc, library, entry, method) {
         Ok(accepted) => answer_accepted(console, &accepted.promise()),
         Err(refusal) => answer_refused(console, source, Some(entry), &refusal),
     }
 }
 
 // Prints the verdict on a macro of the library that a source says.
-fn answer_macro<O: Write + Drop, E: Write + Drop>(
+fn answer_macro<S: ClaimSearch, O: Write + Drop, E: Write + Drop>(
     console: &mut Console<O, E>,
     source: &Source,
     entry: Reg,
     method: Method,
 ) -> Result<Outcome, AnswerFault> {
     match library_of(console.alloc, source) {
-        Ok(library) => answer_verdict(console, source, &library, entry, method),
+        Ok(library) => answer_verdict::<S, _, _>(console, source, &library, entry, method),
         Err(refusal) => answer_refused(console, source, None, &refusal),
     }
 }
 
 /// Verifies a macro of a library, and prints the verdict as an object of JSON.
-pub fn verify_macro_as_json<R: Shelf, O: Write + Drop, E: Write + Drop>(
+pub fn verify_macro_as_json<S: ClaimSearch, R: Shelf, O: Write + Drop, E: Write + Drop>(
     rt: &R,
     console: &mut Console<O, E>,
     request: Request<'_>,
     entry: Reg,
 ) -> Result<Outcome, AnswerFault> {
     let source = read_source(rt, console.alloc, request)?;
-    answer_macro(console, &source, entry, request.method)
+    answer_macro::<S, _, _>(console, &source, entry, request.method)
 }
 
 // Prints the verdict on each macro of a library.
-fn answer_each<O: Write + Drop, E: Write + Drop>(
+fn answer_each<S: ClaimSearch, O: Write + Drop, E: Write + Drop>(
     console: &mut Console<O, E>,
     source: &Source,
     library: &Library,
@@ -245,31 +244,33 @@ fn answer_each<O: Write + Drop, E: Write + Drop>(
     let mut outcome = Outcome::Done;
     for name in NAMES {
         if let Some(entry) = macro_named(library, *name) {
-            outcome = outcome.worse(answer_verdict(console, source, library, entry, method)?);
+            outcome = outcome.worse(answer_verdict::<S, _, _>(
+                console, source, library, entry, method,
+            )?);
         }
     }
     Ok(outcome)
 }
 
 // Prints the verdict on each macro of the library that a source says.
-fn answer_library<O: Write + Drop, E: Write + Drop>(
+fn answer_library<S: ClaimSearch, O: Write + Drop, E: Write + Drop>(
     console: &mut Console<O, E>,
     source: &Source,
     method: Method,
 ) -> Result<Outcome, AnswerFault> {
     match library_of(console.alloc, source) {
-        Ok(library) => answer_each(console, source, &library, method),
+        Ok(library) => answer_each::<S, _, _>(console, source, &library, method),
         Err(refusal) => answer_refused(console, source, None, &refusal),
     }
 }
 
 /// Verifies each macro of a library, A to Z and then 0 to 9, and prints an object of JSON for each,
 /// in a line of its own.
-pub fn verify_library_as_json<R: Shelf, O: Write + Drop, E: Write + Drop>(
+pub fn verify_library_as_json<S: ClaimSearch, R: Shelf, O: Write + Drop, E: Write + Drop>(
     rt: &R,
     console: &mut Console<O, E>,
     request: Request<'_>,
 ) -> Result<Outcome, AnswerFault> {
     let source = read_source(rt, console.alloc, request)?;
-    answer_library(console, &source, request.method)
+    answer_library::<S, _, _>(console, &source, request.method)
 }

@@ -2,7 +2,7 @@
 ghost use Rattle.teco_verdicts.specs.Ending.{CertifiedMacrosEnd};
 ghost use Rattle.teco_verdicts.specs.RoundTrip.{PrintedIsAccepted};
 
-use teco_law_expansion::laws::expansions_are_linked;
+use teco_law_runs::laws::expansions_are_linked;
 use teco_law_tables::laws::runs_are_verified;
 
 /// A macro for which a certificate is printed or accepted ends without a code, within the number of

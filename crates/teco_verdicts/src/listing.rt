@@ -1,9 +1,8 @@
 //! What is claimed at the cut points of a macro, as `explain` lists it.
-use crate::blame::tell_premise;
 use crate::explaining::{name_of, shown_place, text_of};
-use crate::linear::register_at;
 use std::alloc::{AllocError, Global};
 use std::io::Write;
+use teco_acceptance::{register_at, tell_premise};
 use teco_claimed::Claimed;
 use teco_claims::Cut;
 use teco_console::{AnswerFault, Console, Edition, Outcome, Sourced, all_stated, written};

@@ -1,8 +1,8 @@
 -- What is certified is promised.
 use Rattle.teco_verify.proofs.Prelude.{subst, Finding, IsCertified}
-use Rattle.teco_law_expansion.specs.Linked.{ExpansionsAreLinked}
-use Rattle.teco_law_facts.specs.SoundSteps.{AreOpen}
-use Rattle.teco_law_tables.specs.Verified.{RunsAreVerified, n_of}
+use Rattle.teco_law_runs.specs.Linked.{ExpansionsAreLinked}
+use Rattle.teco_law_runs.specs.Ready.{AreOpen, n_of}
+use Rattle.teco_law_tables.specs.Verified.{RunsAreVerified}
 use Rattle.teco_promise.specs.Promise.{EachRunEnds}
 use Rattle.teco_verify.specs.Promised.{promise_of}
 

@@ -10,7 +10,7 @@ use std::alloc::{AllocError, Global};
 use std::marker::Model;
 use teco_base::{REGISTERS, Reg};
 use teco_certificate::Certificate;
-use teco_law_expansion::laws::expansions_are_linked;
+use teco_law_runs::laws::expansions_are_linked;
 use teco_law_tables::laws::runs_are_verified;
 use teco_library::Library;
 use teco_model::Needs;

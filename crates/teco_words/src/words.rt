@@ -1,18 +1,19 @@
 //! The words as values.
 ghost use Rattle.std.specs.Prelude.{◌≤◌, IfOk, length};
-ghost use Rattle.teco_apply.specs.declared.editing.TheConstants.{NAME};
+ghost use Rattle.teco_options.specs.declared.editing.TheConstants.{NAME};
 
 use crate::arguments::CommandLine;
 use crate::fault::WordsFault;
 use clap::ArgMatches;
 use std::alloc::{AllocError, Global};
-use teco_apply::{NAME, PageChoice};
 use teco_base::Reg;
 use teco_base::bytes::ESC;
 use teco_console::{Edition, Escape, Method, Origin, STREAM, Setting};
-use teco_edits::{Change, FileChoice, Keeping, Look, Naming};
+use teco_options::{
+    Change, FileChoice, Keeping, LetterCase, Look, NAME, Naming, PageChoice, Script,
+};
 use teco_source::{EscapeForm, Shown};
-use teco_tools::{INPUT, LetterCase, OUTPUT, Script};
+use teco_streams::{INPUT, OUTPUT};
 
 /// The register of the macro where an option names the library, and none the register.
 const DEFAULT_ENTRY: &str = "A";

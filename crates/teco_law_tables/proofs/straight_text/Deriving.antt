@@ -8,7 +8,7 @@ use Rattle.teco_verifier.specs.table.Deriving.{Arrival, met, derived_at, derive_
 use Rattle.teco_law_tables.specs.straight_text.Facts.{row_behind_insertions}
 use Rattle.teco_law_tables.specs.straight_text.Facts.{StraightTablesAreDerived}
 use Rattle.teco_law_tables.proofs.straight_text.Within.{inserted_within}
-use Rattle.teco_law_tables.proofs.straight_text.Alike.{same_number}
+use Rattle.teco_law_tables.proofs.Prelude.{same_number}
 use Rattle.teco_law_tables.proofs.straight_text.Edging.{edges_of_element, arriving_by_element}
 
 -- Edges arrive one at each number.

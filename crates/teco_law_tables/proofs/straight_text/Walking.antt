@@ -3,15 +3,16 @@ use Rattle.teco_law_tables.proofs.Prelude.{◌≡◌, ℕ, zero, suc, ◌+◌, �
 use Rattle.teco_law_tables.proofs.Prelude.{Some, None, Ok, refl, ◌∙◌, rules, arith, AllByRecursion, REGISTERS, DropAll}
 use Rattle.teco_law_tables.proofs.Prelude.{Text, Kind, Element, blank_len, element_from, element_at, letters}
 use Rattle.teco_law_tables.proofs.Prelude.{element_at-again, MOST_ELEMENTS, first_visit, next_visit, Walk, walk}
-use Rattle.teco_law_tables.proofs.Prelude.{Library, macro, names_macro, beginning, over, base_of, Position, past}
-use Rattle.teco_law_tables.proofs.Prelude.{read_at, flow_ways, ways_at, IsStraightKind, IsStraightElement, AreRead}
-use Rattle.teco_law_tables.proofs.Prelude.{call_element, stand_in_text}
+use Rattle.teco_law_tables.proofs.Prelude.{Library, macro, names_macro, beginning, over, base_of, Position, read_at}
+use Rattle.teco_law_tables.proofs.Prelude.{flow_ways, ways_at, IsStraightKind, IsStraightElement, AreRead, call_element}
+use Rattle.teco_law_tables.proofs.Prelude.{stand_in_text}
+use Rattle.teco_verifier.specs.expansion.Ways.{past}
 use Rattle.teco_model.specs.declared.kind.Command.TheVariants as command
 use Rattle.teco_model.specs.declared.kind.Flow.TheVariants as flow
 use Rattle.teco_model.specs.declared.kind.Kind.TheVariants as kind
 use Rattle.teco_verifier.specs.expansion.Expansion.{Visit}
 use Rattle.teco_verifier.specs.expansion.Node.{base_of_kind}
-use Rattle.teco_law_tables.proofs.straight_text.Alike.{names_itself}
+use Rattle.teco_law_runs.proofs.Given.{name_read}
 
 -- what is visited in the text, and behind a place of it
 abbrev pub visit_in_text : ℕ → List ℕ → ℕ → Visit
@@ -24,7 +25,7 @@ visits_behind entry text (e ∷ elements) = visit_in_text entry text e.next ∷ 
 -- what is read
 pub call_read : (entry : ℕ) → entry < REGISTERS → read_at (beginning entry).position ≡ Ok (Some (call_element entry))
 unfolding read_at element_at element_from blank_len letters
-call_read entry l = rw (names_itself entry l) refl
+call_read entry l = rw (name_read entry l) refl
 
 read_kind : (k : Kind) (e : Element) (p : Position) → IsStraightKind k
     → element_at p.running.text p.running.place ≡ Ok (Some (record e { kind = k }))

@@ -1,7 +1,7 @@
 -- A straight text worked by hand.
 use Rattle.teco_law_tables.proofs.Prelude.{refl, arith, digits, int_wrap, blank_len, element_from, element_at, letters}
 use Rattle.teco_law_tables.proofs.Prelude.{IsStraight}
-use Rattle.teco_law_expansion.specs.Rows.{only}
+use Rattle.teco_law_runs.specs.Rows.{only}
 use Rattle.teco_law_tables.specs.straight_text.Rows.{letters_put_in, elements_put_in, WorkedStraightText}
 use Rattle.teco_law_tables.proofs.straight_text.Accepting.{straight_texts_are_accepted}
 

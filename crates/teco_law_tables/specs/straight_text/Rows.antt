@@ -8,7 +8,7 @@ use Rattle.teco_model.specs.declared.kind.Insertion.TheVariants.{Text}
 use Rattle.teco_model.specs.declared.kind.Kind.{Kind}
 use Rattle.teco_model.specs.declared.kind.Kind.TheVariants as kind
 use Rattle.teco_model.specs.Element.{Element}
-use Rattle.teco_law_expansion.specs.Rows.{only}
+use Rattle.teco_law_runs.specs.Rows.{only}
 use Rattle.teco_poly.specs.Polynomial.{number}
 use Rattle.teco_poly.specs.Text.{text}
 use Rattle.teco_law_tables.specs.straight_text.Accepted.{IsAccepted}

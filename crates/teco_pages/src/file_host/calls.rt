@@ -1,14 +1,12 @@
 //! What the calls of a host did, and with which files.
 ghost use Rattle.std.specs.Prelude.{◌≡◌, ◌++◌, ◌∷◌, [], suc, IsErr};
-ghost use Rattle.teco_pages.specs.Events.{opened_input, opened_output};
-ghost use Rattle.teco_pages.specs.HostCalls.{HasOpened};
-ghost use Rattle.teco_pages.specs.HostFiles.{Becomes, Notes, after_opening};
+ghost use Rattle.teco_hosts.specs.Events.{opened_input, opened_output};
+ghost use Rattle.teco_hosts.specs.HostCalls.{HasOpened};
+ghost use Rattle.teco_hosts.specs.HostFiles.{Becomes, Notes, after_opening};
 
-use crate::count::Count;
-use crate::fault::Failed;
-use crate::history::History;
 use std::alloc::Global;
 use teco_files::{Purpose, Trouble, TroubleReason, name_to_tell};
+use teco_hosts::{Count, Failed, History};
 
 /// What the calls of a host did, and what the last one that failed could not do.
 #[derive(Drop)]

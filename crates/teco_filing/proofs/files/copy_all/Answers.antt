@@ -1,5 +1,5 @@
 use Rattle.teco_filing.proofs.Prelude.{◌≡◌, Err, ap, ◌∙◌, err_from_is_err_and, Held, halt_of}
-use Rattle.teco_pages.proofs.Touching.{touches-end}
+use Rattle.teco_hosts.proofs.Touching.{touches-end}
 use Rattle.teco_filing.proofs.Touched.{drops-failing}
 use Rattle.teco_filing.proofs.files.copy_all.Goals as goal
 

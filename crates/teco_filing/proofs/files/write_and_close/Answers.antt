@@ -1,5 +1,5 @@
 use Rattle.teco_filing.proofs.Prelude.{[]}
-use Rattle.teco_pages.proofs.Touching.{touches-on}
+use Rattle.teco_hosts.proofs.Touching.{touches-on}
 use Rattle.teco_filing.proofs.Written.{closes-all, drops-all}
 use Rattle.teco_filing.proofs.files.write_and_close.Goals as goal
 

@@ -1,5 +1,5 @@
-use Rattle.teco_applied.proofs.Strict.{strict-admits}
-use Rattle.teco_applied.specs.Strict.{on_terms}
+use Rattle.teco_jobs.proofs.Strict.{strict-admits}
+use Rattle.teco_jobs.specs.Strict.{on_terms}
 use Rattle.teco_law_edits.proofs.Bounds.{strict_is_bounded}
 use Rattle.teco_law_edits.proofs.laws.strict_edits_are_bounded.Goals as goal
 

@@ -6,7 +6,7 @@ use Rattle.teco_run.specs.Holdings.{Joined}
 use Rattle.teco_tools.proofs.Played.{all_out, breaks_out, ends_out, played_none, played_more, played_last, unread_out}
 use Rattle.teco_tools.proofs.Played.{whole_at}
 use Rattle.teco_tools.specs.Scripts.{Around, at, EndsIn, Plays, PlaysOut, terms_of}
-use Rattle.teco_tools.specs.declared.running.Script.TheVariants.{Stream}
+use Rattle.teco_options.specs.declared.running.Script.TheVariants.{Stream}
 use Rattle.teco_tools.proofs.running.run_each.Goals as goal
 
 pub loop-script-init : goal.loop-script-init

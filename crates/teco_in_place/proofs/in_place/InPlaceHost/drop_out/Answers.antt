@@ -1,6 +1,6 @@
 use Rattle.std.proofs.Common.{refl}
 use Rattle.teco_in_place.proofs.Calls.{called}
-use Rattle.teco_pages.specs.Events.{dropped}
+use Rattle.teco_hosts.specs.Events.{dropped}
 use Rattle.teco_in_place.proofs.in_place.InPlaceHost.drop_out.Goals as goal
 
 pub invariant_of-self : goal.invariant_of-self

@@ -1,6 +1,6 @@
 use Rattle.std.proofs.Common.{refl}
 use Rattle.teco_in_place.proofs.Calls.{called}
-use Rattle.teco_pages.specs.Events.{measured}
+use Rattle.teco_hosts.specs.Events.{measured}
 use Rattle.teco_in_place.proofs.in_place.InPlaceHost.left_of_input.Goals as goal
 
 pub invariant_of-self-2 : goal.invariant_of-self-2

@@ -1,6 +1,6 @@
 use Rattle.std.proofs.Common.{true, refl, sym, ◌∙◌}
 use Rattle.teco_in_place.proofs.Calls.{called}
-use Rattle.teco_pages.specs.Events.{opened_input}
+use Rattle.teco_hosts.specs.Events.{opened_input}
 use Rattle.teco_in_place.proofs.in_place.InPlaceHost.open_in.Goals as goal
 
 pub invariant_of-self-2 : goal.invariant_of-self-2

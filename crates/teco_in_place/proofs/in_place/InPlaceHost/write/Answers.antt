@@ -1,6 +1,6 @@
 use Rattle.std.proofs.Common.{take, refl}
 use Rattle.teco_in_place.proofs.Calls.{called}
-use Rattle.teco_pages.specs.Events.{wrote}
+use Rattle.teco_hosts.specs.Events.{wrote}
 use Rattle.teco_in_place.proofs.in_place.InPlaceHost.write.Goals as goal
 
 pub invariant_of-self-2 : goal.invariant_of-self-2

@@ -1,6 +1,6 @@
 use Rattle.std.proofs.Common.{refl, rules}
 use Rattle.teco_streams.proofs.Calls.{IsBeneath, output-called}
-use Rattle.teco_pages.specs.Events.{dropped}
+use Rattle.teco_hosts.specs.Events.{dropped}
 use Rattle.teco_streams.proofs.streams.StreamsHost.drop_out.Goals as goal
 
 pub invariant_of-self : goal.invariant_of-self

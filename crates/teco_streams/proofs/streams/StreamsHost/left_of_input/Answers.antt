@@ -1,6 +1,6 @@
 use Rattle.std.proofs.Common.{refl, rules}
 use Rattle.teco_streams.proofs.Calls.{IsBeneath, input-called}
-use Rattle.teco_pages.specs.Events.{measured}
+use Rattle.teco_hosts.specs.Events.{measured}
 use Rattle.teco_streams.proofs.streams.StreamsHost.left_of_input.Goals as goal
 
 pub invariant_of-self-2 : goal.invariant_of-self-2

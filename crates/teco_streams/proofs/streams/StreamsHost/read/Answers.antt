@@ -1,6 +1,6 @@
 use Rattle.std.proofs.Common.{refl, rules}
 use Rattle.teco_streams.proofs.Calls.{IsBeneath, input-called, read-of}
-use Rattle.teco_pages.specs.Noting.{event_of_reading}
+use Rattle.teco_hosts.specs.Noting.{event_of_reading}
 use Rattle.teco_streams.proofs.streams.StreamsHost.read.Goals as goal
 
 pub invariant_of-self : goal.invariant_of-self

@@ -1,0 +1,156 @@
+//! Certificates in files.
+ghost use Rattle.std.specs.Prelude.{◌≡◌, ◌≤◌, IfOk, IfSome, vec_len};
+ghost use Rattle.std.specs.Result.{IfErr};
+ghost use Rattle.teco_base.specs.declared.TheConstants.{LIMIT};
+ghost use Rattle.teco_certificate.specs.Text.{certificate_text};
+ghost use Rattle.teco_acceptance.specs.Refused.{IsDeniedBy};
+ghost use Rattle.teco_acceptance.specs.Accepted.{IsOf, certificate_of};
+ghost use Rattle.teco_acceptance.specs.Accepted.{IsAmong};
+ghost use Rattle.teco_verify.specs.Certified.{TakesDeclared};
+ghost use Rattle.teco_verify.specs.Refusing.{IsOfCertificate};
+
+use crate::acceptance::{Accepted, verified_by};
+use crate::claims::{accepted_by_claims, refusal_of_text};
+use std::alloc::Global;
+use teco_base::Reg;
+use teco_base::bytes::LF;
+use teco_console::{AnswerFault, Edition, Method, Shelf, read_file};
+use teco_library::Library;
+use teco_paths::search::ClaimSearch;
+use teco_verify::{Refusal, Verified, check_certificate};
+
+/// The first line of a text, and what comes behind its end.
+pub fn split_line(text: &[u8]) -> (&[u8], &[u8]) {
+    match text.iter().position(|byte| *byte == LF) {
+        Some(at) if at < text.len() => (&text[..at], &text[at + 1..]),
+        _ => (text, &[]),
+    }
+}
+
+// How many lines of a certificate stand before those of its needs, at most.
+const HEAD_LINES: usize = 4;
+
+/// The edition of the rules that a certificate says it is of.
+pub fn edition_of(text: &[u8]) -> Edition {
+    let mut rest = text;
+    for _ in 0..HEAD_LINES {
+        let (line, behind) = split_line(rest);
+        if line == b"rules 3".as_slice() {
+            return Edition::Second;
+        }
+        rest = behind;
+    }
+    Edition::First
+}
+
+/// What a file says to be the certificate of a macro.
+#[derive(Drop)]
+pub struct ClaimedCertificate<'a> {
+    /// The name of the file; `-` for standard input.
+    pub name: &'a str,
+    /// What it has.
+    pub bytes: Vec<u8>,
+    ghost within: { vec_len bytes ≤ LIMIT },
+}
+
+impl<'a> ClaimedCertificate<'a> {
+    /// Reads the file of a name.
+    pub fn read<R: Shelf>(
+        rt: &R,
+        alloc: Global,
+        name: &'a str,
+    ) -> Result<ClaimedCertificate<'a>, AnswerFault>
+        ensures { IfOk result (λ claim. IfSome (R.holds rt.now name.now)
+            (λ told. claim.bytes.items ≡ told)) }
+    {
+        let bytes = read_file(rt, alloc, name)?;
+        Ok(ClaimedCertificate { name, bytes })
+    }
+
+    /// The edition by which it is checked: where each is tried, the one that it says it is of.
+    pub fn edition_by(&self, method: Method) -> Edition
+        ensures { IsAmong method result }
+    {
+        match method {
+            Method::Only(edition) => edition,
+            Method::Best => edition_of(&self.bytes),
+        }
+    }
+
+    /// The macro that it is the certificate of by a table, if that is the entry.
+    #[tactic(auto, using(crate::proofs::Denied::denied_by, crate::proofs::Denied::denied_other))]
+    pub fn accept<'l>(
+        &self,
+        alloc: Global,
+        library: &'l Library,
+        entry: Reg,
+    ) -> Result<Verified<'l>, Refusal>
+        ensures library { IfOk result (λ verified. verified.library ≡ library.now.texts) }
+        ensures declared { IfOk result (λ verified. TakesDeclared library.now verified.fields) }
+        ensures entry { IfOk result (λ verified. verified.fields.entry ≡ entry) }
+        ensures text { IfOk result (λ verified. certificate_text verified.fields
+            ≡ self.now.bytes.items) }
+        ensures refused { IfErr result IsOfCertificate }
+        ensures denied { IfErr result (IsDeniedBy self.now.bytes.items library.now entry) }
+    {
+        let verified = check_certificate(alloc, library, &self.bytes)?;
+        if verified.entry().index() == entry.index() {
+            Ok(verified)
+        } else {
+            Err(Refusal::certificate())
+        }
+    }
+}
+
+/// Reads the certificate of a name, if one is named.
+pub fn read_claim<'a, R: Shelf>(
+    rt: &R,
+    alloc: Global,
+    name: Option<&'a str>,
+) -> Result<Option<ClaimedCertificate<'a>>, AnswerFault> {
+    match name {
+        None => Ok(None),
+        Some(name) => Ok(Some(ClaimedCertificate::read(rt, alloc, name)?)),
+    }
+}
+
+// The macro that a file is the certificate of, if that is the entry.
+fn accepted_by<'l>(
+    alloc: Global,
+    library: &'l Library,
+    entry: Reg,
+    method: Method,
+    claim: &ClaimedCertificate<'_>,
+) -> Result<Accepted<'l>, Refusal>
+    ensures is { IfOk result (IsOf library.now entry) }
+    ensures text { IfOk result (λ accepted. certificate_of accepted ≡ claim.now.bytes.items) }
+{
+    match claim.edition_by(method) {
+        Edition::First => {
+            let verified = claim.accept(alloc, library, entry)?;
+            Ok(Accepted::Table(verified))
+        }
+        Edition::Second => match accepted_by_claims(alloc, library, entry, &claim.bytes) {
+            Ok(claimed) => Ok(Accepted::Claims(claimed)),
+            Err(refused) => Err(refusal_of_text(&refused)),
+        },
+    }
+}
+
+/// A macro of a library, by its certificate if there is one, or verified anew.
+pub fn accepted<'l, S: ClaimSearch>(
+    alloc: Global,
+    library: &'l Library,
+    entry: Reg,
+    method: Method,
+    claim: Option<&ClaimedCertificate<'_>>,
+) -> Result<Accepted<'l>, Refusal>
+    ensures is { IfOk result (IsOf library.now entry) }
+    ensures text { IfSome claim.entry (λ claim. IfOk result
+        (λ accepted. certificate_of accepted ≡ claim.now.bytes.items)) }
+{
+    match claim {
+        None => verified_by::<S>(alloc, library, entry, method),
+        Some(claim) => accepted_by(alloc, library, entry, method, claim),
+    }
+}

@@ -1,5 +1,0 @@
-use Rattle.teco_applied.proofs.Strict.{strict-runs}
-use Rattle.teco_applied.proofs.laws.strict_runs_are_sure.Goals as goal
-
-pub returns : goal.returns
-returns c = strict-runs c.values_grow.ensures

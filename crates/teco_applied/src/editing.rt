@@ -1,0 +1,153 @@
+//! `edit`: files are edited in place by a verified macro.
+ghost use Rattle.std.specs.Prelude.{◌≡◌};
+ghost use Rattle.teco_applied.specs.InPlace.{EditsIfAny, EditsSubject, EditsTask};
+ghost use Rattle.teco_console.specs.declared.outcome.Outcome.TheVariants.{Refused};
+
+use crate::subject::{Subject, read_subject, refuse_empty, refuse_subject, say_findings};
+use std::alloc::Global;
+use std::io::{Input, Write};
+use teco_acceptance::{Accepted, tell_promise};
+use teco_console::{Console, Outcome, Premise, Sourced, Voice};
+use teco_edit_parts::taken_backup;
+use teco_edits::{InPlaceEdits, edit_by_job};
+use teco_files::System;
+use teco_jobs::{Job, Task};
+use teco_options::{Keeping, PageChoice};
+use teco_paths::search::ClaimSearch;
+use teco_source::Shown;
+use teco_tools::ToolFault;
+
+// Says that a macro which turns pages itself does not edit whole files.
+fn refuse_whole<E: Write + Drop>(voice: &mut Voice<E>, task: &Task<'_, '_>) -> Outcome
+    ensures { result ≡ Refused }
+{
+    let name = char::from(task.entry.name());
+    voice.complain(format_args!(
+        "macro {name} reads or writes pages itself, and a file that is edited whole is one page: \
+            give --pages first, and it goes on from the first page, or --pages each"
+    ));
+    Outcome::Refused
+}
+
+// Does a macro that turns pages itself edit whole files?
+fn is_lost(job: Job<'_>) -> bool {
+    matches!(job.task.pages, PageChoice::Whole) && job.turns_pages()
+}
+
+// A macro that is accepted, with its source.
+#[derive(Clone, Copy)]
+struct AcceptedMacro<'a> {
+    sourced: &'a Sourced,
+    accepted: &'a Accepted<'a>,
+}
+
+// Edits files by a macro that is accepted, unless its promise holds for no text, or it turns pages
+// itself and files are edited whole.
+#[tactic(auto, using(crate::proofs::InPlace::by_job, crate::proofs::InPlace::no_line, crate::proofs::InPlace::failed))]
+fn edit_by_accepted<R, O, E>(
+    rt: &R,
+    console: &mut Console<O, E>,
+    task: &Task<'_, '_>,
+    given: &InPlaceEdits<'_>,
+    subject: AcceptedMacro<'_>,
+) -> Result<Outcome, ToolFault>
+where
+    R: System + Copy,
+    O: Write + Drop,
+    E: Write + Drop,
+    ensures { EditsIfAny given.now task.now subject.entry.accepted.now
+        (O.contents console.old.out) (O.contents console.new.out) result }
+{
+    let AcceptedMacro { sourced, accepted } = subject;
+    let promise = accepted.promise();
+    if task.is_strict && Premise::of_promise(&promise).is_empty() {
+        return refuse_empty(console, sourced, accepted);
+    }
+    if task.tells_promise {
+        tell_promise(&mut console.voice, &promise)?;
+    }
+    let job = Job {
+        alloc: console.alloc,
+        task,
+        promise: &promise,
+    };
+    say_findings(console, sourced, job.task);
+    if is_lost(job) {
+        return Ok(refuse_whole(&mut console.voice, job.task));
+    }
+    edit_by_job(rt, console, job, given)
+}
+
+// Edits files by the macro that a task is about, if it is accepted.
+fn edit_by_subject<S: ClaimSearch, R, O, E>(
+    rt: &R,
+    console: &mut Console<O, E>,
+    task: &Task<'_, '_>,
+    given: &InPlaceEdits<'_>,
+    subject: &Subject<'_>,
+) -> Result<Outcome, ToolFault>
+where
+    R: System + Copy,
+    O: Write + Drop,
+    E: Write + Drop,
+    ensures { EditsSubject given.now task.now subject.now.sourced.library
+        (O.contents console.old.out) (O.contents console.new.out) result }
+{
+    match subject.accepted::<S>(console.alloc, task.entry) {
+        Ok(accepted) => {
+            let found = AcceptedMacro {
+                sourced: &subject.sourced,
+                accepted: &accepted,
+            };
+            edit_by_accepted(rt, console, task, given, found)
+        }
+        Err(refusal) => refuse_subject::<S, _, _>(console, subject, task.entry, refusal),
+    }
+}
+
+// Refuses to keep a file under the name of another that is edited.
+fn check_keeping<R: System>(
+    rt: &R,
+    alloc: Global,
+    given: &InPlaceEdits<'_>,
+) -> Result<(), ToolFault> {
+    let Some(Keeping { suffix, .. }) = given.keeping else {
+        return Ok(());
+    };
+    if suffix.is_empty() || suffix.contains('/') {
+        return Err(ToolFault::Suffix);
+    }
+    match taken_backup(rt, alloc, given.files, suffix)? {
+        None => Ok(()),
+        Some(path) => {
+            let shown = Shown(path.as_bytes());
+            Err(ToolFault::Kept {
+                path: format!(in alloc; "{shown}")?,
+            })
+        }
+    }
+}
+
+/// Accepts a macro of a library once, and edits each file by it in place, with a new machine for
+/// each. Nothing is touched where the macro is refused, or where a file would be kept under the
+/// name of another that is edited; a file that fails is left as it was, named, and the others go
+/// on. A file that would stay as it is isn't replaced.
+pub fn edit_files<S: ClaimSearch, R, O, E>(
+    rt: &R,
+    console: &mut Console<O, E>,
+    task: &Task<'_, '_>,
+    given: &InPlaceEdits<'_>,
+) -> Result<Outcome, ToolFault>
+where
+    R: System + Input + Copy,
+    O: Write + Drop,
+    E: Write + Drop,
+    ensures { EditsTask given.now task.now
+        (O.contents console.old.out) (O.contents console.new.out) result }
+{
+    check_keeping(rt, console.alloc, given)?;
+    match read_subject::<S, _, _, _>(rt, console, task)? {
+        Some(subject) => edit_by_subject::<S, _, _, _>(rt, console, task, given, &subject),
+        None => Ok(Outcome::Refused),
+    }
+}

@@ -1,0 +1,7 @@
+use Rattle.teco_hosts.proofs.Prelude.{rules, measured}
+use Rattle.teco_hosts.proofs.Bytes.{noted}
+use Rattle.teco_hosts.proofs.history.History.measured.Goals as goal
+
+pub returns-clause-files : goal.returns-clause-files
+returns-clause-files c = noted _ c.args.self.now.events c.then.result.events (measured c.args.most) (search rules) tt
+    (λ f g h. h)

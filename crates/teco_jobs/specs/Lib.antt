@@ -1,0 +1,5 @@
+pub mod Edits
+pub mod Following
+pub mod Strict
+pub mod Terms
+pub mod Traces

@@ -1,0 +1,18 @@
+-- On which terms the runs of a macro begin.
+use Rattle.std.specs.Prelude.{◌≡◌, ℕ, ◌+◌, Bool, true, Option, Some, None}
+use Rattle.teco_jobs.specs.declared.watching.Terms.{Terms}
+use Rattle.teco_console.specs.Premise.{IsWithin}
+
+-- at an N that is told the promise holds
+abbrev pub IsPromised : Terms → Option ℕ → Type 0
+IsPromised terms None = ⊥
+IsPromised terms (Some n) = IsWithin terms.bound.premise.last n
+
+-- what is held, and what is unread at most, if that is told
+abbrev pub n_at_most : ℕ → Option ℕ → Option ℕ
+n_at_most held None = None
+n_at_most held (Some most) = Some (held + most)
+
+-- Where the terms are strict, yes is said only where the promise holds at an N that is told.
+abbrev pub Answers : Terms → ℕ → Option ℕ → Bool → Type 0
+Answers terms held most answer = answer ≡ true → terms.is_strict ≡ true → IsPromised terms (n_at_most held most)

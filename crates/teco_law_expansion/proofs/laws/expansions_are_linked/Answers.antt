@@ -1,5 +1,0 @@
-use Rattle.teco_law_expansion.proofs.Linking.{expansions_are_linked}
-use Rattle.teco_law_expansion.proofs.laws.expansions_are_linked.Goals as goal
-
-pub returns : goal.returns
-returns c = expansions_are_linked

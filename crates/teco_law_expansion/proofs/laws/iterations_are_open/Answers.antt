@@ -1,5 +1,0 @@
-use Rattle.teco_law_expansion.proofs.Iterations.{iterations_are_open}
-use Rattle.teco_law_expansion.proofs.laws.iterations_are_open.Goals as goal
-
-pub returns : goal.returns
-returns c = iterations_are_open

@@ -1,5 +1,0 @@
-use Rattle.teco_law_expansion.proofs.Ends.{left_have_ended}
-use Rattle.teco_law_expansion.proofs.laws.left_have_ended.Goals as goal
-
-pub returns : goal.returns
-returns c = left_have_ended

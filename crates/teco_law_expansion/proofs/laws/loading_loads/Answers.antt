@@ -1,5 +1,0 @@
-use Rattle.teco_law_expansion.proofs.Texts.{loading_loads}
-use Rattle.teco_law_expansion.proofs.laws.loading_loads.Goals as goal
-
-pub returns : goal.returns
-returns c = loading_loads

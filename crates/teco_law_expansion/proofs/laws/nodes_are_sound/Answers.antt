@@ -1,5 +1,0 @@
-use Rattle.teco_law_expansion.proofs.Places.{nodes_are_sound}
-use Rattle.teco_law_expansion.proofs.laws.nodes_are_sound.Goals as goal
-
-pub returns : goal.returns
-returns c = nodes_are_sound

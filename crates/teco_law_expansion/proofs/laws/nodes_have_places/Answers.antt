@@ -1,5 +1,0 @@
-use Rattle.teco_law_expansion.proofs.Places.{nodes_have_places}
-use Rattle.teco_law_expansion.proofs.laws.nodes_have_places.Goals as goal
-
-pub returns : goal.returns
-returns c = nodes_have_places

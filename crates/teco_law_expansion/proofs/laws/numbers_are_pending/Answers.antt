@@ -1,5 +1,0 @@
-use Rattle.teco_law_expansion.proofs.Given.{numbers_are_pending}
-use Rattle.teco_law_expansion.proofs.laws.numbers_are_pending.Goals as goal
-
-pub returns : goal.returns
-returns c = numbers_are_pending

@@ -1,5 +1,0 @@
-use Rattle.teco_law_expansion.proofs.Alike.{runs_are_alike}
-use Rattle.teco_law_expansion.proofs.laws.runs_are_alike.Goals as goal
-
-pub returns : goal.returns
-returns c = runs_are_alike

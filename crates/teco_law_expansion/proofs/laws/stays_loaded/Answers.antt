@@ -1,5 +1,0 @@
-use Rattle.teco_law_expansion.proofs.StayLoaded.{stays_loaded}
-use Rattle.teco_law_expansion.proofs.laws.stays_loaded.Goals as goal
-
-pub returns : goal.returns
-returns c = stays_loaded

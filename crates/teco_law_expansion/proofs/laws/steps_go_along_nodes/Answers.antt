@@ -1,5 +1,0 @@
-use Rattle.teco_law_expansion.proofs.Runs.{steps_go_along_nodes}
-use Rattle.teco_law_expansion.proofs.laws.steps_go_along_nodes.Goals as goal
-
-pub returns : goal.returns
-returns c = steps_go_along_nodes

@@ -1,5 +1,0 @@
-use Rattle.teco_law_expansion.proofs.StepWays.{steps_go_ways}
-use Rattle.teco_law_expansion.proofs.laws.steps_go_ways.Goals as goal
-
-pub returns : goal.returns
-returns c = steps_go_ways

@@ -1,5 +1,0 @@
-use Rattle.teco_law_expansion.proofs.StayLoaded.{steps_keep}
-use Rattle.teco_law_expansion.proofs.laws.steps_keep.Goals as goal
-
-pub returns : goal.returns
-returns c = steps_keep

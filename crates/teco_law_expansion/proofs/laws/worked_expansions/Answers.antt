@@ -1,5 +1,0 @@
-use Rattle.teco_law_expansion.proofs.Worked.{worked_expansions}
-use Rattle.teco_law_expansion.proofs.laws.worked_expansions.Goals as goal
-
-pub returns : goal.returns
-returns c = worked_expansions

@@ -1,5 +1,0 @@
-use Rattle.teco_law_facts.proofs.Whole.{whole_is_kept}
-use Rattle.teco_law_facts.proofs.laws.whole_is_kept.Goals as goal
-
-pub returns : goal.returns
-returns c = whole_is_kept

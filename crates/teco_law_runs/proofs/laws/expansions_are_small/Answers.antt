@@ -1,0 +1,5 @@
+use Rattle.teco_law_runs.proofs.Linking.{expansions_are_small}
+use Rattle.teco_law_runs.proofs.laws.expansions_are_small.Goals as goal
+
+pub returns : goal.returns
+returns c = expansions_are_small

@@ -1,0 +1,20 @@
+-- The laws of runs: a run of a macro stands at the nodes of its expansion; it keeps what is whole, and has one end.
+pub mod Turns
+pub mod Was
+pub mod Steps
+pub mod Loaded
+pub mod Linked
+pub mod Iterations
+pub mod Places
+pub mod Ends
+pub mod Leading
+pub mod Run
+pub mod Alike
+pub mod Given
+pub mod Wholeness
+pub mod Staying
+pub mod Ending
+pub mod Ready
+pub mod Sure
+pub mod Keeping
+pub mod Rows

@@ -1,5 +1,0 @@
-use Rattle.teco_law_tables.proofs.Staying.{files_stay_open}
-use Rattle.teco_law_tables.proofs.laws.files_stay_open.Goals as goal
-
-pub returns : goal.returns
-returns c = files_stay_open

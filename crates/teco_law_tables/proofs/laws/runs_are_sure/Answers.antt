@@ -1,5 +1,0 @@
-use Rattle.teco_law_tables.proofs.Sure.{runs_are_sure}
-use Rattle.teco_law_tables.proofs.laws.runs_are_sure.Goals as goal
-
-pub returns : goal.returns
-returns c = runs_are_sure

@@ -1,5 +1,0 @@
-use Rattle.teco_law_tables.proofs.Sure.{runs_end_once}
-use Rattle.teco_law_tables.proofs.laws.runs_end_once.Goals as goal
-
-pub returns : goal.returns
-returns c = runs_end_once

@@ -1,5 +1,0 @@
-use Rattle.teco_law_tables.proofs.Keeping.{runs_leave_open}
-use Rattle.teco_law_tables.proofs.laws.runs_leave_open.Goals as goal
-
-pub returns : goal.returns
-returns c = runs_leave_open

@@ -1,5 +1,0 @@
-use Rattle.teco_pages.proofs.Fitting.{notes_fit}
-use Rattle.teco_pages.proofs.laws.notes_fit.Goals as goal
-
-pub returns : goal.returns
-returns c = notes_fit
