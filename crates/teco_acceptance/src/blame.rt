@@ -7,7 +7,9 @@ use std::alloc::{AllocError, Global};
 use std::fmt;
 use std::io::Write;
 use teco_base::Reg;
-use teco_console::{AnswerFault, Console, Edition, Grouped, Outcome, Premise, Sourced, Voice};
+use teco_console::{
+    AnswerFault, Console, Edition, Grouped, Outcome, Premise, Setting, Sourced, Voice,
+};
 use teco_explain::position_in;
 use teco_poly::Poly;
 use teco_promise::Promise;
@@ -174,28 +176,39 @@ pub fn tell_premise<E: Write + Drop>(
     Ok(())
 }
 
-// What a run adds to what is held, as a number of characters.
-fn growth(alloc: Global, size: &Poly) -> Result<String, AllocError> {
-    match size.sub(&Poly::variable()) {
-        Some(more) if more == Poly::number(0) => String::from_str(alloc, "no"),
-        Some(more) => format!(in alloc; "at most {}", more.print(alloc)?),
-        None => String::from_str(alloc, "few"),
+// How much longer the text gets, in words behind those on commands; none where that is not known, or
+// where pages are written, which are no longer held.
+fn growth(alloc: Global, promise: &Promise<'_>) -> Result<String, AllocError> {
+    match promise.grows() {
+        Some(_) if promise.needs().output => Ok(String::new(alloc)),
+        None => Ok(String::new(alloc)),
+        Some(most) if most == Poly::number(0) => {
+            String::from_str(alloc, "; the text gets no longer")
+        }
+        Some(most) if most == Poly::number(1) => {
+            String::from_str(alloc, "; the text gets at most 1 character longer")
+        }
+        Some(most) => {
+            format!(in alloc;
+                "; the text gets at most {} characters longer",
+                most.print(alloc)?
+            )
+        }
     }
 }
 
-/// Says what is promised of a macro, in one line.
+/// Says what is promised of a macro, in one line, where registers are set first.
 pub fn tell_promise<E: Write + Drop>(
     voice: &mut Voice<E>,
     promise: &Promise<'_>,
+    settings: &[Setting],
 ) -> Result<(), AllocError> {
     let alloc = voice.alloc();
     let name = char::from(promise.entry().name());
     let commands = promise.commands().print(alloc)?;
-    let growth = growth(alloc, &promise.size())?;
-    let premise = Premise::of_promise(promise);
-    voice.say(format_args!(
-        "{name} ends within {commands} commands and adds {growth} characters; that {premise}"
-    ));
+    let growth = growth(alloc, promise)?;
+    let premise = Premise::with_settings(promise, settings);
+    voice.say(format_args!("{name} ends within {commands} commands{growth}; that {premise}"));
     Ok(())
 }
 

@@ -64,7 +64,7 @@ where
         return refuse_empty(console, sourced, accepted);
     }
     if task.tells_promise {
-        tell_promise(&mut console.voice, &promise)?;
+        tell_promise(&mut console.voice, &promise, task.start.settings)?;
     }
     let job = Job {
         alloc: console.alloc,

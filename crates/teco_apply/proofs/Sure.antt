@@ -8,7 +8,7 @@ use Rattle.teco_apply.proofs.Prelude.{Holdings, Joined}
 use Rattle.std.proofs.Common.{ℤ, pos, negsuc, get_or}
 use Rattle.std.specs.List.{sum_by}
 use Rattle.std.proofs.lemmas.List.Sums.{sum_by-cons}
-use Rattle.teco_apply.specs.Sure.{IsTaken, IsThere, Runs, TypesWithin}
+use Rattle.teco_apply.specs.Sure.{GrowsWithin, IsTaken, IsThere, Runs, TypesWithin}
 use Rattle.teco_base.specs.Register.{register_name}
 use Rattle.teco_law_runs.specs.Given.{call_given}
 use Rattle.teco_model.specs.Macros.{IsAsked, Needs}
@@ -24,7 +24,7 @@ use Rattle.teco_model.specs.Paging.{unread_of}
 use Rattle.teco_law_runs.specs.Keeping.{LeavesOpen, RunsLeaveOpen}
 use Rattle.teco_law_runs.specs.Sure.{ComesTo, RunsAreSure, RunsEndOnce}
 use Rattle.teco_law_runs.specs.Ready as beginning
-use Rattle.teco_promise.specs.Promise.{EachRunEnds, EndsTyping, IsTypedWithin, most_typed}
+use Rattle.teco_promise.specs.Promise.{EachRunEnds, EndsInBounds, IsWithin, held_of, most_with}
 
 -- ---- N
 -- one of some pairs holds no more than all
@@ -81,11 +81,19 @@ pub name_small : (r : ℕ) → r < REGISTERS → register_name r < 256
 name_small r small = grind (arith, nat_tests)
 
 -- what comes to that end has typed no more
-typed_at : (typed : Option ℕ) (n : ℕ) (end : World) (answer : Stop) (new : World) → IsTypedWithin typed end.kept
+typed_at : (typed : Option ℕ) (n : ℕ) (end : World) (answer : Stop) (new : World)
+    → IsWithin typed (length end.kept.typed)
     → ComesTo n end answer new → TypesWithin typed answer new
 typed_at typed n end (stop.Ended m) new within comes =
-    subst (λ (w : World). IsTypedWithin typed w.kept) (sym comes.1) within
+    subst (λ (w : World). IsWithin typed (length w.kept.typed)) (sym comes.1) within
 typed_at typed n end answer new within comes = tt
+
+-- and holds no more
+grown_at : (held : Option ℕ) (n : ℕ) (end : World) (answer : Stop) (new : World) → IsWithin held (held_of end)
+    → ComesTo n end answer new → GrowsWithin held answer new
+grown_at held n end (stop.Ended m) new within comes =
+    subst (λ (w : World). IsWithin held (held_of w)) (sym comes.1) within
+grown_at held n end answer new within comes = tt
 
 module _ (laws : Laws) (call : PromisedCall) (kept : Kept) (held : Held) (is : IsCalled call kept held)
     (files : HostFiles)
@@ -110,14 +118,16 @@ module _ (laws : Laws) (call : PromisedCall) (kept : Kept) (held : Held) (is : I
 
   -- with an argument that is asked for
   ends : (given : Option ℕ) → IsAsked call.promise.argument given
-      → EndsTyping (start (call_given call.promise.entry given) now) (value call.promise.commands (n_of now))
-      (most_typed call.promise.types (n_of now) (length kept.typed))
+      → EndsInBounds (start (call_given call.promise.entry given) now) (value call.promise.commands (n_of now))
+      (most_with call.promise.grows (n_of now) (held_of now))
+      (most_with call.promise.types (n_of now) (length kept.typed))
   ends given asked = is.sound given now asked entered opened_there
 
   pub ends_with : (given : Option ℤ) → IsTaken call.promise.argument given
-      → EndsTyping (start (call_text call.promise.entry given) (world kept held files))
+      → EndsInBounds (start (call_text call.promise.entry given) (world kept held files))
       (value call.promise.commands (n_of (world kept held files)))
-      (most_typed call.promise.types (n_of (world kept held files)) (length kept.typed))
+      (most_with call.promise.grows (n_of (world kept held files)) (held_of (world kept held files)))
+      (most_with call.promise.types (n_of (world kept held files)) (length kept.typed))
   ends_with None taken = ends None taken
   ends_with (Some (pos n)) taken = ends (Some n) taken
   ends_with (Some (negsuc n)) taken = absurd taken
@@ -140,10 +150,20 @@ module _ (laws : Laws) (call : PromisedCall) (kept : Kept) (held : Held) (is : I
 
   pub is_typed : (answer : Stop) (new : World)
       → Stops (start (call_text call.promise.entry call.given) (world kept held files)) MOST answer new
-      → TypesWithin (most_typed call.promise.types (n_of (world kept held files)) (length kept.typed)) answer new
+      → TypesWithin (most_with call.promise.types (n_of (world kept held files)) (length kept.typed)) answer new
   is_typed answer new stops =
       let found = ends_with call.given is.taken in
       typed_at _ found.ends.steps found.ends.new answer new found.types
+      (laws.once (start (call_text call.promise.entry call.given) (world kept held files)) found.ends.steps MOST
+      found.ends.new answer new found.ends.ends (omega (arith, found.ends.few, ready.counts)) stops)
+
+  pub is_grown : (answer : Stop) (new : World)
+      → Stops (start (call_text call.promise.entry call.given) (world kept held files)) MOST answer new
+      → GrowsWithin (most_with call.promise.grows (n_of (world kept held files)) (held_of (world kept held files)))
+      answer new
+  is_grown answer new stops =
+      let found = ends_with call.given is.taken in
+      grown_at _ found.ends.steps found.ends.new answer new found.at_the_end
       (laws.once (start (call_text call.promise.entry call.given) (world kept held files)) found.ends.steps MOST
       found.ends.new answer new found.ends.ends (omega (arith, found.ends.few, ready.counts)) stops)
 
@@ -156,6 +176,7 @@ surely laws call kept held is files bytes answer new same stops = record {
   stops = stops;
   sure = λ ready. is_sure laws call kept held is files bytes same ready answer new stops;
   keeps = λ ready. is_left_open laws call kept held is files bytes same ready answer new stops;
+  grows = λ ready. is_grown laws call kept held is files bytes same ready answer new stops;
   types = λ ready. is_typed laws call kept held is files bytes same ready answer new stops;
 }
 

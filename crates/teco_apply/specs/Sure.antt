@@ -13,7 +13,7 @@ use Rattle.teco_law_runs.specs.Keeping.{LeavesOpen}
 use Rattle.teco_law_runs.specs.Ready.{n_of}
 use Rattle.teco_hosts.specs.Held.{Held}
 use Rattle.teco_poly.specs.Polynomial.{value}
-use Rattle.teco_promise.specs.Promise.{IsTypedWithin, Promise, most_typed}
+use Rattle.teco_promise.specs.Promise.{IsWithin, Promise, held_of, most_with}
 use Rattle.teco_apply.specs.declared.ready.NotReady.{NotReady}
 use Rattle.teco_apply.specs.declared.ready.NotReady.TheVariants.{NoInput, NoOutput, Argument, Memory}
 
@@ -54,20 +54,27 @@ pub record IsReady (promise : Promise) (world : World) : Type 0 where
 
 -- at its end no more bytes are typed than that
 abbrev pub TypesWithin : Option ℕ → Stop → World → Type 0
-TypesWithin typed (stop.Ended n) new = IsTypedWithin typed new.kept
+TypesWithin typed (stop.Ended n) new = IsWithin typed (length new.kept.typed)
 TypesWithin typed answer new = ⊤
 
+-- and no more is in the buffer and unread
+abbrev pub GrowsWithin : Option ℕ → Stop → World → Type 0
+GrowsWithin held (stop.Ended n) new = IsWithin held (held_of new)
+GrowsWithin held answer new = ⊤
+
 -- The macro is called as the command machine does it, with an argument that it takes. Where it is ready, it is sure to
--- end within the printed number of commands, and at its end the files are as open as they were, no more is unread, and
--- no more bytes are typed than are told.
+-- end within the printed number of commands, and at its end the files are as open as they were, no more is unread, the
+-- text has got no longer, and no more bytes are typed, than is told.
 pub record Calls (call : PromisedCall) (answer : Stop) (old new : World) : Type 0 where
   pub taken : TakesArgument call
   pub stops : Stops (start (call_text call.promise.entry call.given) old) MOST answer new
   pub sure : IsReady call.promise old → IsSure (value call.promise.commands (n_of old)) answer
   pub keeps : IsReady call.promise old → LeavesOpen answer old.files new.files
+  pub grows :
+      IsReady call.promise old → GrowsWithin (most_with call.promise.grows (n_of old) (held_of old)) answer new
   pub types :
       IsReady call.promise old
-      → TypesWithin (most_typed call.promise.types (n_of old) (length old.kept.typed)) answer new
+      → TypesWithin (most_with call.promise.types (n_of old) (length old.kept.typed)) answer new
 
 -- the macro is called where the library is loaded first
 abbrev pub Runs : PromisedCall → Stop → World → World → Type 0

@@ -1,15 +1,15 @@
-//! Editing the first page of a file by a verified macro.
+//! Editing the first page of a file by a promised macro.
 ghost use Rattle.std.specs.Prelude.{◌≡◌, ◌≤◌, ◌↔◌, Err, length, false};
 ghost use Rattle.teco_apply.specs.Apply.{Applied, EditCounts};
-ghost use Rattle.teco_apply.specs.Sure.{IsTaken};
+ghost use Rattle.teco_apply.specs.Sure.{TakesArgument};
 ghost use Rattle.teco_apply.specs.Touched.{EditTouches};
 ghost use Rattle.teco_run.specs.Holdings.{Joined};
 ghost use Rattle.teco_session.specs.Answers.{Said};
 ghost use Rattle.teco_session.specs.declared.fault.SessionFault.TheVariants as fault;
-ghost use Rattle.teco_verify.specs.Promised.{promise_of};
 
 use crate::by_pages::{Edit, dropped, edit_file};
 use crate::guard::Willing;
+use crate::run::PromisedCall;
 use std::alloc::Global;
 use std::io::Write;
 use teco_hosts::Host;
@@ -17,7 +17,6 @@ use teco_options::{NAME, PageChoice};
 use teco_run::Machine;
 use teco_session::{Done, SessionFault};
 use teco_text::TextStore;
-use teco_verify::Verified;
 
 // What was done.
 fn said(line: Result<bool, SessionFault>) -> Result<Done, SessionFault>
@@ -29,7 +28,7 @@ fn said(line: Result<bool, SessionFault>) -> Result<Done, SessionFault>
     }
 }
 
-/// Edits a file by a verified macro into another file, over the files of a host: both are opened
+/// Edits a file by a macro of which a promise is given into another file, over the files of a host: both are opened
 /// and the first page is read, the macro is run, and the rest is copied and the output closed. What
 /// each of these runs types is written behind it, and its code line. After the first code no more
 /// is run, and the output is dropped.
@@ -43,11 +42,10 @@ fn said(line: Result<bool, SessionFault>) -> Result<Done, SessionFault>
 /// # Errors
 ///
 /// A fault of the writer, or `Memory` for the first command string.
-pub fn apply<T: TextStore, H: Host, W: Write>(
+pub fn apply_promised<T: TextStore, H: Host, W: Write>(
     alloc: Global,
     machine: &mut Machine<T>,
-    verified: &Verified<'_>,
-    given: Option<i32>,
+    call: &PromisedCall<'_>,
     source: &[u8],
     target: &[u8],
     host: &mut H,
@@ -55,25 +53,24 @@ pub fn apply<T: TextStore, H: Host, W: Write>(
 ) -> Result<Done, SessionFault>
     requires source { length source.now ≤ NAME }
     requires target { length target.now ≤ NAME }
-    ensures edits { Joined (λ old new. Applied (record { promise = promise_of verified.now; given = given })
+    ensures edits { Joined (λ old new. Applied call.now
         source.now target.now old new
         (H.failures host.old) (H.failures host.new)
         (W.contents writer.old) (W.contents writer.new) result)
         machine.old machine.new (H.files host.old) (H.files host.new) }
-    ensures touches { EditTouches (record { promise = promise_of verified.now; given = given })
+    ensures touches { EditTouches call.now
         source.now target.now result
         machine.old machine.new (H.files host.old) (H.files host.new) }
     ensures argument { (result ≡ Err fault.Argument)
-        ↔ (¬ IsTaken verified.now.fields.argument given) }
+        ↔ (¬ TakesArgument call.now) }
     ensures counted { EditCounts result (H.failures host.old) (H.failures host.new) }
 {
-    let promise = verified.promise();
     let edit = Edit {
         alloc,
-        promise: &promise,
+        promise: call.promise,
         source,
         target,
-        given,
+        given: call.given,
         pages: PageChoice::First,
         guard: &Willing,
     };

@@ -6,7 +6,6 @@ ghost use Rattle.teco_apply.specs.Touched.{IsReadyLoaded, TouchesNone};
 ghost use Rattle.teco_model.specs.Macros.{IsLoaded};
 ghost use Rattle.teco_model.specs.Run.{StopCounts};
 ghost use Rattle.teco_run.specs.Holdings.{Joined};
-ghost use Rattle.teco_verify.specs.Promised.{promise_of};
 
 use crate::ready::NotReady;
 use arrayvec::ArrayVec;
@@ -19,7 +18,6 @@ use teco_model::Stop;
 use teco_promise::Promise;
 use teco_run::{Machine, Stopped};
 use teco_text::TextStore;
-use teco_verify::Verified;
 
 /// What is promised of a macro, and the argument that it is given.
 #[derive(Drop)]
@@ -121,7 +119,14 @@ pub fn make_ready<T: TextStore>(
     Ok(())
 }
 
-/// Runs a macro of which a promise is given, with an argument, or with none, as `run_verified` does.
+/// Runs a macro of which a promise is given, by either edition of the rules, with an argument, or with
+/// none, over the files of a host: the texts of its library are loaded into their registers, and the
+/// macro is called without a limit of steps. A refusal leaves all as it is.
+///
+/// Where the printed size at N fits, and the printed number of commands is one of 64 bits, it comes
+/// to its end within that number of commands, and never to a code, its text gets no longer and it types
+/// no more bytes than is promised; or want of memory stops it, or the host. N is what is held and what
+/// is unread once the library is loaded.
 ///
 /// # Errors
 ///
@@ -147,96 +152,4 @@ pub fn run_promised<T: TextStore, H: Host>(
 {
     make_ready(machine, call)?;
     Ok(call_promised(machine, call, host).stop)
-}
-
-/// Runs a verified macro that takes no argument, over the files of a host: the texts of its library
-/// are loaded into their registers, and the macro is called without a limit of steps. A refusal
-/// leaves all as it is.
-///
-/// Where the printed size at N fits, and the printed number of commands is one of 64 bits, it comes
-/// to its end within that number of commands, and never to a code; or want of memory stops it, or
-/// the host. N is what is held and what is unread once the library is loaded.
-///
-/// # Errors
-///
-/// `NotReady`, as at `run_promised`.
-///
-/// # Examples
-///
-/// ```
-/// fn types_bnn(
-///     machine: &mut Machine<GapText>,
-///     verified: &Verified<'_>,
-///     host: &mut MemHost,
-/// ) -> Option<bool> {
-///     machine.run(b"Ibanana\x1b", 100, host);
-///     let stop = run_verified(machine, verified, host).ok()?;
-///     let typed = machine.take_typed();
-///     Some(matches!(stop, Stop::Ended { .. }) && typed.as_slice() == b"bnn".as_slice())
-/// }
-///
-/// fn runs_a_verified_macro(alloc: Global) -> Option<bool> {
-///     let library = Library::read(alloc, b"@^UA/J<:Sa\x1b;-D>HT/").ok()?;
-///     let verified = verify(alloc, &library, Reg::of(b'A')?).ok()?;
-///     let mut machine = Box::new(alloc, Machine::new(alloc, GapText::new(alloc))).ok()?;
-///     types_bnn(machine.as_mut(), &verified, &mut MemHost::new(alloc))
-/// }
-/// ```
-pub fn run_verified<T: TextStore, H: Host>(
-    machine: &mut Machine<T>,
-    verified: &Verified<'_>,
-    host: &mut H,
-) -> Result<Stop, NotReady>
-    ensures answer { Answers (record { promise = promise_of verified.now; given = None })
-        machine.old.held result }
-    ensures runs { IfOk result (λ stop. Joined
-        (Runs (record { promise = promise_of verified.now; given = None }) stop)
-        machine.old machine.new (H.files host.old) (H.files host.new)) }
-    ensures counted { IfOk result (λ stop. StopCounts stop
-        (H.failures host.old) (H.failures host.new)) }
-    ensures machine { OnErr result (machine.new ≡ machine.old) }
-    ensures host { OnErr result (host.new ≡ host.old) }
-    ensures touches { IfOk result (λ _. TouchesNone
-        (IsReadyLoaded (record { promise = promise_of verified.now; given = None }))
-        machine.old machine.new (H.files host.old) (H.files host.new)) }
-{
-    let promise = verified.promise();
-    let call = PromisedCall {
-        promise: &promise,
-        given: None,
-    };
-    run_promised(machine, &call, host)
-}
-
-/// Runs a verified macro that takes an argument, which stands before the call. Any argument will do
-/// that is in the range for which the macro was verified.
-///
-/// # Errors
-///
-/// `NotReady`, as at `run_promised`.
-pub fn run_verified_with<T: TextStore, H: Host>(
-    machine: &mut Machine<T>,
-    verified: &Verified<'_>,
-    n: i32,
-    host: &mut H,
-) -> Result<Stop, NotReady>
-    ensures answer { Answers (record { promise = promise_of verified.now; given = Some n })
-        machine.old.held result }
-    ensures runs { IfOk result (λ stop. Joined
-        (Runs (record { promise = promise_of verified.now; given = Some n }) stop)
-        machine.old machine.new (H.files host.old) (H.files host.new)) }
-    ensures counted { IfOk result (λ stop. StopCounts stop
-        (H.failures host.old) (H.failures host.new)) }
-    ensures machine { OnErr result (machine.new ≡ machine.old) }
-    ensures host { OnErr result (host.new ≡ host.old) }
-    ensures touches { IfOk result (λ _. TouchesNone
-        (IsReadyLoaded (record { promise = promise_of verified.now; given = Some n }))
-        machine.old machine.new (H.files host.old) (H.files host.new)) }
-{
-    let promise = verified.promise();
-    let call = PromisedCall {
-        promise: &promise,
-        given: Some(n),
-    };
-    run_promised(machine, &call, host)
 }

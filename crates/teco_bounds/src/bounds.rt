@@ -1,7 +1,7 @@
 //! Bounds on the differences of a few symbols.
 use crate::numbers::{ceiling, floor, plus};
 use crate::units::Units;
-use std::alloc::{AllocError, Global};
+use crate::workspace::Workspace;
 use teco_linear::{Difference, Form, Term};
 
 // No bound.
@@ -35,6 +35,24 @@ struct Sum {
     minus: Units,
 }
 
+impl Sum {
+    // Adds a number; says whether the sum fits.
+    fn add_number(&mut self, number: i64) -> bool {
+        let sum = self.number.checked_add(number);
+        self.number = sum.unwrap_or(0);
+        sum.is_some()
+    }
+
+    // Adds a symbol's units, or takes them away; says whether there is room.
+    fn add_units(&mut self, place: usize, times: i64) -> bool {
+        if times > 0 {
+            self.plus.add(place, times.unsigned_abs())
+        } else {
+            self.minus.add(place, times.unsigned_abs())
+        }
+    }
+}
+
 impl RestOfForm<'_> {
     fn leaves_out(&self, term: &Term) -> bool {
         let [first, second] = self.without;
@@ -52,25 +70,24 @@ impl RestOfForm<'_> {
 }
 
 impl Bounds {
-    pub fn none(alloc: Global) -> Result<Bounds, AllocError> {
-        let table = Vec::from_elem(alloc, 0i64, 1)?;
-        Ok(Bounds {
-            symbols: Vec::new(alloc),
-            table,
+    pub fn none(space: &mut Workspace) -> Bounds {
+        Bounds {
+            symbols: Vec::new(space.alloc),
+            table: space.repeated(0, 1),
             is_void: false,
             is_rough: false,
             is_exact: false,
-        })
+        }
     }
 
-    pub fn copied(&self, alloc: Global) -> Result<Bounds, AllocError> {
-        Ok(Bounds {
-            symbols: Vec::from_slice(alloc, &self.symbols)?,
-            table: Vec::from_slice(alloc, &self.table)?,
+    pub fn copied(&self, space: &mut Workspace) -> Bounds {
+        Bounds {
+            symbols: space.listed(&self.symbols),
+            table: space.listed(&self.table),
             is_void: self.is_void,
             is_rough: self.is_rough,
             is_exact: self.is_exact,
-        })
+        }
     }
 
     // Whether nothing is within the bounds.
@@ -145,58 +162,56 @@ impl Bounds {
         }
     }
 
-    // The bounds of these symbols, in this order. There are none of a symbol that has no row.
-    pub fn of_symbols(&self, symbols: &[u32], alloc: Global) -> Result<Bounds, AllocError> {
-        let mut rows = Vec::new(alloc);
-        rows.push(0usize).map_err(AllocError::from)?;
+    // The rows of 0 and of these symbols.
+    fn rows_of(&self, symbols: &[u32], space: &mut Workspace) -> Vec<usize> {
+        let mut rows = Vec::new(space.alloc);
+        space.push(&mut rows, 0);
         for symbol in symbols {
             let row = self.place(Some(*symbol)).unwrap_or(usize::MAX);
-            rows.push(row).map_err(AllocError::from)?;
+            space.push(&mut rows, row);
         }
-        let mut table = Vec::with_capacity(alloc, rows.len().saturating_mul(rows.len()))?;
-        for (row, from) in rows.iter().enumerate() {
-            for (column, to) in rows.iter().enumerate() {
-                let most = if row == column {
-                    0
-                } else {
-                    self.at(*from, *to)
-                };
-                table.push(most).map_err(AllocError::from)?;
-            }
-        }
-        Ok(Bounds {
-            symbols: Vec::from_slice(alloc, symbols)?,
-            table,
+        rows
+    }
+
+    // The bounds of these symbols, in this order. There are none of a symbol that has no row.
+    pub fn of_symbols(&self, symbols: &[u32], space: &mut Workspace) -> Bounds {
+        let rows = self.rows_of(symbols, space);
+        let size = rows.len();
+        let mut bounds = Bounds {
+            symbols: space.listed(symbols),
+            table: space.repeated(0, size.saturating_mul(size)),
             is_void: self.is_void,
             is_rough: self.is_rough,
             is_exact: self.is_exact,
-        })
+        };
+        for (row, from) in rows.iter().enumerate() {
+            for (column, to) in rows.iter().enumerate() {
+                if row != column {
+                    bounds.set(row, column, self.at(*from, *to));
+                }
+            }
+        }
+        bounds
     }
 
     // Makes the row and the column of a symbol, where there are none.
-    fn make(&mut self, symbol: Option<u32>, alloc: Global) -> Result<(), AllocError> {
-        let Some(symbol) = symbol else {
-            return Ok(());
-        };
+    fn make(&mut self, symbol: u32, space: &mut Workspace) {
         if self.symbols.contains(&symbol) {
-            return Ok(());
+            return;
         }
         let size = self.size();
-        let more = size.saturating_add(1);
-        let mut table = Vec::with_capacity(alloc, more.saturating_mul(more))?;
+        let mut table = Vec::new(space.alloc);
         for row in 0..size {
             let first = row.saturating_mul(size);
-            if let Some(bounds) = self.table.get(first..first.saturating_add(size)) {
-                table.extend_from_slice(bounds)?;
-            }
-            table.push(NONE).map_err(AllocError::from)?;
+            let bounds = self.table.get(first..first.saturating_add(size));
+            space.extend(&mut table, bounds.unwrap_or(&[]));
+            space.push(&mut table, NONE);
         }
-        for _ in 0..size {
-            table.push(NONE).map_err(AllocError::from)?;
-        }
-        table.push(0).map_err(AllocError::from)?;
+        let last = space.repeated(NONE, size);
+        space.extend(&mut table, &last);
+        space.push(&mut table, 0);
         self.table = table;
-        self.symbols.push(symbol).map_err(AllocError::from)
+        space.push(&mut self.symbols, symbol);
     }
 
     // Lowers all bounds by one, in rows that there are. A row stays where the bound does not lower what
@@ -236,6 +251,18 @@ impl Bounds {
         }
     }
 
+    // Adds a term to a sum; says whether that may be: it is no product, and of a symbol that is bounded.
+    fn add_term(&self, sum: &mut Sum, term: &Term, coefficient: i64) -> bool {
+        if term.power > 0 {
+            return term.symbol.is_none() && coefficient >= 0;
+        }
+        match self.place(term.symbol) {
+            Some(0) => sum.add_number(coefficient),
+            Some(place) => sum.add_units(place, coefficient),
+            None => false,
+        }
+    }
+
     // What a part adds up, if its units are few and are of symbols that are bounded.
     fn sum(&self, part: &RestOfForm<'_>) -> Option<Sum> {
         let mut sum = Sum {
@@ -248,22 +275,8 @@ impl Bounds {
                 continue;
             }
             let coefficient = part.coefficient(term)?;
-            match term.symbol {
-                None if term.power == 0 => sum.number = sum.number.checked_add(coefficient)?,
-                None if coefficient >= 0 => {}
-                None => return None,
-                Some(_) if term.power > 0 => return None,
-                Some(_) => {
-                    let place = self.place(term.symbol)?;
-                    let units = if coefficient > 0 {
-                        &mut sum.plus
-                    } else {
-                        &mut sum.minus
-                    };
-                    if !units.add(place, coefficient.unsigned_abs()) {
-                        return None;
-                    }
-                }
+            if !self.add_term(&mut sum, term, coefficient) {
+                return None;
             }
         }
         if sum.plus.count().saturating_add(sum.minus.count()) > crate::units::MOST {
@@ -272,33 +285,36 @@ impl Bounds {
         Some(sum)
     }
 
+    // What a term is at the least by the bounds of its symbol alone.
+    fn least_of_term(&self, term: &Term, coefficient: i64) -> Option<i64> {
+        if term.symbol.is_none() {
+            let least = if term.power == 0 { coefficient } else { 0 };
+            return if least <= coefficient {
+                Some(least)
+            } else {
+                None
+            };
+        }
+        let place = self.place(term.symbol)?;
+        let bound = if coefficient > 0 {
+            self.at(0, place)
+        } else {
+            self.at(place, 0)
+        };
+        if bound == NONE || term.power > 0 {
+            return None;
+        }
+        coefficient.checked_abs()?.checked_mul(bound)?.checked_neg()
+    }
+
     // What a part is at the least by the bounds of each symbol alone.
     fn least_of_each(&self, part: &RestOfForm<'_>) -> Option<i64> {
         let mut least = 0i64;
         for term in part.form.terms() {
-            if part.leaves_out(term) {
-                continue;
+            if !part.leaves_out(term) {
+                let own = self.least_of_term(term, part.coefficient(term)?)?;
+                least = least.checked_add(own)?;
             }
-            let coefficient = part.coefficient(term)?;
-            if term.symbol.is_none() {
-                if term.power == 0 {
-                    least = least.checked_add(coefficient)?;
-                } else if coefficient < 0 {
-                    return None;
-                }
-                continue;
-            }
-            let place = self.place(term.symbol)?;
-            let bound = if coefficient > 0 {
-                self.at(0, place)
-            } else {
-                self.at(place, 0)
-            };
-            if bound == NONE || term.power > 0 {
-                return None;
-            }
-            let times = i64::try_from(coefficient.unsigned_abs()).ok()?;
-            least = least.checked_sub(times.checked_mul(bound)?)?;
         }
         Some(least)
     }
@@ -382,26 +398,26 @@ impl Bounds {
     }
 
     // Takes it that a form is at least 0.
-    pub fn add(&mut self, form: &Form, alloc: Global) -> Result<(), AllocError> {
+    pub fn add(&mut self, form: &Form, space: &mut Workspace) {
         for term in form.terms() {
-            self.make(term.symbol, alloc)?;
+            if let Some(symbol) = term.symbol {
+                self.make(symbol, space);
+            }
         }
         if self.is_void {
-            return Ok(());
+            return;
         }
         match Difference::of(form) {
             Some(difference) => self.add_difference(&difference),
             None => self.add_other(form),
         }
-        Ok(())
     }
 
     // Takes it that forms are at least 0.
-    pub fn add_all(&mut self, forms: &[Form], alloc: Global) -> Result<(), AllocError> {
+    pub fn add_all(&mut self, forms: &[Form], space: &mut Workspace) {
         for form in forms {
-            self.add(form, alloc)?;
+            self.add(form, space);
         }
-        Ok(())
     }
 
     // Takes it of a form that is no difference, if it says something.

@@ -1,9 +1,7 @@
 //! What the search notes of paths on the way.
-use crate::fault::{SearchRefusal, SearchStop};
-use crate::trail::Trail;
+use crate::workspace::{Stop, Workspace};
 use std::alloc::Global;
 use teco_linear::Form;
-use teco_rows::applied::{copied, copied_constraints};
 
 // The most constraints that are copied.
 const MOST_COPIES: usize = 200_000;
@@ -29,15 +27,16 @@ pub struct OpenCondition {
 }
 
 // Forms, copied.
-fn copied_forms(forms: &[Option<Form>], alloc: Global) -> Result<Vec<Option<Form>>, SearchStop> {
-    let mut copies: Vec<Option<Form>> = Vec::new(alloc);
+fn copied_forms(forms: &[Option<Form>], space: &mut Workspace) -> Vec<Option<Form>> {
+    let mut copies = Vec::new(space.alloc);
     for form in forms {
-        match form {
-            Some(form) => copies.push(Some(copied(form, alloc)?))?,
-            None => copies.push(None)?,
-        }
+        let copy = match form {
+            Some(form) => Some(space.copied(form)),
+            None => None,
+        };
+        space.push(&mut copies, copy);
     }
-    Ok(copies)
+    copies
 }
 
 // A node that a path has passed, behind another.
@@ -50,7 +49,6 @@ pub struct Passed {
 // What is noted, if it is to be kept.
 #[derive(Drop)]
 pub struct Record {
-    pub alloc: Global,
     pub is_kept: bool,
     pub source: usize,
     // The first symbol that is not one of those that paths from there begin with.
@@ -65,7 +63,6 @@ pub struct Record {
 impl Record {
     pub fn new(is_kept: bool, alloc: Global) -> Record {
         Record {
-            alloc,
             is_kept,
             source: 0,
             first: 0,
@@ -76,13 +73,14 @@ impl Record {
         }
     }
 
-    // Counts constraints that are copied.
-    fn count(&mut self, constraints: &[Form]) -> Result<(), SearchStop> {
+    // Copies constraints, which are counted.
+    fn copied(&mut self, constraints: &[Form], space: &mut Workspace) -> Vec<Form> {
         self.copies = self.copies.saturating_add(constraints.len());
         if self.copies > MOST_COPIES {
-            return Err(SearchStop::Refused(SearchRefusal::TooMuch));
+            space.stop(Stop::TooMuch);
+            return Vec::new(space.alloc);
         }
-        Ok(())
+        space.copied_forms(constraints)
     }
 
     // Notes a peak behind another, and tells its place.
@@ -92,67 +90,75 @@ impl Record {
         place: u32,
         form: &Form,
         constraints: &[Form],
-    ) -> Result<Option<usize>, SearchStop> {
+        space: &mut Workspace,
+    ) -> Option<usize> {
         if !self.is_kept {
-            return Ok(before);
+            return before;
         }
-        self.count(constraints)?;
-        let at = self.peaks.len();
-        self.peaks.push(Peak {
+        let peak = Peak {
             before,
             place,
-            form: copied(form, self.alloc)?,
-            constraints: copied_constraints(constraints, self.alloc)?,
-        })?;
-        Ok(Some(at))
+            constraints: self.copied(constraints, space),
+            form: space.copied(form),
+        };
+        space.push(&mut self.peaks, peak);
+        self.peaks.len().checked_sub(1)
     }
 
-    // Notes that a path passes the node that a trail has come to, and tells the place of that.
-    pub fn pass(&mut self, trail: &Trail) -> Result<Option<usize>, SearchStop> {
+    // The peak in a place, if there is one.
+    pub fn peak_at(&self, at: Option<usize>) -> Option<(usize, &Peak)> {
+        let place = at?;
+        Some((place, self.peaks.get(place)?))
+    }
+
+    // Notes that a path passes a node behind another, and tells the place of that.
+    pub fn pass(
+        &mut self,
+        before: Option<usize>,
+        number: usize,
+        space: &mut Workspace,
+    ) -> Option<usize> {
         if !self.is_kept {
-            return Ok(None);
+            return None;
         }
-        let at = self.passed.len();
-        self.passed.push(Passed {
-            before: trail.passed,
-            number: trail.number,
-        })?;
-        Ok(Some(at))
+        space.push(&mut self.passed, Passed { before, number });
+        self.passed.len().checked_sub(1)
     }
 
     // The numbers of the nodes that a path has passed, from its first one on.
-    pub fn way(&self, last: Option<usize>, alloc: Global) -> Result<Vec<usize>, SearchStop> {
-        let mut numbers = Vec::new(alloc);
+    pub fn way(&self, last: Option<usize>, space: &mut Workspace) -> Vec<usize> {
+        let mut numbers = Vec::new(space.alloc);
         let mut at = last;
         for _ in 0..self.passed.len() {
             let Some(passed) = at.and_then(|at| self.passed.get(at)) else {
                 break;
             };
-            numbers.push(passed.number)?;
+            space.push(&mut numbers, passed.number);
             at = passed.before;
         }
         numbers.reverse();
-        Ok(numbers)
+        numbers
     }
 
-    // Notes a condition of the element that a trail has come to, which is not shown.
+    // Notes a condition of the element of a number, which is not shown, and the measures there.
     pub fn open(
         &mut self,
-        trail: &Trail,
+        number: usize,
         wanted: &Form,
         constraints: &[Form],
-    ) -> Result<(), SearchStop> {
+        forms: &[Option<Form>],
+        space: &mut Workspace,
+    ) {
         if !self.is_kept {
-            return Ok(());
+            return;
         }
-        self.count(constraints)?;
-        self.opens.push(OpenCondition {
-            number: trail.number,
+        let open = OpenCondition {
+            number,
             source: self.source,
-            wanted: copied(wanted, self.alloc)?,
-            constraints: copied_constraints(constraints, self.alloc)?,
-            forms: copied_forms(&trail.case.forms, self.alloc)?,
-        })?;
-        Ok(())
+            constraints: self.copied(constraints, space),
+            wanted: space.copied(wanted),
+            forms: copied_forms(forms, space),
+        };
+        space.push(&mut self.opens, open);
     }
 }

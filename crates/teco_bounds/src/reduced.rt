@@ -1,12 +1,11 @@
 //! Fewer constraints that say the same of the symbols that matter.
 use crate::bounds::Bounds;
-use crate::fault::SearchStop;
-use crate::keys::{equal_rows, least_forms, shifted, symbol_of};
+use crate::constraints::{equal_rows, least_forms, symbol_of};
+use crate::forms::shifted;
 use crate::numbers::common;
-use crate::programs::{Coefficient, add_form};
-use std::alloc::Global;
-use teco_linear::{Difference, Form, Scale};
-use teco_rows::applied::{copied, copied_constraints};
+use crate::programs::{Coefficient, Multiple, add_form};
+use crate::workspace::Workspace;
+use teco_linear::{Difference, Form, Scale, Term};
 
 // The most rounds of taking symbols out.
 const ROUNDS: usize = 8;
@@ -55,53 +54,50 @@ fn speaks(form: &Form) -> bool {
     form.terms().iter().any(|term| term.symbol.is_some())
 }
 
-// Whether two forms differ by a number at most, and by how much.
-fn differs_by(one: &Form, other: &Form, alloc: Global) -> Result<Option<i128>, SearchStop> {
-    if one.terms().len().abs_diff(other.terms().len()) > 1 {
-        return Ok(None);
+// By how much a form is more than another, where they differ by a number at most.
+fn excess(form: &Form, other: &Form, space: &mut Workspace) -> Option<i128> {
+    if form.terms().len().abs_diff(other.terms().len()) > 1 {
+        return None;
     }
-    let difference = one.sub(other, alloc)?;
-    Ok(match difference.terms() {
+    match space.difference(form, other).terms() {
         [] => Some(0),
         [term] if term.symbol.is_none() && term.power == 0 => Some(term.coefficient),
         _ => None,
-    })
+    }
 }
 
 // Adds a constraint, unless one that is there says as much; it takes the place of one that says less.
-fn add(forms: &mut Vec<Form>, form: Form, alloc: Global) -> Result<(), SearchStop> {
+fn add(forms: &mut Vec<Form>, form: Form, space: &mut Workspace) {
     if !speaks(&form) && form.is_harmless() {
-        return Ok(());
+        return;
     }
     for known in forms.iter_mut() {
-        if let Some(more) = differs_by(&form, known, alloc)? {
+        if let Some(more) = excess(&form, known, space) {
             if more < 0 {
                 *known = form;
             }
-            return Ok(());
+            return;
         }
     }
-    forms.push(form)?;
-    Ok(())
+    space.push(forms, form);
 }
 
-// The sum of two constraints that is without a symbol, divided by what divides its terms.
-fn without(one: &Form, other: &Form, symbol: u32, alloc: Global) -> Result<Form, SearchStop> {
+// How often a constraint is taken.
+fn times(number: u128) -> Scale {
+    Scale {
+        factor: i128::try_from(number).unwrap_or(0),
+        power: 0,
+    }
+}
+
+// The sum of two constraints that is without a symbol.
+fn without(one: &Form, other: &Form, symbol: u32, space: &mut Workspace) -> Form {
     let up = coefficient(one, symbol).unsigned_abs();
     let down = coefficient(other, symbol).unsigned_abs();
     let shared = common(up, down).max(1);
-    let first = Scale {
-        factor: i128::try_from(down / shared).unwrap_or(0),
-        power: 0,
-    };
-    let second = Scale {
-        factor: i128::try_from(up / shared).unwrap_or(0),
-        power: 0,
-    };
-    let sum = one
-        .scaled(&first, alloc)?
-        .add(&other.scaled(&second, alloc)?, alloc)?;
-    Ok(sum)
+    let first = space.scaled(one, &times(down / shared));
+    let second = space.scaled(other, &times(up / shared));
+    space.sum(&first, &second)
 }
 
 // How many constraints have a symbol with each sign.
@@ -119,78 +115,70 @@ fn counts(forms: &[Form], symbol: u32) -> (usize, usize) {
 }
 
 // Takes from constraints those that have a symbol with a sign.
-fn taken(
-    forms: &mut Vec<Form>,
-    symbol: u32,
-    sign: i128,
-    alloc: Global,
-) -> Result<Vec<Form>, SearchStop> {
-    let mut taken = Vec::new(alloc);
-    for form in std::mem::replace(forms, Vec::new(alloc)) {
+fn taken(forms: &mut Vec<Form>, symbol: u32, sign: i128, space: &mut Workspace) -> Vec<Form> {
+    let mut taken = Vec::new(space.alloc);
+    for form in std::mem::replace(forms, Vec::new(space.alloc)) {
         if coefficient(&form, symbol).signum() == sign {
-            taken.push(form)?;
+            space.push(&mut taken, form);
         } else {
-            forms.push(form)?;
+            space.push(forms, form);
         }
     }
-    Ok(taken)
+    taken
 }
 
 // Makes constraints be without a symbol.
-fn take_out(forms: &mut Vec<Form>, symbol: u32, alloc: Global) -> Result<(), SearchStop> {
-    let above = taken(forms, symbol, 1, alloc)?;
-    let below = taken(forms, symbol, -1, alloc)?;
+fn take_out(forms: &mut Vec<Form>, symbol: u32, space: &mut Workspace) {
+    let above = taken(forms, symbol, 1, space);
+    let below = taken(forms, symbol, -1, space);
     for one in &above {
         for other in &below {
-            add(forms, without(one, other, symbol, alloc)?, alloc)?;
+            let sum = without(one, other, symbol, space);
+            add(forms, sum, space);
         }
     }
-    Ok(())
-}
-
-// The symbols of constraints that are not to be kept.
-fn others(forms: &[Form], kept: &[u32], alloc: Global) -> Result<Vec<u32>, SearchStop> {
-    let mut symbols: Vec<u32> = Vec::new(alloc);
-    for form in forms {
-        for term in form.terms() {
-            if let Some(symbol) = term.symbol {
-                if !kept.contains(&symbol) && !symbols.contains(&symbol) {
-                    symbols.push(symbol)?;
-                }
-            }
-        }
-    }
-    Ok(symbols)
-}
-
-// Makes constraints be without symbols that are not kept, where that makes them no more.
-fn eliminate(forms: &mut Vec<Form>, kept: &[u32], alloc: Global) -> Result<(), SearchStop> {
-    for _ in 0..ROUNDS {
-        let mut is_less = false;
-        for symbol in others(forms, kept, alloc)? {
-            let (above, below) = counts(forms, symbol);
-            if above.saturating_mul(below) <= above.saturating_add(below) {
-                take_out(forms, symbol, alloc)?;
-                is_less = true;
-            }
-        }
-        if !is_less {
-            break;
-        }
-    }
-    Ok(())
 }
 
 // Adds the symbols of a form to others.
-pub fn add_symbols(symbols: &mut Vec<u32>, form: &Form) -> Result<(), SearchStop> {
-    for term in form.terms() {
-        if let Some(symbol) = term.symbol {
-            if !symbols.contains(&symbol) {
-                symbols.push(symbol)?;
-            }
+pub fn add_symbols(symbols: &mut Vec<u32>, form: &Form, space: &mut Workspace) {
+    for symbol in form.terms().iter().filter_map(|term| term.symbol) {
+        if !symbols.contains(&symbol) {
+            space.push(symbols, symbol);
         }
     }
-    Ok(())
+}
+
+// The symbols of constraints.
+fn all_symbols(forms: &[Form], space: &mut Workspace) -> Vec<u32> {
+    let mut symbols = Vec::new(space.alloc);
+    for form in forms {
+        add_symbols(&mut symbols, form, space);
+    }
+    symbols
+}
+
+// Makes constraints be without symbols that are not kept, where that makes them no more; says whether there was one.
+fn take_out_others(forms: &mut Vec<Form>, kept: &[u32], space: &mut Workspace) -> bool {
+    let mut is_less = false;
+    let symbols = all_symbols(forms, space);
+    for symbol in &symbols {
+        let (above, below) = counts(forms, *symbol);
+        let is_few = above.saturating_mul(below) <= above.saturating_add(below);
+        if is_few && !kept.contains(symbol) {
+            take_out(forms, *symbol, space);
+            is_less = true;
+        }
+    }
+    is_less
+}
+
+// Makes constraints be without symbols that are not kept, round by round.
+fn eliminate(forms: &mut Vec<Form>, kept: &[u32], space: &mut Workspace) {
+    for _ in 0..ROUNDS {
+        if !take_out_others(forms, kept, space) {
+            break;
+        }
+    }
 }
 
 // What stands for symbols that others are equal to, but for a number.
@@ -201,89 +189,90 @@ struct Equals {
 }
 
 impl Equals {
-    fn of(&self, symbol: u32) -> Option<&Form> {
-        for at in 0..self.symbols.len() {
-            if self.symbols.get(at) == Some(&symbol) {
-                return self.forms.get(at);
+    // The equal symbols by bounds.
+    fn of(bounds: &Bounds, space: &mut Workspace) -> Equals {
+        let mut equals = Equals {
+            symbols: Vec::new(space.alloc),
+            forms: Vec::new(space.alloc),
+        };
+        for each in &equal_rows(bounds, space).equal {
+            let form = shifted(symbol_of(bounds, each.other), each.more, space);
+            space.push(&mut equals.symbols, each.symbol);
+            space.push(&mut equals.forms, form);
+        }
+        equals
+    }
+
+    // What stands for a symbol.
+    fn at(&self, symbol: Option<u32>) -> Option<&Form> {
+        for (known, form) in self.symbols.iter().zip(self.forms.iter()) {
+            if Some(*known) == symbol {
+                return Some(form);
             }
         }
         None
     }
 
-    // A form with them in place of symbols.
-    fn put(&self, form: &Form, alloc: Global) -> Result<Form, SearchStop> {
-        let mut sum = Form::zero(alloc);
-        for term in form.terms() {
-            let scale = Scale {
-                factor: term.coefficient,
-                power: term.power,
-            };
-            let part = match term.symbol.and_then(|symbol| self.of(symbol)) {
-                Some(form) => form.scaled(&scale, alloc)?,
-                None => Form::term(*term, alloc)?,
-            };
-            sum = sum.add(&part, alloc)?;
+    // A term with it in place of its symbol.
+    fn put_term(&self, term: &Term, space: &mut Workspace) -> Form {
+        let scale = Scale {
+            factor: term.coefficient,
+            power: term.power,
+        };
+        match self.at(term.symbol) {
+            Some(form) => space.scaled(form, &scale),
+            None => space.term(*term),
         }
-        Ok(sum)
+    }
+
+    // A form with them in place of symbols.
+    fn put(&self, form: &Form, space: &mut Workspace) -> Form {
+        let mut sum = Form::zero(space.alloc);
+        for term in form.terms() {
+            let part = self.put_term(term, space);
+            sum = space.sum(&sum, &part);
+        }
+        sum
     }
 
     // Entries with them in place of symbols.
-    fn put_entries(
-        &self,
-        entries: &[Coefficient],
-        alloc: Global,
-    ) -> Result<Vec<Coefficient>, SearchStop> {
-        let mut all = Vec::new(alloc);
+    fn put_entries(&self, entries: &[Coefficient], space: &mut Workspace) -> Vec<Coefficient> {
+        let mut all = Vec::new(space.alloc);
         for entry in entries {
-            match entry.symbol.and_then(|symbol| self.of(symbol)) {
-                Some(form) => {
-                    add_form(
-                        &mut all,
-                        form,
-                        entry.power,
-                        entry.variable,
-                        entry.coefficient,
-                    )?;
-                }
-                None => all.push(*entry)?,
+            let multiple = Multiple {
+                number: entry.coefficient,
+                power: entry.power,
+                variable: entry.variable,
+            };
+            match self.at(entry.symbol) {
+                Some(form) => add_form(&mut all, form, &multiple, space),
+                None => space.push(&mut all, *entry),
             }
         }
-        Ok(all)
+        all
     }
 
     // What constraints say with them in place of symbols.
-    fn put_forms(&self, constraints: &[Form], alloc: Global) -> Result<Vec<Form>, SearchStop> {
-        let mut forms: Vec<Form> = Vec::new(alloc);
-        for form in constraints {
-            add(&mut forms, self.put(form, alloc)?, alloc)?;
+    fn put_forms(&self, constraints: &[Form], space: &mut Workspace) -> Vec<Form> {
+        let mut forms = Vec::new(space.alloc);
+        for constraint in constraints {
+            let form = self.put(constraint, space);
+            add(&mut forms, form, space);
         }
-        Ok(forms)
+        forms
     }
-}
-
-// The equal symbols by bounds.
-fn equal_symbols(bounds: &Bounds, alloc: Global) -> Result<Equals, SearchStop> {
-    let mut equals = Equals {
-        symbols: Vec::new(alloc),
-        forms: Vec::new(alloc),
-    };
-    for each in &equal_rows(bounds, alloc)?.equal {
-        let form = shifted(symbol_of(bounds, each.other), each.more, alloc)?;
-        equals.symbols.push(each.symbol)?;
-        equals.forms.push(form)?;
-    }
-    Ok(equals)
 }
 
 // What bounds of differences say of these symbols, at the least.
-fn differences(bounds: &Bounds, symbols: &[u32], alloc: Global) -> Result<Vec<Form>, SearchStop> {
-    let mut known: Vec<u32> = Vec::new(alloc);
+fn differences(bounds: &Bounds, symbols: &[u32], space: &mut Workspace) -> Vec<Form> {
+    let mut known = Vec::new(space.alloc);
     for symbol in symbols {
         if bounds.place(Some(*symbol)).is_some() {
-            known.push(*symbol)?;
+            space.push(&mut known, *symbol);
         }
     }
-    least_forms(&bounds.of_symbols(&known, alloc)?, alloc)
+    let own = bounds.of_symbols(&known, space);
+    least_forms(&own, space)
 }
 
 // A demand: that what entries add up to is implied by constraints.
@@ -301,70 +290,56 @@ pub struct Bounded {
 }
 
 impl Bounded {
-    pub fn of(
-        constraints: &[Form],
-        limits: UsedLimits,
-        alloc: Global,
-    ) -> Result<Bounded, SearchStop> {
+    pub fn of(constraints: &[Form], limits: UsedLimits, space: &mut Workspace) -> Bounded {
         let mut all = Bounded {
-            bounds: Bounds::none(alloc)?,
-            rough: Vec::new(alloc),
+            bounds: Bounds::none(space),
+            rough: Vec::new(space.alloc),
         };
-        all.add(constraints, limits, alloc)?;
-        Ok(all)
+        all.add(constraints, limits, space);
+        all
     }
 
-    pub fn copied(&self, alloc: Global) -> Result<Bounded, SearchStop> {
-        Ok(Bounded {
-            bounds: self.bounds.copied(alloc)?,
-            rough: copied_constraints(&self.rough, alloc)?,
-        })
+    pub fn copied(&self, space: &mut Workspace) -> Bounded {
+        Bounded {
+            bounds: self.bounds.copied(space),
+            rough: space.copied_forms(&self.rough),
+        }
     }
 
     // Adds what more constraints say.
-    pub fn add(
-        &mut self,
-        constraints: &[Form],
-        limits: UsedLimits,
-        alloc: Global,
-    ) -> Result<(), SearchStop> {
+    pub fn add(&mut self, constraints: &[Form], limits: UsedLimits, space: &mut Workspace) {
         for form in constraints {
             if !limits.take(form) {
                 continue;
             }
             if Difference::of(form).is_some() {
-                self.bounds.add(form, alloc)?;
+                self.bounds.add(form, space);
             } else {
-                self.rough.push(copied(form, alloc)?)?;
+                let copy = space.copied(form);
+                space.push(&mut self.rough, copy);
             }
         }
-        Ok(())
     }
 }
 
 // A demand by what bounds no difference, where one symbol stands for those that are equal.
-fn rough_demand(
-    entries: &[Coefficient],
-    constraints: &Bounded,
-    alloc: Global,
-) -> Result<Demand, SearchStop> {
-    let equals = equal_symbols(&constraints.bounds, alloc)?;
-    let forms = equals.put_forms(&constraints.rough, alloc)?;
-    Ok(Demand {
-        entries: equals.put_entries(entries, alloc)?,
-        constraints: forms,
-    })
+fn rough_demand(entries: &[Coefficient], constraints: &Bounded, space: &mut Workspace) -> Demand {
+    let equals = Equals::of(&constraints.bounds, space);
+    Demand {
+        constraints: equals.put_forms(&constraints.rough, space),
+        entries: equals.put_entries(entries, space),
+    }
 }
 
 // The symbols of entries.
-fn symbols_of(entries: &[Coefficient], alloc: Global) -> Result<Vec<u32>, SearchStop> {
-    let mut symbols: Vec<u32> = Vec::new(alloc);
+fn symbols_of(entries: &[Coefficient], space: &mut Workspace) -> Vec<u32> {
+    let mut symbols = Vec::new(space.alloc);
     for symbol in entries.iter().filter_map(|entry| entry.symbol) {
         if !symbols.contains(&symbol) {
-            symbols.push(symbol)?;
+            space.push(&mut symbols, symbol);
         }
     }
-    Ok(symbols)
+    symbols
 }
 
 // Adds to constraints what bounds say of their symbols and of those that are kept. Limits may be left out.
@@ -373,18 +348,17 @@ fn add_differences(
     bounds: &Bounds,
     kept: &[u32],
     limits: UsedLimits,
-    alloc: Global,
-) -> Result<(), SearchStop> {
-    let mut symbols = Vec::from_slice(alloc, kept)?;
+    space: &mut Workspace,
+) {
+    let mut symbols = space.listed(kept);
     for form in forms.iter() {
-        add_symbols(&mut symbols, form)?;
+        add_symbols(&mut symbols, form, space);
     }
-    for form in differences(bounds, &symbols, alloc)? {
+    for form in differences(bounds, &symbols, space) {
         if limits.take(&form) {
-            add(forms, form, alloc)?;
+            add(forms, form, space);
         }
     }
-    Ok(())
 }
 
 // A demand that says as much by fewer constraints and symbols; none where the constraints can't all hold. Limits
@@ -393,17 +367,17 @@ pub fn reduced(
     entries: &[Coefficient],
     constraints: &Bounded,
     limits: UsedLimits,
-    alloc: Global,
-) -> Result<Option<Demand>, SearchStop> {
+    space: &mut Workspace,
+) -> Option<Demand> {
     let bounds = &constraints.bounds;
     if bounds.is_void() {
-        return Ok(None);
+        return None;
     }
-    let mut demand = rough_demand(entries, constraints, alloc)?;
-    let kept = symbols_of(&demand.entries, alloc)?;
-    add_differences(&mut demand.constraints, bounds, &kept, limits, alloc)?;
-    eliminate(&mut demand.constraints, &kept, alloc)?;
-    Ok(Some(demand))
+    let mut demand = rough_demand(entries, constraints, space);
+    let kept = symbols_of(&demand.entries, space);
+    add_differences(&mut demand.constraints, bounds, &kept, limits, space);
+    eliminate(&mut demand.constraints, &kept, space);
+    Some(demand)
 }
 
 // Whether two entries are the same.

@@ -180,6 +180,27 @@ impl<'a> Trial<'a> {
         )
     }
 
+    // Compares how much longer the text got with what is promised of that, where no page was written.
+    fn compare_grown(
+        &self,
+        findings: &mut Findings,
+        output: Option<&[u8]>,
+    ) -> Result<(), AllocError> {
+        let promise = self.task.promise;
+        let (Some(grows), Some(output)) = (promise.grows(), output) else {
+            return Ok(());
+        };
+        if promise.needs().output || self.task.input.contains(&FF) {
+            return Ok(());
+        }
+        let before = self.task.input.len() as u64;
+        let most = self
+            .task
+            .most(grows)
+            .map(|more| more.saturating_add(before));
+        compare_most(findings, "length", most, output.len() as u64)
+    }
+
     // Compares the bytes that the run typed with what is promised of them.
     fn compare_typed(&self, findings: &mut Findings, typed: u64) -> Result<(), AllocError> {
         match self.task.promise.types() {
@@ -218,6 +239,7 @@ impl CaseRunner for Trial<'_> {
         self.compare_names(findings, left)?;
         if ran.status == 0 {
             self.compare_typed(findings, ran.typed.len() as u64)?;
+            self.compare_grown(findings, left.files.file(TARGET))?;
         }
         self.compare_steps(findings, ran.steps)
     }

@@ -24,6 +24,7 @@ const KEYS: CaseKeys = CaseKeys {
         "rules",
         "commands",
         "size",
+        "grows",
         "types",
         "needs",
         "certificate",
@@ -38,7 +39,7 @@ const KEYS: CaseKeys = CaseKeys {
 };
 
 /// What a case tells of what its macro promises.
-const PROMISE_KEYS: &[&str] = &["commands", "size", "types", "needs", "certificate"];
+const PROMISE_KEYS: &[&str] = &["commands", "size", "grows", "types", "needs", "certificate"];
 
 /// What a case tells of a run that keeps the promise.
 const RUN_KEYS: &[&str] = &["held", "steps", "in", "typed", "out"];
@@ -47,7 +48,7 @@ const RUN_KEYS: &[&str] = &["held", "steps", "in", "typed", "out"];
 const BOUND_AT: u64 = 2_000;
 
 /// The lines of a certificate that a case may tell.
-const LINES: &[&str] = &["commands", "size", "types", "needs"];
+const LINES: &[&str] = &["commands", "size", "grows", "types", "needs"];
 
 // What a case says of a verdict: that the macro is accepted, or why and where it is refused.
 fn words_of(alloc: Global, accepted: Result<Accepted<'_>, Refusal>) -> Result<String, CaseFault> {

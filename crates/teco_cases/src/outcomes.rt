@@ -47,6 +47,7 @@ const SINGLES: &[(&str, Single)] = &[
     ("a", Single::CodeHere),
     ("b", Single::CodeBefore),
     ("o", Single::Typed),
+    ("i", Single::EntryHeld),
 ];
 
 /// The measures that there are of each register, by the letter before its name.
@@ -82,7 +83,9 @@ fn start_forms(alloc: Global) -> Result<Vec<Option<Form>>, RowFault> {
     for symbol in 5..7 {
         forms.push(Some(Form::symbol(symbol, alloc)?))?;
     }
-    forms.push(Some(Form::zero(alloc)))?;
+    for _ in [Single::Typed, Single::EntryHeld] {
+        forms.push(Some(Form::zero(alloc)))?;
+    }
     for _ in 0..REGISTERS {
         add_register(&mut forms, alloc)?;
     }

@@ -7,7 +7,7 @@ use Rattle.teco_claimed.specs.declared.certificate.LinearCertificate.{LinearCert
 use Rattle.teco_claimed.specs.declared.refusal.LinearRefusal.{LinearRefusal}
 use Rattle.teco_law_runs.specs.Linked.{ExpansionsAreLinked}
 use Rattle.teco_model.specs.Macros.{ArgumentRange, Library, Needs}
-use Rattle.teco_paths.specs.Sure.{CertainEnd}
+use Rattle.teco_paths.specs.Sure.{CertainEnd, bounds_in}
 use Rattle.teco_poly.specs.Polynomial.{Polynomial}
 use Rattle.teco_promise.specs.Promise.{EachRunEnds}
 
@@ -16,16 +16,17 @@ pub checked_ends : ExpansionsAreLinked → CertainEnd → (found : LinearFinding
 checked_ends linked ends found checked given world asked ready opened =
     let texts = found.library.texts in
     let certificate = found.certificate in
-    ends checked.nodes (lengths_of texts) certificate.argument certificate.needs certificate.claims.commands
-    certificate.claims.size certificate.claims.types checked.certain texts certificate.entry given world refl
+    ends checked.nodes (lengths_of texts) certificate.argument certificate.needs (bounds_in certificate.claims)
+    checked.certain texts certificate.entry given world refl
     (linked texts certificate.entry checked.nodes checked.expanded) asked ready opened
 
 -- what has its parts is its promise
 pub same_promise : (found : LinearFinding) {library : Library} {entry : ℕ} {argument : Option ArgumentRange}
-    {needs : Needs} {commands size : Polynomial} {types : Option Polynomial}
+    {needs : Needs} {commands size : Polynomial} {grows types : Option Polynomial}
     → library ≡ found.library.texts → entry ≡ found.certificate.entry → argument ≡ found.certificate.argument
     → needs ≡ found.certificate.needs → commands ≡ found.certificate.claims.commands
-    → size ≡ found.certificate.claims.size → types ≡ found.certificate.claims.types
+    → size ≡ found.certificate.claims.size → grows ≡ found.certificate.claims.grows
+    → types ≡ found.certificate.claims.types
     → record {
       library = library;
       entry = entry;
@@ -33,9 +34,10 @@ pub same_promise : (found : LinearFinding) {library : Library} {entry : ℕ} {ar
       needs = needs;
       commands = commands;
       size = size;
+      grows = grows;
       types = types;
     } ≡ promise_of found
-same_promise found l e a n c s t = rw (l, e, a, n, c, s, t) refl
+same_promise found l e a n c s g t = rw (l, e, a, n, c, s, g, t) refl
 
 -- what is found has the text that its certificate has
 pub found_text : (result : Result LinearFinding LinearRefusal) (certificate : LinearCertificate) (text : List ℕ)

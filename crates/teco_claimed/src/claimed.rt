@@ -56,6 +56,7 @@ impl<'l> Claimed<'l> {
             needs: self.needs(),
             commands: self.commands(),
             size: self.size(),
+            grows: self.grows(),
             types: self.types(),
         })
     }
@@ -100,6 +101,13 @@ impl<'l> Claimed<'l> {
         ensures { result ≡ self.now.certificate.claims.size }
     {
         self.certificate.claims.size
+    }
+
+    /// By how much the buffer and what is unread get longer at most; `None` where none is claimed.
+    pub fn grows(&self) -> Option<Poly>
+        ensures { result ≡ self.now.certificate.claims.grows }
+    {
+        self.certificate.claims.grows
     }
 
     /// The most bytes that a run types; `None` where none is claimed.

@@ -45,28 +45,30 @@ fn needs_of(nodes: &Nodes<'_>) -> Needs {
     needs
 }
 
-// Whether a claim speaks of the bytes that were typed.
-fn is_of_typed(claim: &Claim) -> bool {
+// Whether a claim speaks of the bytes that were typed, or of what was held at the entry.
+fn is_not_owed(claim: &Claim) -> bool {
     claim.terms.iter().any(|term| matches!(
         term.measure,
-        Some(ClaimMeasure::One(ClaimSingle::Typed))
+        Some(ClaimMeasure::One(ClaimSingle::Typed | ClaimSingle::EntryHeld))
     ))
 }
 
-// Claims without those of the bytes that were typed.
-fn without_typed(claims: Claims) -> Claims {
+// Claims without those of the bytes that were typed and of how much longer the text gets.
+fn only_owed(claims: Claims) -> Claims {
     let Claims {
         commands,
         size,
+        grows: _grows,
         types: _typed,
         mut cuts,
     } = claims;
     for cut in cuts.iter_mut() {
-        cut.claims.retain(|claim| !is_of_typed(claim));
+        cut.claims.retain(|claim| !is_not_owed(claim));
     }
     Claims {
         commands,
         size,
+        grows: None,
         types: None,
         cuts,
     }
@@ -92,8 +94,13 @@ fn by_claims<'l>(
     }
 }
 
+// Whether a bound is claimed that is not owed.
+fn claims_more(claims: &Claims) -> bool {
+    claims.grows.is_some() || claims.types.is_some()
+}
+
 // The macro by the claims that one way of looking for them finds. Where they are not certain, those of
-// typed bytes are left out: no bound on these is owed.
+// typed bytes and of the text's growth are left out: no bound on these is owed.
 fn verify_by_way<'l, S: ClaimSearch>(
     library: &'l Library,
     entry: Reg,
@@ -116,12 +123,12 @@ fn verify_by_way<'l, S: ClaimSearch>(
         claims,
     };
     match by_claims(library, entry, &certificate, alloc) {
-        Err(LinearRefusal::NotCertain { .. }) if certificate.claims.types.is_some() => {
+        Err(LinearRefusal::NotCertain { .. }) if claims_more(&certificate.claims) => {
             let certificate = LinearCertificate {
                 entry,
                 argument: called.argument,
                 needs: called.needs,
-                claims: without_typed(certificate.claims),
+                claims: only_owed(certificate.claims),
             };
             Ok(by_claims(library, entry, &certificate, alloc)?)
         }

@@ -37,7 +37,9 @@ pub same_cut : (cut : AtCut) {point : ℕ} {claims : List (List ClaimTerm)} → 
     → record { point = point; claims = claims } ≡ cut
 same_cut cut p q = rw (p, q) refl
 
-pub same_claimed : (claimed : Claimed) {commands size : Polynomial} {types : Option Polynomial} {cuts : List AtCut}
-    → commands ≡ claimed.commands → size ≡ claimed.size → types ≡ claimed.types → cuts ≡ claimed.cuts
-    → record { commands = commands; size = size; types = types; cuts = cuts } ≡ claimed
-same_claimed claimed c s t q = rw (c, s, t, q) refl
+pub same_claimed : (claimed : Claimed) {commands size : Polynomial} {grows types : Option Polynomial}
+    {cuts : List AtCut}
+    → commands ≡ claimed.commands → size ≡ claimed.size → grows ≡ claimed.grows → types ≡ claimed.types
+    → cuts ≡ claimed.cuts
+    → record { commands = commands; size = size; grows = grows; types = types; cuts = cuts } ≡ claimed
+same_claimed claimed c s g t q = rw (c, s, g, t, q) refl

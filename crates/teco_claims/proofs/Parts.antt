@@ -3,7 +3,8 @@ use Rattle.teco_claims.proofs.Prelude.{◌≡◌, ℕ, zero, suc, ◌^◌, ◌<�
 use Rattle.teco_claims.proofs.Prelude.{[], ◌∷◌, ◌++◌, length, sym, subst, ◌∙◌, refl, arith, append_assoc, ◌&&◌}
 use Rattle.teco_claims.proofs.Prelude.{eqb-true, decimal_is_IsNumeral_wide, is_ascii_digit, decimal, list_all, codes}
 use Rattle.teco_claims.proofs.Prelude.{◌≢◌, ◌==◌, ClaimMeasure, One, Number, Length, Turns, PushedNumber, PushedLength}
-use Rattle.teco_claims.proofs.Prelude.{Steps, Pointer, Size, Held, LineEnd, LineStart, LastLength, Typed, Fraction}
+use Rattle.teco_claims.proofs.Prelude.{Steps, Pointer, Size, Held, LineEnd, LineStart, LastLength, Typed, EntryHeld}
+use Rattle.teco_claims.proofs.Prelude.{Fraction}
 use Rattle.teco_claims.proofs.Prelude.{ClaimTerm, begins, EndsPart, EndsTerm, IsTerm, name_text, divisor_text}
 use Rattle.teco_claims.proofs.Prelude.{fraction_text, is_one, factor_text, has_unit, unit_text, body_text, EndsNumber}
 use Rattle.std.proofs.Common.{◌||◌}
@@ -68,6 +69,7 @@ name_apart (Some (One LineEnd)) rest ends = refl
 name_apart (Some (One LineStart)) rest ends = refl
 name_apart (Some (One LastLength)) rest ends = refl
 name_apart (Some (One Typed)) rest ends = refl
+name_apart (Some (One EntryHeld)) rest ends = refl
 name_apart (Some (Number register)) rest ends = refl
 name_apart (Some (Length register)) rest ends = refl
 name_apart (Some (Turns begin)) rest ends = refl

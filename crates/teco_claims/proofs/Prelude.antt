@@ -22,7 +22,7 @@ pub use Rattle.teco_claims.specs.declared.term.ClaimMeasure.{ClaimMeasure}
 pub use Rattle.teco_claims.specs.declared.term.ClaimMeasure.TheVariants.{Length, Number, One, PushedLength}
 pub use Rattle.teco_claims.specs.declared.term.ClaimMeasure.TheVariants.{PushedNumber, Turns}
 pub use Rattle.teco_claims.specs.declared.term.ClaimSingle.TheVariants.{Held, LastLength, LineEnd, LineStart, Pointer}
-pub use Rattle.teco_claims.specs.declared.term.ClaimSingle.TheVariants.{Size, Steps, Typed}
+pub use Rattle.teco_claims.specs.declared.term.ClaimSingle.TheVariants.{Size, Steps, Typed, EntryHeld}
 pub use Rattle.teco_claims.specs.declared.term.ClaimTerm.{ClaimTerm}
 pub use Rattle.teco_claims.specs.declared.term.Fraction.{Fraction}
 pub use Rattle.teco_poly.specs.Front.{LooksFor, is_of_polynomial}

@@ -3,7 +3,8 @@ use Rattle.teco_claims.proofs.Prelude.{◌≡◌, ℕ, zero, suc, Bool, true, fa
 use Rattle.teco_claims.proofs.Prelude.{◌++◌, sym, ◌∙◌, refl, arith, append_assoc, subst, ◌&&◌, eqb-true, is_ascii_digit}
 use Rattle.teco_claims.proofs.Prelude.{decimal, codes, ◌≢◌, ◌==◌, ClaimMeasure, One, Number, Length, Turns}
 use Rattle.teco_claims.proofs.Prelude.{PushedNumber, PushedLength, Steps, Pointer, Size, Held, LineEnd, LineStart}
-use Rattle.teco_claims.proofs.Prelude.{LastLength, Typed, Fraction, ClaimTerm, begins, EndsPart, EndsTerm, LooksFor}
+use Rattle.teco_claims.proofs.Prelude.{LastLength, Typed, EntryHeld, Fraction, ClaimTerm, begins, EndsPart, EndsTerm}
+use Rattle.teco_claims.proofs.Prelude.{LooksFor}
 use Rattle.teco_claims.proofs.Prelude.{IsTerm, name_text, divisor_text, fraction_text, is_one, factor_text, star_text}
 use Rattle.teco_claims.proofs.Prelude.{unit_text, body_text, first_sign, signed_text, EndsNumber, power_text}
 use Rattle.std.proofs.lemmas.Bool.{lt-ltb}
@@ -106,6 +107,7 @@ name_some (Some (One LineEnd)) rest ends same = absurd (cc)
 name_some (Some (One LineStart)) rest ends same = absurd (cc)
 name_some (Some (One LastLength)) rest ends same = absurd (cc)
 name_some (Some (One Typed)) rest ends same = absurd (cc)
+name_some (Some (One EntryHeld)) rest ends same = absurd (cc)
 name_some (Some (Number register)) rest ends same = absurd (cc)
 name_some (Some (Length register)) rest ends same = absurd (cc)
 name_some (Some (Turns begin)) rest ends same = absurd (cc)

@@ -5,7 +5,7 @@ use Rattle.std.specs.Char.{is_ascii_digit}
 use Rattle.teco_base.specs.Bytes.{is_among}
 use Rattle.teco_claims.specs.declared.term.ClaimSingle.{ClaimSingle}
 use Rattle.teco_claims.specs.declared.term.ClaimSingle.TheVariants.{Steps, Pointer, Size, Held, LineEnd, LineStart}
-use Rattle.teco_claims.specs.declared.term.ClaimSingle.TheVariants.{LastLength, Typed}
+use Rattle.teco_claims.specs.declared.term.ClaimSingle.TheVariants.{LastLength, Typed, EntryHeld}
 use Rattle.teco_poly.specs.Reading.{EndsNumber}
 
 -- the bytes that numbers and powers go on with
@@ -52,4 +52,5 @@ single_of letter =
     else if letter == 115 then Some LineStart
     else if letter == 109 then Some LastLength
     else if letter == 111 then Some Typed
+    else if letter == 105 then Some EntryHeld
     else None

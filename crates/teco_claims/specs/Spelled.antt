@@ -8,7 +8,7 @@ use Rattle.teco_claims.specs.declared.term.ClaimMeasure.TheVariants.{One, Number
 use Rattle.teco_claims.specs.declared.term.ClaimMeasure.TheVariants.{PushedNumber, PushedLength}
 use Rattle.teco_claims.specs.declared.term.ClaimSingle.{ClaimSingle}
 use Rattle.teco_claims.specs.declared.term.ClaimSingle.TheVariants.{Steps, Pointer, Size, Held, LineEnd, LineStart}
-use Rattle.teco_claims.specs.declared.term.ClaimSingle.TheVariants.{LastLength, Typed}
+use Rattle.teco_claims.specs.declared.term.ClaimSingle.TheVariants.{LastLength, Typed, EntryHeld}
 use Rattle.teco_claims.specs.declared.term.Fraction.{Fraction}
 use Rattle.teco_claims.specs.declared.term.ClaimTerm.{ClaimTerm}
 use Rattle.teco_claims.specs.declared.term.TheConstants.{MAX_POWER, MAX_TERMS}
@@ -42,20 +42,21 @@ abbrev pub single_place : ClaimSingle → ℕ
 single_place Steps = 1
 single_place LineEnd = 2
 single_place Held = 3
-single_place LastLength = 5
-single_place Typed = 6
-single_place Pointer = 7
-single_place LineStart = 10
-single_place Size = 12
+single_place EntryHeld = 4
+single_place LastLength = 6
+single_place Typed = 7
+single_place Pointer = 8
+single_place LineStart = 11
+single_place Size = 13
 
 -- those of registers, iterations and pairs also by their numbers
 abbrev pub measure_place : ClaimMeasure → ℕ
 measure_place (One single) = single_place single * 2 ^ 33
-measure_place (PushedNumber pair) = 4 * 2 ^ 33 + 2 * pair
-measure_place (PushedLength pair) = 4 * 2 ^ 33 + (2 * pair + 1)
-measure_place (Number register) = 8 * 2 ^ 33 + register
-measure_place (Turns begin) = 9 * 2 ^ 33 + begin
-measure_place (Length register) = 11 * 2 ^ 33 + register
+measure_place (PushedNumber pair) = 5 * 2 ^ 33 + 2 * pair
+measure_place (PushedLength pair) = 5 * 2 ^ 33 + (2 * pair + 1)
+measure_place (Number register) = 9 * 2 ^ 33 + register
+measure_place (Turns begin) = 10 * 2 ^ 33 + begin
+measure_place (Length register) = 12 * 2 ^ 33 + register
 
 -- what has no measure stands first
 abbrev pub place : Option ClaimMeasure → ℕ
@@ -91,5 +92,6 @@ pub record IsCut (cut : AtCut) : Type 0 where
 pub record IsSpelled (claimed : Claimed) : Type 0 where
   pub commands : IsPoly claimed.commands
   pub size : IsPoly claimed.size
+  pub grows : IfSome claimed.grows IsPoly
   pub types : IfSome claimed.types IsPoly
   pub cuts : AllByRecursion IsCut claimed.cuts

@@ -11,7 +11,7 @@ use Rattle.teco_claims.specs.declared.term.ClaimMeasure.TheVariants.{One, Number
 use Rattle.teco_claims.specs.declared.term.ClaimMeasure.TheVariants.{PushedNumber, PushedLength}
 use Rattle.teco_claims.specs.declared.term.ClaimSingle.{ClaimSingle}
 use Rattle.teco_claims.specs.declared.term.ClaimSingle.TheVariants.{Steps, Pointer, Size, Held, LineEnd, LineStart}
-use Rattle.teco_claims.specs.declared.term.ClaimSingle.TheVariants.{LastLength, Typed}
+use Rattle.teco_claims.specs.declared.term.ClaimSingle.TheVariants.{LastLength, Typed, EntryHeld}
 use Rattle.teco_claims.specs.declared.term.Fraction.{Fraction}
 use Rattle.teco_claims.specs.declared.term.ClaimTerm.{ClaimTerm}
 use Rattle.teco_claims.specs.Values.{AtCut, Claimed}
@@ -32,6 +32,7 @@ single_text LineEnd = codes "e"
 single_text LineStart = codes "s"
 single_text LastLength = codes "m"
 single_text Typed = codes "o"
+single_text EntryHeld = codes "i"
 
 -- the name of a measure: that of a register follows n or t, the place of an iteration r, that of a pair k
 abbrev pub measure_text : ClaimMeasure → List ℕ
@@ -126,11 +127,17 @@ abbrev pub types_text : Option Polynomial → List ℕ
 types_text None = codes "-"
 types_text (Some most) = text most
 
+-- the line of how much longer the text gets, where that is claimed
+abbrev pub grows_text : Option Polynomial → List ℕ
+grows_text None = []
+grows_text (Some most) = line (codes "grows " ++ text most)
+
 -- the printed bounds, and then the cut points
 abbrev pub text_of : Claimed → List ℕ
 text_of claimed =
     line (codes "commands " ++ text claimed.commands)
     ++ (line (codes "size " ++ text claimed.size)
+    ++ (grows_text claimed.grows
     ++ (line (codes "types " ++ types_text claimed.types)
     ++ (flat_map cut_text claimed.cuts
-    ++ line (codes "end"))))
+    ++ line (codes "end")))))

@@ -8,9 +8,11 @@ pub record AtCut : Type 0 where
   pub point : ℕ
   pub claims : List (List ClaimTerm)
 
--- the printed bounds, that on typed bytes only where one is claimed, and the claims at each cut point
+-- the printed bounds, those on what is added to the text and on typed bytes only where they are claimed, and the claims
+-- at each cut point
 pub record Claimed : Type 0 where
   pub commands : Polynomial
   pub size : Polynomial
+  pub grows : Option Polynomial
   pub types : Option Polynomial
   pub cuts : List AtCut

@@ -50,6 +50,8 @@ pub struct Claims {
     pub commands: Poly,
     /// The most that is held.
     pub size: Poly,
+    /// By how much the buffer and what is unread get longer at most, if that is claimed.
+    pub grows: Option<Poly>,
     /// The most bytes that are typed, if that is claimed.
     pub types: Option<Poly>,
     /// The cut points.
@@ -64,6 +66,7 @@ impl Model for Claims {
     ghost view = { λ c. record {
       commands = c.commands;
       size = c.size;
+      grows = c.grows;
       types = c.types;
       cuts = c.cuts.items;
     } };

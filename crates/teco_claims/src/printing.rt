@@ -5,7 +5,7 @@ ghost use Rattle.teco_base.specs.Register.{register_name};
 ghost use Rattle.teco_claims.specs.Text.{line as line_of, single_text, measure_text, name_text, divisor_text};
 ghost use Rattle.teco_claims.specs.Text.{fraction_text, is_one, factor_text, has_unit as has_unit_of, star_text};
 ghost use Rattle.teco_claims.specs.Text.{unit_text, body_text, first_sign, next_sign, first_text, next_text};
-ghost use Rattle.teco_claims.specs.Text.{terms_text, claim_line, cut_text, types_text, text_of};
+ghost use Rattle.teco_claims.specs.Text.{terms_text, claim_line, cut_text, grows_text, types_text, text_of};
 ghost use Rattle.teco_poly.specs.Reading.{IsPoly};
 ghost use Rattle.teco_poly.specs.Text.{power_text, text as poly_text};
 
@@ -44,6 +44,7 @@ fn letter(single: ClaimSingle) -> &'static str
         ClaimSingle::LineStart => "s",
         ClaimSingle::LastLength => "m",
         ClaimSingle::Typed => "o",
+        ClaimSingle::EntryHeld => "i",
     }
 }
 
@@ -267,6 +268,17 @@ fn push_bound(
     push_line(text, word, words.as_bytes())
 }
 
+// Adds the line of how much longer the text gets, if that is claimed.
+fn push_grows(text: &mut Vec<u8>, alloc: Global, grows: &Option<Poly>) -> Result<(), AllocError>
+    ensures text { OnOk result (text.new.items ≡ text.old.items ++ grows_text grows.now) }
+    ensures parts { OnOk result (IfSome grows.now IsPoly) }
+{
+    match grows {
+        None => Ok(()),
+        Some(most) => push_bound(text, alloc, b"grows ", most),
+    }
+}
+
 // Adds the line of the bound on typed bytes.
 fn push_types(text: &mut Vec<u8>, alloc: Global, types: &Option<Poly>) -> Result<(), AllocError>
     ensures text { OnOk result (text.new.items
@@ -284,11 +296,13 @@ pub fn text(alloc: Global, claims: &Claims) -> Result<Vec<u8>, AllocError>
     ensures text { IfOk result (λ text. text.items ≡ text_of claims.now) }
     ensures commands { OnOk result (IsPoly claims.now.commands) }
     ensures size { OnOk result (IsPoly claims.now.size) }
+    ensures grows { OnOk result (IfSome claims.now.grows IsPoly) }
     ensures types { OnOk result (IfSome claims.now.types IsPoly) }
 {
     let mut text = Vec::new(alloc);
     push_bound(&mut text, alloc, b"commands ", &claims.commands)?;
     push_bound(&mut text, alloc, b"size ", &claims.size)?;
+    push_grows(&mut text, alloc, &claims.grows)?;
     push_types(&mut text, alloc, &claims.types)?;
     push_cuts(&mut text, alloc, &claims.cuts)?;
     push_line(&mut text, b"end", b"")?;

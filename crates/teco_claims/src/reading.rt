@@ -17,7 +17,7 @@ ghost use Rattle.teco_claims.specs.Front.{EndsPart, EndsTerm, EndsClaims};
 ghost use Rattle.teco_claims.specs.Spelled.{IsMeasure, IsLowest, IsTerm, AreTerms, IsClaim, IsCut, IsSpelled};
 ghost use Rattle.teco_claims.specs.Text.{line as line_of, name_text, divisor_text, fraction_text, factor_text};
 ghost use Rattle.teco_claims.specs.Text.{unit_text, body_text, first_sign, next_sign, signed_text, next_text};
-ghost use Rattle.teco_claims.specs.Text.{terms_text, claim_line, cut_words, cut_text, types_text, text_of};
+ghost use Rattle.teco_claims.specs.Text.{terms_text, claim_line, cut_words, cut_text, grows_text, types_text, text_of};
 ghost use Rattle.teco_claims.specs.Values.{AtCut, Claimed};
 ghost use Rattle.teco_poly.specs.Polynomial.{Polynomial};
 ghost use Rattle.teco_poly.specs.Reading.{IsPoly, EndsNumber};
@@ -81,6 +81,21 @@ fn point_at(text: &[u8]) -> (usize, &[u8])
 {
     let (number, rest) = number_at(text);
     (usize::try_from(number).unwrap_or(0), rest)
+}
+
+// How much longer the text gets, from the line of that at the front of a text, if it has one, and what
+// comes behind it.
+fn grows_at(text: &[u8]) -> (Option<Poly>, &[u8])
+    ensures { (grows : Option Polynomial) (rest : List ℕ) → IfSome grows IsPoly
+        → text.now ≡ grows_text grows ++ (codes "types " ++ rest)
+        → (result.0 ≡ grows) × (result.1.now ≡ codes "types " ++ rest) }
+{
+    let (found, rest) = word_at(text, b"grows ");
+    if !found {
+        return (None, rest);
+    }
+    let (most, rest) = polynomial_at(rest);
+    (Some(most), behind(rest, b"\n"))
 }
 
 // The bound on typed bytes at the front of a text, and what comes behind it.
@@ -220,6 +235,7 @@ fn single(letter: u8) -> Option<ClaimSingle>
         b's' => Some(ClaimSingle::LineStart),
         b'm' => Some(ClaimSingle::LastLength),
         b'o' => Some(ClaimSingle::Typed),
+        b'i' => Some(ClaimSingle::EntryHeld),
         _ => None,
     }
 }
@@ -443,11 +459,13 @@ pub fn claims_in(alloc: Global, text: &[u8]) -> Result<Claims, AllocError>
 {
     let (commands, rest) = polynomial_at(behind(text, b"commands "));
     let (size, rest) = polynomial_at(behind(rest, b"\nsize "));
-    let (types, rest) = types_at(behind(rest, b"\ntypes "));
+    let (grows, rest) = grows_at(behind(rest, b"\n"));
+    let (types, rest) = types_at(behind(rest, b"types "));
     let cuts = cuts_at(alloc, behind(rest, b"\n"))?;
     Ok(Claims {
         commands,
         size,
+        grows,
         types,
         cuts,
     })

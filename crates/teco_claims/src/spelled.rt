@@ -71,17 +71,18 @@ fn is_term(term: &ClaimTerm) -> bool
 // Where a measure that a state has once stands among the others.
 fn place_of_single(single: ClaimSingle) -> u128
     ensures value { result ≡ single_place single }
-    ensures within { result < 13 }
+    ensures within { result < 14 }
 {
     match single {
         ClaimSingle::Steps => 1,
         ClaimSingle::LineEnd => 2,
         ClaimSingle::Held => 3,
-        ClaimSingle::LastLength => 5,
-        ClaimSingle::Typed => 6,
-        ClaimSingle::Pointer => 7,
-        ClaimSingle::LineStart => 10,
-        ClaimSingle::Size => 12,
+        ClaimSingle::EntryHeld => 4,
+        ClaimSingle::LastLength => 6,
+        ClaimSingle::Typed => 7,
+        ClaimSingle::Pointer => 8,
+        ClaimSingle::LineStart => 11,
+        ClaimSingle::Size => 13,
     }
 }
 
@@ -93,11 +94,11 @@ fn place_of_measure(measure: ClaimMeasure) -> u128
     const STEP: u128 = 1 << 33;
     match measure {
         ClaimMeasure::One(single) => place_of_single(single) * STEP,
-        ClaimMeasure::PushedNumber(pair) => 4 * STEP + 2 * u128::from(pair),
-        ClaimMeasure::PushedLength(pair) => 4 * STEP + (2 * u128::from(pair) + 1),
-        ClaimMeasure::Number(register) => 8 * STEP + register.index() as u128,
-        ClaimMeasure::Turns(begin) => 9 * STEP + u128::from(begin),
-        ClaimMeasure::Length(register) => 11 * STEP + register.index() as u128,
+        ClaimMeasure::PushedNumber(pair) => 5 * STEP + 2 * u128::from(pair),
+        ClaimMeasure::PushedLength(pair) => 5 * STEP + (2 * u128::from(pair) + 1),
+        ClaimMeasure::Number(register) => 9 * STEP + register.index() as u128,
+        ClaimMeasure::Turns(begin) => 10 * STEP + u128::from(begin),
+        ClaimMeasure::Length(register) => 12 * STEP + register.index() as u128,
     }
 }
 

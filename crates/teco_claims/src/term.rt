@@ -26,6 +26,8 @@ pub enum ClaimSingle {
     LastLength,
     /// How many bytes were typed since the entry.
     Typed,
+    /// The length of the buffer and of what was unread at the entry.
+    EntryHeld,
 }
 
 /// A measure of a state.

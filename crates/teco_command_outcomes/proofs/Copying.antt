@@ -10,7 +10,8 @@ use Rattle.teco_command_outcomes.proofs.Prelude.{Element, characters_of, part_na
 use Rattle.teco_command_outcomes.proofs.Prelude.{storage, text_in, IsWhole, Case, TakenForms, Number, Length, Turns}
 use Rattle.teco_command_outcomes.proofs.Prelude.{PushedNumber, PushedLength, First, Value, Each, Single, Steps, Pointer}
 use Rattle.teco_command_outcomes.proofs.Prelude.{Size, Held, LineEnd, LineStart, LastLength, CodeHere, CodeBefore}
-use Rattle.teco_command_outcomes.proofs.Prelude.{Typed, Outcomes, Clause, Places, value_if, AreCommanded, IsCommanded}
+use Rattle.teco_command_outcomes.proofs.Prelude.{Typed, EntryHeld, Outcomes, Clause, Places, value_if, AreCommanded}
+use Rattle.teco_command_outcomes.proofs.Prelude.{IsCommanded}
 use Rattle.teco_command_outcomes.proofs.Prelude.{Leads, Performs, commanded, Describe, IsOne, AreMet, Before, changed}
 use Rattle.teco_command_outcomes.proofs.Prelude.{Point, IsTrueOf, single, read_at, by_row, leads, leaves, left_alone}
 use Rattle.teco_command_outcomes.proofs.Prelude.{performed, above_or, line_begin, line_end, IsWay, by, IsDone, IsPlace}
@@ -53,6 +54,7 @@ module _ (row : List Clause) (s : Point) (here : Places) (given unknown : ℕ �
   same CodeHere = refl
   same CodeBefore = refl
   same Typed = refl
+  same EntryHeld = refl
 
   pub text_leads : leaves Turns row ≡ true → leaves PushedNumber row ≡ true → leaves PushedLength row ≡ true
       → leaves First row ≡ true → leaves Number row ≡ true → leaves Value row ≡ true → leaves_singles row ≡ true

@@ -5,7 +5,8 @@ use Rattle.teco_command_outcomes.proofs.Prelude.{sym, ap, subst, ◌∙◌, arit
 use Rattle.teco_command_outcomes.proofs.Prelude.{max-eq_right, ints, line_place, text_after_deletion, Term, Valuation}
 use Rattle.teco_command_outcomes.proofs.Prelude.{value, deletion_between, Kept, Case, PART, PART_BACK, Single, Steps}
 use Rattle.teco_command_outcomes.proofs.Prelude.{Pointer, Size, Held, LineEnd, LineStart, LastLength, CodeHere}
-use Rattle.teco_command_outcomes.proofs.Prelude.{CodeBefore, Typed, One, Outcomes, Clause, Places, AreCommanded, Leads}
+use Rattle.teco_command_outcomes.proofs.Prelude.{CodeBefore, Typed, EntryHeld, One, Outcomes, Clause, Places}
+use Rattle.teco_command_outcomes.proofs.Prelude.{AreCommanded, Leads}
 use Rattle.teco_command_outcomes.proofs.Prelude.{commanded, CutsLines, CutsTo, kept_without, Describe, AreMet, Before}
 use Rattle.teco_command_outcomes.proofs.Prelude.{changed, Point, IsTrueOf, single, code_here, code_before, read_at}
 use Rattle.teco_command_outcomes.proofs.Prelude.{is_of_singles, leads_singles, IsEnd, IsBegin, line_end, line_begin}
@@ -112,6 +113,7 @@ module _ (s : Point) (here : Places) (given : ℕ → ℤ) (a b : ℕ) (ordered 
           singles CodeHere = ap Some (omega (arith, ints))
           singles CodeBefore = ap (λ x. Some (pos x)) (before_is ∙ ap (code_before s.kept.text) at)
           singles Typed = refl
+          singles EntryHeld = refl
 
     pub lines_back : given 0 ≤ℤ pos 0 → b ≡ s.kept.pointer → a ≤ line_place s.kept.text s.kept.pointer (pos 0)
         → line_place s.kept.text a (pos 0) ≡ a → Leads LINES_BACK before s kept None
@@ -140,6 +142,7 @@ module _ (s : Point) (here : Places) (given : ℕ → ℤ) (a b : ℕ) (ordered 
           singles CodeHere = ap (λ x. Some (pos x)) (here_is ∙ ap (code_here s.kept.text) at)
           singles CodeBefore = ap Some (omega (arith, ints))
           singles Typed = refl
+          singles EntryHeld = refl
 
     -- the line to its end
     pub keeps : a ≡ s.kept.pointer → b ≡ a → length s.kept.text ≤ a → Leads KEEPS before s kept None
@@ -158,6 +161,7 @@ module _ (s : Point) (here : Places) (given : ℕ → ℤ) (a b : ℕ) (ordered 
       singles CodeHere = ap (λ x. Some (pos x)) (here_is ∙ ap (code_here s.kept.text) (same ∙ at))
       singles CodeBefore = ap (λ x. Some (pos x)) (before_is ∙ ap (code_before s.kept.text) at)
       singles Typed = refl
+      singles EntryHeld = refl
 
     pub cuts_line : a ≡ s.kept.pointer → b ≡ line_place s.kept.text s.kept.pointer (pos 1) → a + 1 ≤ b
         → Leads CUTS_LINE before s kept None
@@ -181,6 +185,7 @@ module _ (s : Point) (here : Places) (given : ℕ → ℤ) (a b : ℕ) (ordered 
           singles CodeHere = ap Some (omega (arith, ints))
           singles CodeBefore = ap (λ x. Some (pos x)) (before_is ∙ ap (code_before s.kept.text) at)
           singles Typed = refl
+          singles EntryHeld = refl
 
     -- lines back, in the first line and in another
     pub cuts_top : b ≡ s.kept.pointer → a ≡ 0 → line_place s.kept.text s.kept.pointer (pos 0) ≡ 0
@@ -201,6 +206,7 @@ module _ (s : Point) (here : Places) (given : ℕ → ℤ) (a b : ℕ) (ordered 
       singles CodeHere = ap (λ x. Some (pos x)) (here_is ∙ ap (code_here s.kept.text) at)
       singles CodeBefore = ap Some (omega (arith, ints))
       singles Typed = refl
+      singles EntryHeld = refl
 
     pub cuts_up : b ≡ s.kept.pointer → LiesAbove s.kept.text s.kept.pointer a → Leads CUTS_UP before s kept None
     cuts_up at lies =
@@ -220,6 +226,7 @@ module _ (s : Point) (here : Places) (given : ℕ → ℤ) (a b : ℕ) (ordered 
         singles CodeHere = ap (λ x. Some (pos x)) (here_is ∙ ap (code_here s.kept.text) at)
         singles CodeBefore = ap Some (omega (arith, ints))
         singles Typed = refl
+        singles EntryHeld = refl
 
     -- in the order of the places
     module _ (from : given 0 ≡ pos a) (to : given 1 ≡ pos b) where
@@ -248,6 +255,7 @@ module _ (s : Point) (here : Places) (given : ℕ → ℤ) (a b : ℕ) (ordered 
         singles CodeHere = ap Some (omega (arith, ints))
         singles CodeBefore = ap (λ x. Some (pos x)) (before_is ∙ ap (code_before s.kept.text) at)
         singles Typed = refl
+        singles EntryHeld = refl
 
       pub cuts_past : a ≡ s.kept.pointer → line_place s.kept.text s.kept.pointer (pos 1) ≤ b
           → Leads CUTS_PAST before s kept None
@@ -271,6 +279,7 @@ module _ (s : Point) (here : Places) (given : ℕ → ℤ) (a b : ℕ) (ordered 
             singles CodeHere = ap Some (omega (arith, ints))
             singles CodeBefore = ap (λ x. Some (pos x)) (before_is ∙ ap (code_before s.kept.text) at)
             singles Typed = refl
+            singles EntryHeld = refl
 
       pub parts : Leads PART before s kept None
       parts = cut PART refl (
@@ -302,6 +311,7 @@ module _ (s : Point) (here : Places) (given : ℕ → ℤ) (a b : ℕ) (ordered 
             singles CodeHere = ap Some (omega (arith, ints))
             singles CodeBefore = ap Some (omega (arith, ints))
             singles Typed = refl
+            singles EntryHeld = refl
 
     -- in the other order
     module _ (from : given 0 ≡ pos b) (to : given 1 ≡ pos a) where
@@ -337,6 +347,7 @@ module _ (s : Point) (here : Places) (given : ℕ → ℤ) (a b : ℕ) (ordered 
             singles CodeHere = ap (λ x. Some (pos x)) (here_is ∙ ap (code_here s.kept.text) at)
             singles CodeBefore = ap Some (omega (arith, ints))
             singles Typed = refl
+            singles EntryHeld = refl
 
       pub cuts_back_past : b ≡ s.kept.pointer → a + 1 ≤ line_place s.kept.text s.kept.pointer (pos 0)
           → Leads CUTS_BACK_PAST before s kept None
@@ -357,6 +368,7 @@ module _ (s : Point) (here : Places) (given : ℕ → ℤ) (a b : ℕ) (ordered 
             singles CodeHere = ap (λ x. Some (pos x)) (here_is ∙ ap (code_here s.kept.text) at)
             singles CodeBefore = ap Some (omega (arith, ints))
             singles Typed = refl
+            singles EntryHeld = refl
 
       pub parts_back : a + 1 ≤ b → Leads PART_BACK before s kept None
       parts_back apart = cut PART_BACK refl (
@@ -388,6 +400,7 @@ module _ (s : Point) (here : Places) (given : ℕ → ℤ) (a b : ℕ) (ordered 
             singles CodeHere = ap Some (omega (arith, ints))
             singles CodeBefore = ap Some (omega (arith, ints))
             singles Typed = refl
+            singles EntryHeld = refl
 
 -- ---- the part between two places, in either order
 pub ordered_part : (a b : ℕ) (kept : Kept) → a ≤ b → kept_without a b kept ≡ (deletion_between a b kept).kept

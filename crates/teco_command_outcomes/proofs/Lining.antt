@@ -4,7 +4,8 @@ use Rattle.teco_command_outcomes.proofs.Prelude.{◌≤ℤ◌, List, [], ◌∷�
 use Rattle.teco_command_outcomes.proofs.Prelude.{nat_le, slice_index_or, unwrap_or, refl, sym, ap, subst, ◌∙◌, arith}
 use Rattle.teco_command_outcomes.proofs.Prelude.{nat_tests, ints, line_place, Term, Valuation, value, Element, motion}
 use Rattle.teco_command_outcomes.proofs.Prelude.{Kept, Case, TakenForms, Single, Steps, Pointer, Size, Held, LineEnd}
-use Rattle.teco_command_outcomes.proofs.Prelude.{LineStart, LastLength, CodeHere, CodeBefore, Typed, One, Outcomes}
+use Rattle.teco_command_outcomes.proofs.Prelude.{LineStart, LastLength, CodeHere, CodeBefore, Typed, EntryHeld, One}
+use Rattle.teco_command_outcomes.proofs.Prelude.{Outcomes}
 use Rattle.teco_command_outcomes.proofs.Prelude.{Clause, Places, value_if, AreCommanded, Leads, Performs, commanded}
 use Rattle.teco_command_outcomes.proofs.Prelude.{Describe, Before, changed, IsTrueOf, Point, single, code_here}
 use Rattle.teco_command_outcomes.proofs.Prelude.{code_before, with_codes, read_at, leads_singles, ends, IsEnd, IsBegin}
@@ -186,6 +187,7 @@ module _ (s : Point) (here : Places) (given : ℕ → ℤ) (k : ℕ) (whole : s.
     singles CodeHere = ap (λ x. Some (pos x)) (ap (code_here s.kept.text) at)
     singles CodeBefore = ap (λ x. Some (pos x)) (ap (code_before s.kept.text) at)
     singles Typed = refl
+    singles EntryHeld = refl
 
   -- a line end stands before the place
   pub steps : s.kept.pointer + 1 ≤ k → k ≡ line_place s.kept.text s.kept.pointer (pos 1)
@@ -212,6 +214,7 @@ module _ (s : Point) (here : Places) (given : ℕ → ℤ) (k : ℕ) (whole : s.
         singles CodeHere = ap Some (omega (arith, ints))
         singles CodeBefore = ap Some (omega (arith, ints))
         singles Typed = refl
+        singles EntryHeld = refl
 
   -- none does
   pub last : s.kept.pointer + 1 ≤ k → k ≡ line_place s.kept.text s.kept.pointer (pos 1) → k ≡ length s.kept.text
@@ -243,6 +246,7 @@ module _ (s : Point) (here : Places) (given : ℕ → ℤ) (k : ℕ) (whole : s.
         singles CodeHere = ap Some (omega (arith, ints))
         singles CodeBefore = ap Some (omega (arith, ints))
         singles Typed = refl
+        singles EntryHeld = refl
 
   pub starts : k ≡ line_place s.kept.text s.kept.pointer (pos 0) → Leads STARTS before s kept None
   starts at = leads_singles STARTS before s kept refl refl tt singles where
@@ -273,6 +277,7 @@ module _ (s : Point) (here : Places) (given : ℕ → ℤ) (k : ℕ) (whole : s.
     singles CodeHere = ap Some (omega (arith, ints))
     singles CodeBefore = ap Some (omega (arith, ints))
     singles Typed = refl
+    singles EntryHeld = refl
 
   pub ahead : pos 1 ≤ℤ given 0 → line_place s.kept.text s.kept.pointer (pos 1) ≤ k → Leads AHEAD before s kept None
   ahead h far =
@@ -305,6 +310,7 @@ module _ (s : Point) (here : Places) (given : ℕ → ℤ) (k : ℕ) (whole : s.
         singles CodeHere = ap Some (omega (arith, ints))
         singles CodeBefore = ap Some (omega (arith, ints))
         singles Typed = refl
+        singles EntryHeld = refl
 
   pub back : given 0 ≤ℤ pos 0 → k ≤ line_place s.kept.text s.kept.pointer (pos 0)
       → line_place s.kept.text k (pos 0) ≡ k → Leads BACK before s kept None
@@ -333,6 +339,7 @@ module _ (s : Point) (here : Places) (given : ℕ → ℤ) (k : ℕ) (whole : s.
         singles CodeHere = ap Some (omega (arith, ints))
         singles CodeBefore = ap Some (omega (arith, ints))
         singles Typed = refl
+        singles EntryHeld = refl
 
   -- to the first line, and to one before
   pub top : line_place s.kept.text s.kept.pointer (pos 0) ≡ 0 → k ≡ 0 → Leads TOP before s kept None
@@ -357,6 +364,7 @@ module _ (s : Point) (here : Places) (given : ℕ → ℤ) (k : ℕ) (whole : s.
     singles CodeHere = ap Some (omega (arith, ints))
     singles CodeBefore = ap Some (omega (arith, ints))
     singles Typed = refl
+    singles EntryHeld = refl
 
   pub up_one : LiesAbove s.kept.text s.kept.pointer k
       → line_place s.kept.text k (pos 1) ≡ line_place s.kept.text s.kept.pointer (pos 0)
@@ -376,6 +384,7 @@ module _ (s : Point) (here : Places) (given : ℕ → ℤ) (k : ℕ) (whole : s.
       singles CodeHere = ap Some (omega (arith, ints))
       singles CodeBefore = ap Some (omega (arith, ints))
       singles Typed = refl
+      singles EntryHeld = refl
 
   pub up : LiesAbove s.kept.text s.kept.pointer k → Leads UP before s kept None
   up lies =
@@ -413,6 +422,7 @@ module _ (s : Point) (here : Places) (given : ℕ → ℤ) (k : ℕ) (whole : s.
         singles CodeHere = ap Some (omega (arith, ints))
         singles CodeBefore = ap Some (omega (arith, ints))
         singles Typed = refl
+        singles EntryHeld = refl
 
 -- ---- what is gone to
 module _ (case : Case) (ways : List command.Way) (given : List (List Term)) (here : Places) (all : Outcomes)

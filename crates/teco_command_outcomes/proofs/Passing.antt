@@ -3,7 +3,8 @@ use Rattle.teco_command_outcomes.proofs.Prelude.{◌≡◌, ℕ, ◌+◌, ◌≤
 use Rattle.teco_command_outcomes.proofs.Prelude.{Some, None, slice_index_or, refl, sym, ap, subst, ◌∙◌, arith, ints}
 use Rattle.teco_command_outcomes.proofs.Prelude.{line_place, text_after_deletion, Term, Valuation, value}
 use Rattle.teco_command_outcomes.proofs.Prelude.{deletion_between, Kept, Case, Single, Steps, Pointer, Size, Held}
-use Rattle.teco_command_outcomes.proofs.Prelude.{LineEnd, LineStart, LastLength, CodeHere, CodeBefore, Typed, One}
+use Rattle.teco_command_outcomes.proofs.Prelude.{LineEnd, LineStart, LastLength, CodeHere, CodeBefore, Typed, EntryHeld}
+use Rattle.teco_command_outcomes.proofs.Prelude.{One}
 use Rattle.teco_command_outcomes.proofs.Prelude.{Outcomes, Clause, Places, AreCommanded, Leads, commanded, Describe}
 use Rattle.teco_command_outcomes.proofs.Prelude.{Before, changed, Point, IsTrueOf, single, code_here, code_before}
 use Rattle.teco_command_outcomes.proofs.Prelude.{CutsTo, Sort, ends_one, is_low, is_high, sort_at, read_at}
@@ -67,6 +68,7 @@ module _ (s : Point) (here : Places) (given : ℕ → ℤ) (k : ℕ) (next : k �
         singles CodeHere = ap Some (omega (arith, ints))
         singles CodeBefore = ap (λ x. Some (pos x)) before_is
         singles Typed = refl
+        singles EntryHeld = refl
 
   high_cut : ends s.kept.text s.kept.pointer ≡ false → 14 ≤ code_here s.kept.text s.kept.pointer
       → code_here s.kept.text s.kept.pointer ≤ 256 → Leads CUTS_HIGH before s kept None
@@ -86,6 +88,7 @@ module _ (s : Point) (here : Places) (given : ℕ → ℤ) (k : ℕ) (next : k �
         singles CodeHere = ap Some (omega (arith, ints))
         singles CodeBefore = ap (λ x. Some (pos x)) before_is
         singles Typed = refl
+        singles EntryHeld = refl
 
   end_cut : ends s.kept.text s.kept.pointer ≡ true → 11 ≤ code_here s.kept.text s.kept.pointer
       → code_here s.kept.text s.kept.pointer ≤ 13 → Leads CUTS_END before s kept None
@@ -121,6 +124,7 @@ module _ (s : Point) (here : Places) (given : ℕ → ℤ) (k : ℕ) (next : k �
         singles CodeHere = ap Some (omega (arith, ints))
         singles CodeBefore = ap (λ x. Some (pos x)) before_is
         singles Typed = refl
+        singles EntryHeld = refl
 
 pub cuts_next : (case : Case) (ways : List command.Way) (pointer place : List Term) (here : Places) (all : Outcomes)
     → AreCommanded case ways (pointer ∷ place ∷ []) here all.cases.items → IsWay ways 0 CUTS_END

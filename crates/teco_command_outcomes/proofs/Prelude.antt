@@ -56,7 +56,7 @@ pub use Rattle.teco_rows.specs.declared.measure.Family.TheVariants.{Turns, Value
 pub use Rattle.teco_rows.specs.declared.measure.Measure.TheVariants.{Each, One}
 pub use Rattle.teco_rows.specs.declared.measure.Single.{Single}
 pub use Rattle.teco_rows.specs.declared.measure.Single.TheVariants.{CodeBefore, CodeHere, Held, LastLength, LineEnd}
-pub use Rattle.teco_rows.specs.declared.measure.Single.TheVariants.{LineStart, Pointer, Size, Steps, Typed}
+pub use Rattle.teco_rows.specs.declared.measure.Single.TheVariants.{LineStart, Pointer, Size, Steps, Typed, EntryHeld}
 pub use Rattle.teco_rows.specs.declared.outcomes.Outcomes.{Outcomes}
 pub use Rattle.teco_rows.specs.declared.row.Clause.{Clause}
 pub use Rattle.teco_rows.specs.declared.row.Places.{Places}

@@ -4,7 +4,8 @@ use Rattle.teco_command_outcomes.proofs.Prelude.{unwrap_or, Option, Some, None, 
 use Rattle.teco_command_outcomes.proofs.Prelude.{◌∙◌, arith, FitsSigned, ints, All, REGISTERS, Kept, Term, Valuation}
 use Rattle.teco_command_outcomes.proofs.Prelude.{value, ◌>>=◌, needed_value, no_answer, with_answer, Element, storage}
 use Rattle.teco_command_outcomes.proofs.Prelude.{IsWhole, Single, Steps, Pointer, Size, Held, LineEnd, LineStart}
-use Rattle.teco_command_outcomes.proofs.Prelude.{LastLength, CodeHere, CodeBefore, Typed, Case, TakenForms, Outcomes}
+use Rattle.teco_command_outcomes.proofs.Prelude.{LastLength, CodeHere, CodeBefore, Typed, EntryHeld, Case, TakenForms}
+use Rattle.teco_command_outcomes.proofs.Prelude.{Outcomes}
 use Rattle.teco_command_outcomes.proofs.Prelude.{value_if, IsOne, Places, Point, IsTrueOf, single, number_of, length_of}
 use Rattle.teco_command_outcomes.proofs.Prelude.{IsAtLevel, IsCommanded, Leads, Performs, commanded, read_at, leads}
 use Rattle.teco_command_outcomes.proofs.Prelude.{answers, performed, by_row}
@@ -40,6 +41,7 @@ module _ (s : Point) (here : Places) (given unknown : ℕ → ℤ) (x : ℤ) (wh
   singles answer CodeHere = refl
   singles answer CodeBefore = refl
   singles answer Typed = refl
+  singles answer EntryHeld = refl
 
   lengths : (i : ℕ)
       → length_of (slice_get kept.registers.pairs i) ≡ length_of (slice_get s.kept.registers.pairs i)

@@ -9,6 +9,7 @@ use Rattle.teco_command_outcomes.proofs.Prelude.{needed_value, Element, characte
 use Rattle.teco_command_outcomes.proofs.Prelude.{span_between, retrieval, storage, text_in, line_characters, typing}
 use Rattle.teco_command_outcomes.proofs.Prelude.{Get, IsWhole, Case, TakenForms, One, Single, Steps, Pointer, Size}
 use Rattle.teco_command_outcomes.proofs.Prelude.{Held, LineEnd, LineStart, LastLength, CodeHere, CodeBefore, Typed}
+use Rattle.teco_command_outcomes.proofs.Prelude.{EntryHeld}
 use Rattle.teco_command_outcomes.proofs.Prelude.{Outcomes, Clause, Places, value_if, AreCommanded, IsCommanded, Leads}
 use Rattle.teco_command_outcomes.proofs.Prelude.{Performs, commanded, IsOne, Before, changed, Point, IsTrueOf, single}
 use Rattle.teco_command_outcomes.proofs.Prelude.{read_at, by_row, leads_singles, performed, above_or, line_begin}
@@ -66,6 +67,7 @@ exactly form here n v s bytes long = leads_singles TYPES b s (typing_of bytes s.
   singles CodeHere = refl
   singles CodeBefore = refl
   singles Typed = ap Some (omega (arith, ints, more s bytes, long))
+  singles EntryHeld = refl
 
 at_most : (form : List Term) (here : Places) (n : ℕ) (v : Valuation) (s : Point) (bytes : List ℕ)
     → pos (length bytes) ≤ℤ value form n v
@@ -88,6 +90,7 @@ at_most form here n v s bytes long =
       singles CodeHere = refl
       singles CodeBefore = refl
       singles Typed = ap Some (omega (arith, ints, more s bytes))
+      singles EntryHeld = refl
 
 in_order : (first second : List Term) (here : Places) (n : ℕ) (v : Valuation) (s : Point) (bytes : List ℕ)
     → pos (length bytes) ≡ value second n v -ℤ value first n v
@@ -109,6 +112,7 @@ in_order first second here n v s bytes long =
       singles CodeHere = refl
       singles CodeBefore = refl
       singles Typed = ap Some (omega (arith, ints, more s bytes, long))
+      singles EntryHeld = refl
 
 turned : (first second : List Term) (here : Places) (n : ℕ) (v : Valuation) (s : Point) (bytes : List ℕ)
     → pos (length bytes) ≡ value first n v -ℤ value second n v → pos 1 ≤ℤ (value first n v -ℤ value second n v)
@@ -130,6 +134,7 @@ turned first second here n v s bytes long some =
       singles CodeHere = refl
       singles CodeBefore = refl
       singles Typed = ap Some (omega (arith, ints, more s bytes, long))
+      singles EntryHeld = refl
 
 pub types_exactly : (case after : Case) (form : List Term) (here : Places) (wanted : List (List Term)) (all : Outcomes)
     → IsCommanded case TYPES (form ∷ []) here after → IsOne wanted after all → Types (Exactly form) case all

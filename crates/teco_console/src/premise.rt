@@ -1,7 +1,8 @@
 //! Up to which N a promise holds.
-ghost use Rattle.std.specs.Prelude.{◌≡◌, ◌≤◌, ◌↔◌, IsTrue, IfSome};
+ghost use Rattle.std.specs.Prelude.{◌≡◌, ◌≤◌, ◌+◌, ◌↔◌, IsTrue, IfSome};
 ghost use Rattle.teco_console.specs.Premise.{IsPremise, IsWithin};
 
+use crate::setting::Setting;
 use crate::sourced::NAMES;
 use std::fmt;
 use teco_base::{LIMIT, Reg};
@@ -15,7 +16,8 @@ use teco_promise::Promise;
 #[derive(Clone, Copy)]
 pub struct Premise {
     pub last: Option<u64>,
-    /// How many of the characters that N counts the texts of the library take.
+    /// How many of the characters that N counts are not of the text: those of the library's texts, and of
+    /// what registers are set to.
     pub taken: u64,
 }
 
@@ -42,16 +44,25 @@ impl Premise {
     pub fn of_promise(promise: &Promise<'_>) -> Premise
         ensures { IsPremise promise.now.size promise.now.commands result.last }
     {
+        Premise::with_settings(promise, &[])
+    }
+
+    /// The premise of a promise where registers are set first.
+    pub fn with_settings(promise: &Promise<'_>, settings: &[Setting]) -> Premise
+        ensures { IsPremise promise.now.size promise.now.commands result.last }
+    {
         Premise::of(
             &promise.size(),
             &promise.commands(),
-            characters_of(promise.library()),
+            characters_of(promise.library(), settings),
         )
     }
 
-    /// How many characters a text may have, beside those that the library takes; none where the
-    /// promise holds for no text.
-    pub fn longest(self) -> Option<u64> {
+    /// How many characters a text may have, beside those that registers take; none where the promise
+    /// holds for no text. With one of so many N is no more than the last at which the promise holds.
+    pub fn longest(self) -> Option<u64>
+        ensures { IfSome result (λ longest. IsWithin self.last (longest + self.taken)) }
+    {
         match self.last {
             Some(last) if last > 0 => last.checked_sub(self.taken),
             _ => None,
@@ -75,12 +86,31 @@ impl Premise {
     }
 }
 
-// How many characters the texts of a library have.
-fn characters_of(library: &Library) -> u64 {
+// The length of the text that a register is set to last, if it is set.
+fn set_length(settings: &[Setting], register: Reg) -> usize {
+    let mut length = 0;
+    for given in settings {
+        if given.register().index() == register.index() {
+            length = given.text().len();
+        }
+    }
+    length
+}
+
+// The length of the text of a register where a run begins: the library's, or else what it was set to.
+fn length_of(library: &Library, settings: &[Setting], register: Reg) -> usize {
+    match library.text(register) {
+        Some(text) => text.len(),
+        None => set_length(settings, register),
+    }
+}
+
+// How many characters registers have where a run begins.
+fn characters_of(library: &Library, settings: &[Setting]) -> u64 {
     let mut count = 0u64;
     for name in NAMES {
-        if let Some(text) = Reg::of(*name).and_then(|register| library.text(register)) {
-            count = count.saturating_add(text.len() as u64);
+        if let Some(register) = Reg::of(*name) {
+            count = count.saturating_add(length_of(library, settings, register) as u64);
         }
     }
     count

@@ -14,6 +14,7 @@ fn name_of(single: ClaimSingle) -> &'static str {
         ClaimSingle::LineStart => "line start",
         ClaimSingle::LastLength => "last length",
         ClaimSingle::Typed => "typed",
+        ClaimSingle::EntryHeld => "held at the entry",
     }
 }
 

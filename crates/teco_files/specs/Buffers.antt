@@ -12,6 +12,10 @@ source_ahead input = reader_buffer input.reader
 abbrev pub source_room : {F : Type 0} → ReadFile F → ℕ
 source_room input = reader_capacity input.reader
 
+-- how many bytes the file was told to have when it was opened, if it was
+abbrev pub source_told : {F : Type 0} → ReadFile F → Option ℕ
+source_told input = input.length
+
 -- the bytes that the input still gives: those that were read ahead, and behind them those that its file gives
 abbrev pub source_remaining : {F : Type 0} → (F → Option (List ℕ)) → ReadFile F → Option (List ℕ)
 source_remaining remaining input = reader_remaining remaining input.reader

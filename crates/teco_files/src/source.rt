@@ -1,7 +1,7 @@
 //! The file that is read.
 ghost use Rattle.std.specs.Prelude.{◌≡◌, ◌≤◌, ◌<◌, [], length, IfOk};
 ghost use Rattle.std.specs.Io.KnownBytes.{ReadConsumes};
-ghost use Rattle.teco_files.specs.Buffers.{source_ahead, source_remaining, source_room};
+ghost use Rattle.teco_files.specs.Buffers.{source_ahead, source_remaining, source_room, source_told};
 
 use crate::descriptor::above_standard;
 use crate::identity::Identity;
@@ -21,7 +21,7 @@ const MOST: usize = 1 << 16;
 #[derive(Drop)]
 pub struct ReadFile<F: Drop> {
     reader: BufReader<F>,
-    // the length that a regular file had when it was opened
+    // the length that it was told to have when it was opened
     length: Option<u64>,
     // which file it was then
     identity: Identity,
@@ -53,18 +53,24 @@ impl<F: OpenFile + Read + Drop> ReadFile<F> {
         if is_regular {
             check_regular(&metadata)?;
         }
-        ReadFile::over(alloc, file, &metadata)
+        let length = told_length(rt, name, &metadata);
+        ReadFile::over(alloc, file, &metadata, length)
     }
 
-    // The open file of some metadata.
-    fn over(alloc: Global, file: F, metadata: &Metadata) -> Result<ReadFile<F>, TroubleReason>
+    // The open file of some metadata, of which this length was told.
+    fn over(
+        alloc: Global,
+        file: F,
+        metadata: &Metadata,
+        length: Option<u64>,
+    ) -> Result<ReadFile<F>, TroubleReason>
         ensures ahead { IfOk result (λ s. 0 < source_room s) }
         ensures none { IfOk result (λ s. source_ahead s ≡ []) }
     {
         match BufReader::with_capacity(alloc, room_ahead(metadata.len()), file) {
             Ok(reader) => Ok(ReadFile {
                 reader,
-                length: metadata.is_file().then_some(metadata.len()),
+                length,
                 identity: Identity::of(metadata),
                 is_past: false,
             }),
@@ -72,8 +78,11 @@ impl<F: OpenFile + Read + Drop> ReadFile<F> {
         }
     }
 
-    /// How many bytes the file had when it was opened, where it is a regular one.
-    pub fn length(&self) -> Option<u64> {
+    /// How many bytes the file had when it was opened. That is told of a regular one alone, and not of
+    /// one whose length is 0 and which has bytes all the same, as files of `/proc` do.
+    pub fn length(&self) -> Option<u64>
+        ensures { result ≡ source_told self.now }
+    {
         self.length
     }
 
@@ -116,6 +125,26 @@ impl<F: OpenFile + Read + Drop> ReadFile<F> {
         let mut probe = [0; 1];
         self.is_past = self.is_past || !matches!(self.read(&mut probe), Ok(0));
         self.is_past
+    }
+}
+
+// How many bytes a file has, if that can be told.
+fn told_length<R: System>(rt: &R, name: &str, metadata: &Metadata) -> Option<u64> {
+    let length = metadata.len();
+    if metadata.is_file() && (length > 0 || is_empty(rt, name)) {
+        Some(length)
+    } else {
+        None
+    }
+}
+
+// Whether the file of a name has no bytes. It is opened once more, so that none is taken from who
+// reads it.
+fn is_empty<R: System>(rt: &R, name: &str) -> bool {
+    let mut probe = [0; 1];
+    match fs::open(rt, name) {
+        Ok(mut file) => matches!(file.read(&mut probe), Ok(0)),
+        Err(_) => false,
     }
 }
 

@@ -28,6 +28,9 @@ pub enum TroubleReason {
     /// The file has more bytes than an input may have.
     #[error("it has more than 268,435,456 bytes")]
     Long,
+    /// The file has more bytes than it had when it was opened.
+    #[error("it grew while it was read")]
+    Grown,
     /// The file would pass the limit that the system sets on the size of files.
     #[error("it would pass the limit on the size of files")]
     SizeLimit,

@@ -6,7 +6,8 @@ use Rattle.teco_flow_outcomes.proofs.Prelude.{unwrap_or, w32, ints, ok_or, Code,
 use Rattle.teco_flow_outcomes.proofs.Prelude.{level_with, ◌>>=◌, levels_after, Operator, STEPS, Case, Number, Length}
 use Rattle.teco_flow_outcomes.proofs.Prelude.{Turns, PushedNumber, PushedLength, First, Value, Measure, One, Each}
 use Rattle.teco_flow_outcomes.proofs.Prelude.{Steps, Pointer, Size, Held, LineEnd, LineStart, LastLength, CodeHere}
-use Rattle.teco_flow_outcomes.proofs.Prelude.{CodeBefore, Typed, Outcomes, Clause, Places, RowStep, value_if, EndsWith}
+use Rattle.teco_flow_outcomes.proofs.Prelude.{CodeBefore, Typed, EntryHeld, Outcomes, Clause, Places, RowStep, value_if}
+use Rattle.teco_flow_outcomes.proofs.Prelude.{EndsWith}
 use Rattle.teco_flow_outcomes.proofs.Prelude.{IsAtLevel, IsCommanded, Rearranges, Succeeds, IsOutermost, with_arguments}
 use Rattle.teco_flow_outcomes.proofs.Prelude.{AreMet, Before, Holds, changed, Point, IsLed, IsShape, IsTrueOf, WaitsFor}
 use Rattle.teco_flow_outcomes.proofs.Prelude.{each, from_end, measures_of, read_at, described, left_alone}
@@ -78,6 +79,7 @@ module _ (row : List Clause) (of : IsOfLevels row) (s : Point) (here : Places) (
     becomes (One CodeHere) = single_left row b CodeHere _ _ of.singles refl
     becomes (One CodeBefore) = single_left row b CodeBefore _ _ of.singles refl
     becomes (One Typed) = single_left row b Typed _ _ of.singles refl
+    becomes (One EntryHeld) = single_left row b EntryHeld _ _ of.singles refl
     becomes (Each Number i) = left_alone row b Number i _ of.numbers
     becomes (Each Length i) = left_alone row b Length i _ of.lengths
     becomes (Each Turns i) = left_alone row b Turns i _ of.turns

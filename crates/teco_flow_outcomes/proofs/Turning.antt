@@ -5,7 +5,8 @@ use Rattle.teco_flow_outcomes.proofs.Prelude.{option_map, unwrap_or, slice_index
 use Rattle.teco_flow_outcomes.proofs.Prelude.{ints, Term, Valuation, value, levels_after_taking, Operator, Loop, Case}
 use Rattle.teco_flow_outcomes.proofs.Prelude.{STEPS, Number, Length, Turns, PushedNumber, PushedLength, First, Value}
 use Rattle.teco_flow_outcomes.proofs.Prelude.{Measure, One, Each, Steps, Pointer, Size, Held, LineEnd, LineStart}
-use Rattle.teco_flow_outcomes.proofs.Prelude.{LastLength, CodeHere, CodeBefore, Typed, NumberRange, Ranges, Clause}
+use Rattle.teco_flow_outcomes.proofs.Prelude.{LastLength, CodeHere, CodeBefore, Typed, EntryHeld, NumberRange, Ranges}
+use Rattle.teco_flow_outcomes.proofs.Prelude.{Clause}
 use Rattle.teco_flow_outcomes.proofs.Prelude.{Places, RowStep, IsAtLevel, IsCommanded, IsAgain, IsCounted, IsEnded}
 use Rattle.teco_flow_outcomes.proofs.Prelude.{IsInnermost, IsLater, IsLeft, IsUncounted, turned, IsOutermost}
 use Rattle.teco_flow_outcomes.proofs.Prelude.{with_arguments, AreBehindIn, Says, AreMet, Before, Holds, changed}
@@ -118,6 +119,7 @@ module _ (row : List Clause) (b : Before) (of : IsOfTurns row) (s : Point) (loop
   turns_become turns (One CodeHere) = sym (single_alone row b CodeHere _ of.singles)
   turns_become turns (One CodeBefore) = sym (single_alone row b CodeBefore _ of.singles)
   turns_become turns (One Typed) = sym (single_alone row b Typed _ of.singles)
+  turns_become turns (One EntryHeld) = sym (single_alone row b EntryHeld _ of.singles)
   turns_become turns (Each Number i) = left_alone row b Number i _ of.numbers
   turns_become turns (Each Length i) = left_alone row b Length i _ of.lengths
   turns_become turns (Each Turns i) = turns i

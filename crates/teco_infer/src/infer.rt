@@ -1,17 +1,12 @@
 //! From a macro to claims.
-use crate::known_claims::KnownClaims;
-use crate::promises::all_promises;
 use crate::reason::reason_for;
 use crate::written::claims_of;
 use std::alloc::Global;
 use teco_base::LIMIT;
-use teco_bounds::cuts::{Cuts, first_cuts, kind_at};
-use teco_bounds::fault::{SearchRefusal, SearchStop};
-use teco_bounds::keys::Flag;
-use teco_bounds::legs::Web;
-use teco_bounds::measures::{NUMBER, family_of, place_of, spoken_of, used_of};
-use teco_bounds::pushes::check_pushes;
-use teco_bounds::search::{Keys, PathSearch};
+use teco_bounds::keys::{Flag, Keys};
+use teco_bounds::measures::{NUMBER, family_of, place_of};
+use teco_bounds::web::Web;
+use teco_bounds::workspace::{Stop, Workspace};
 use teco_claims::Claims;
 use teco_expansion::Nodes;
 use teco_model::kind::{Argument, Command, Query, Storage};
@@ -20,6 +15,13 @@ use teco_paths::claimed::Called;
 use teco_paths::course::MacroGraph;
 use teco_paths::fault::PathFault;
 use teco_paths::search::{ClaimSearch, SearchFailure, Shortfall};
+use teco_potentials::known_claims::KnownClaims;
+use teco_potentials::promises::all_promises;
+use teco_trails::cuts::{Cuts, first_cuts, kind_at};
+use teco_trails::fault::{SearchRefusal, SearchStop};
+use teco_trails::pushes::check_pushes;
+use teco_trails::search::PathSearch;
+use teco_trails::spoken::{spoken_of, used_of};
 
 // What the search may take in a way: steps of paths, and rows that programs go through.
 const FUEL: usize = 80_000;
@@ -142,40 +144,43 @@ fn is_minus(nodes: &Nodes<'_>, number: usize) -> bool {
 }
 
 // The numbers that bounds are widened to, in order.
-fn numbers_of(nodes: &Nodes<'_>, alloc: Global) -> Result<Vec<i64>, SearchStop> {
-    let mut numbers = Vec::new(alloc);
-    numbers.extend_from_slice(&[0, 1, -1, LIMIT as i64])?;
+fn numbers_of(nodes: &Nodes<'_>, space: &mut Workspace) -> Vec<i64> {
+    let mut numbers = space.listed(&[0, 1, -1, LIMIT as i64]);
     for at in 0..nodes.len() {
         if let Some(number) = digits_at(nodes, at + 1) {
             let less = number.saturating_neg();
-            numbers.extend_from_slice(&[
-                number.saturating_sub(1),
-                number,
-                number.saturating_add(1),
-                less.saturating_sub(1),
-                less,
-                less.saturating_add(1),
-            ])?;
+            space.extend(
+                &mut numbers,
+                &[
+                    number.saturating_sub(1),
+                    number,
+                    number.saturating_add(1),
+                    less.saturating_sub(1),
+                    less,
+                    less.saturating_add(1),
+                ],
+            );
         }
     }
-    numbers.sort()?;
+    if numbers.sort().is_err() {
+        space.stop(Stop::Memory);
+    }
     numbers.dedup();
-    Ok(numbers)
+    numbers
 }
 
 // Notes that a register is set to a number.
-fn note(flags: &mut Vec<Flag>, place: u32, number: i64, alloc: Global) -> Result<(), SearchStop> {
+fn note(flags: &mut Vec<Flag>, place: u32, number: i64, space: &mut Workspace) {
     for flag in flags.iter_mut() {
         if flag.place == place {
             if !flag.numbers.contains(&number) {
-                flag.numbers.push(number)?;
+                space.push(&mut flag.numbers, number);
             }
-            return Ok(());
+            return;
         }
     }
-    let numbers = Vec::from_slice(alloc, &[number])?;
-    flags.push(Flag { place, numbers })?;
-    Ok(())
+    let numbers = space.repeated(number, 1);
+    space.push(flags, Flag { place, numbers });
 }
 
 // The place of the number that an element sets.
@@ -216,24 +221,17 @@ fn is_divided(nodes: &Nodes<'_>, number: usize, place: u32) -> bool {
 }
 
 // Adds the registers that are set to parts of themselves.
-fn add_quotients(
-    flags: &mut Vec<Flag>,
-    nodes: &Nodes<'_>,
-    alloc: Global,
-) -> Result<(), SearchStop> {
+fn add_quotients(flags: &mut Vec<Flag>, nodes: &Nodes<'_>, space: &mut Workspace) {
     for number in 1..nodes.len().saturating_add(1) {
         let Some(place) = set_at(nodes, number) else {
             continue;
         };
         let is_known = flags.iter().any(|flag| flag.place == place);
         if !is_known && flags.len() < MOST_FLAGS && is_divided(nodes, number, place) {
-            flags.push(Flag {
-                place,
-                numbers: Vec::new(alloc),
-            })?;
+            let numbers = Vec::new(space.alloc);
+            space.push(flags, Flag { place, numbers });
         }
     }
-    Ok(())
 }
 
 // The place that an element sets to a number, and the number; none where it is a part of itself.
@@ -249,20 +247,23 @@ fn number_set(nodes: &Nodes<'_>, number: usize) -> Option<(u32, i64)> {
     Some((place, digits))
 }
 
+// Whether a register is set to several numbers, or to one below 0.
+fn is_flag(flag: &Flag) -> bool {
+    flag.numbers.len() > 1 || flag.numbers.iter().any(|number| *number < 0)
+}
+
 // The registers that are set to several numbers, or to one below 0, or to parts of themselves.
-fn flags_of(nodes: &Nodes<'_>, alloc: Global) -> Result<Vec<Flag>, SearchStop> {
-    let mut flags: Vec<Flag> = Vec::new(alloc);
+fn flags_of(nodes: &Nodes<'_>, space: &mut Workspace) -> Vec<Flag> {
+    let mut flags = Vec::new(space.alloc);
     for at in 1..nodes.len() {
         if let Some((place, number)) = number_set(nodes, at + 1) {
-            note(&mut flags, place, number, alloc)?;
+            note(&mut flags, place, number, space);
         }
     }
-    flags.retain(|flag| {
-        flag.numbers.len() > 1 || flag.numbers.iter().any(|number| *number < 0)
-    });
+    flags.retain(is_flag);
     flags.truncate(MOST_FLAGS);
-    add_quotients(&mut flags, nodes, alloc)?;
-    Ok(flags)
+    add_quotients(&mut flags, nodes, space);
+    flags
 }
 
 // What more would do where a search stops, if that is to be told.
@@ -289,13 +290,15 @@ fn claims_on(
     known: &mut KnownClaims,
     report: &mut Report,
 ) -> Result<Claims, SearchStop> {
-    let found = all_promises(web, keys, &mut search.tame, known, search.alloc);
+    let mut space = Workspace::new(search.alloc);
+    let promises = all_promises(web, keys, &mut search.tame, known, &mut space);
     search.work = known.work;
-    match found {
-        Ok(promises) => claims_of(search, keys, known, &promises),
+    match space.finish() {
+        Ok(()) => claims_of(search, keys, known, &promises),
         Err(stop) => {
+            let stop = SearchStop::from(stop);
             if report.is_wanted {
-                report.shortfall = reason_for(search, web, keys, known, stop).unwrap_or(None);
+                report.shortfall = reason_for(search, web, keys, known, stop);
             }
             Err(stop)
         }
@@ -354,18 +357,19 @@ fn tried(
 }
 
 // The places of the numbers that are taken to be tame: those that are spoken of, or none.
-fn tame_of(spoken: &[bool], is_tame: bool, alloc: Global) -> Result<Vec<u32>, SearchStop> {
-    let mut tame = Vec::new(alloc);
+fn tame_of(spoken: &[bool], is_tame: bool, space: &mut Workspace) -> Vec<u32> {
+    let mut tame = Vec::new(space.alloc);
     for place in 0..u32::try_from(spoken.len()).unwrap_or(0) {
         let is_spoken = spoken.get(place as usize) == Some(&true);
         if is_tame && is_spoken && family_of(place) == Some(NUMBER) {
-            tame.push(place)?;
+            space.push(&mut tame, place);
         }
     }
-    Ok(tame)
+    tame
 }
 
-// That nothing is claimed yet of typed bytes, for as long as a macro is searched.
+// That nothing is claimed yet of typed bytes and of how much longer the text gets, for as long as a macro is
+// searched.
 fn unclaimed(_used: &[bool]) -> Option<&[u64]> {
     None
 }
@@ -379,10 +383,11 @@ fn searched(
     report: &mut Report,
     alloc: Global,
 ) -> Result<Claims, SearchStop> {
-    check_pushes(called.nodes, alloc)?;
-    let spoken = spoken_of(called.nodes, alloc)?;
-    let used = used_of(&spoken, alloc)?;
-    let flags = flags_of(called.nodes, alloc)?;
+    let mut space = Workspace::new(alloc);
+    check_pushes(called.nodes, &mut space);
+    let spoken = spoken_of(called.nodes, &mut space);
+    let used = used_of(&spoken, &mut space);
+    let flags = flags_of(called.nodes, &mut space);
     let has_quotients = flags.iter().any(|flag| flag.numbers.is_empty());
     let mut search = PathSearch {
         course: MacroGraph {
@@ -393,13 +398,14 @@ fn searched(
             cuts: &[],
             commands: &[],
             size: &[],
+            grows: unclaimed(&used),
             types: unclaimed(&used),
         },
         argument: called.argument,
-        is_cut: first_cuts(called.nodes, way.cuts, alloc)?,
+        is_cut: first_cuts(called.nodes, way.cuts, &mut space),
         flags,
-        numbers: numbers_of(called.nodes, alloc)?,
-        tame: tame_of(&spoken, way.is_tame, alloc)?,
+        numbers: numbers_of(called.nodes, &mut space),
+        tame: tame_of(&spoken, way.is_tame, &mut space),
         is_exact: way.is_exact || has_quotients,
         spoken,
         most_cases: way.most_cases,
@@ -407,6 +413,7 @@ fn searched(
         work: if is_whole { WORK } else { WORK / 2 },
         alloc,
     };
+    space.finish()?;
     Ok(tried(&mut search, way, report)?)
 }
 

@@ -3,18 +3,7 @@
 #![tactic(auto)]
 
 mod infer;
-mod invariants;
-mod known_claims;
-mod levels;
-mod polynomials;
-mod potentials;
-mod promises;
 mod reason;
-mod turns;
-mod unknowns;
-mod wanted;
-mod ways;
-mod worth;
 mod written;
 
 pub use infer::Inference;

@@ -1,16 +1,18 @@
 //! What would show a condition that could not be shown, in the measures that claims speak of.
-use crate::known_claims::KnownClaims;
-use crate::ways::unbounded;
 use crate::written::{claim_of, fact_claims};
-use std::alloc::Global;
-use teco_bounds::fault::{SearchRefusal, SearchStop};
-use teco_bounds::keys::{is_count, shifted};
-use teco_bounds::legs::{LegStart, Web};
+use teco_bounds::forms::shifted;
+use teco_bounds::keys::Keys;
+use teco_bounds::measures::is_count;
 use teco_bounds::record::OpenCondition;
-use teco_bounds::search::{Keys, PathSearch};
+use teco_bounds::web::{LegStart, Web};
+use teco_bounds::workspace::Workspace;
 use teco_claims::Claim;
-use teco_linear::{Form, Scale};
+use teco_linear::{Form, Scale, Term};
 use teco_paths::search::Shortfall;
+use teco_potentials::known_claims::KnownClaims;
+use teco_potentials::ways::unbounded;
+use teco_trails::fault::{SearchRefusal, SearchStop};
+use teco_trails::search::PathSearch;
 
 // The most ways that are told.
 const MOST_WAYS: usize = 3;
@@ -41,36 +43,35 @@ fn measured(entry: (usize, &Option<Form>)) -> Option<(u32, &Form)> {
 
 // The measures' places of which a form is the difference, and how much more it is; where it is one
 // alone, the place of that.
-fn difference_in(
-    form: &Form,
-    forms: &[Option<Form>],
-    alloc: Global,
-) -> Result<Option<Form>, SearchStop> {
+fn difference_in(form: &Form, forms: &[Option<Form>], space: &mut Workspace) -> Option<Form> {
     for (place, more) in forms.iter().enumerate().filter_map(measured) {
-        if let Some(rest) = rest_in(&form.sub(more, alloc)?, forms, alloc)? {
-            return Ok(Some(shifted(Some(place), 0, alloc)?.add(&rest, alloc)?));
+        let rest = space.difference(form, more);
+        if let Some(rest) = rest_in(&rest, forms, space) {
+            let one = shifted(Some(place), 0, space);
+            return Some(space.sum(&one, &rest));
         }
     }
-    less_in(form, forms, alloc)
+    less_in(form, forms, space)
 }
 
 // A form that is a number, or one less a measure, by the measures' places.
-fn rest_in(form: &Form, forms: &[Option<Form>], alloc: Global) -> Result<Option<Form>, SearchStop> {
+fn rest_in(form: &Form, forms: &[Option<Form>], space: &mut Workspace) -> Option<Form> {
     match number_of(form) {
-        Some(number) => Ok(Some(shifted(None, number, alloc)?)),
-        None => less_in(form, forms, alloc),
+        Some(number) => Some(shifted(None, number, space)),
+        None => less_in(form, forms, space),
     }
 }
 
 // A form that is a number less a measure, by the measures' places.
-fn less_in(form: &Form, forms: &[Option<Form>], alloc: Global) -> Result<Option<Form>, SearchStop> {
+fn less_in(form: &Form, forms: &[Option<Form>], space: &mut Workspace) -> Option<Form> {
     for (place, less) in forms.iter().enumerate().filter_map(measured) {
-        if let Some(number) = number_of(&form.add(less, alloc)?) {
-            let one = shifted(Some(place), 0, alloc)?;
-            return Ok(Some(shifted(None, number, alloc)?.sub(&one, alloc)?));
+        if let Some(number) = number_of(&space.sum(form, less)) {
+            let one = shifted(Some(place), 0, space);
+            let number = shifted(None, number, space);
+            return Some(space.difference(&number, &one));
         }
     }
-    Ok(None)
+    None
 }
 
 // The symbol that a form is, if it is just one.
@@ -87,25 +88,29 @@ fn place_at(start: &LegStart, symbol: u32) -> Option<u32> {
     u32::try_from(start.forms.iter().position(is_it)?).ok()
 }
 
+// A term over the symbols that paths begin with, over the measures that these stand for there; none where
+// it speaks of another symbol.
+fn term_at(term: &Term, start: &LegStart, space: &mut Workspace) -> Option<Form> {
+    let scale = Scale {
+        factor: term.coefficient,
+        power: term.power,
+    };
+    let one = match term.symbol {
+        Some(symbol) => shifted(Some(place_at(start, symbol)?), 0, space),
+        None => space.constant(1),
+    };
+    Some(space.scaled(&one, &scale))
+}
+
 // A form over the symbols that paths begin with, over the measures that these stand for there; none
 // where it speaks of other symbols.
-fn measured_at(form: &Form, start: &LegStart, alloc: Global) -> Result<Option<Form>, SearchStop> {
-    let mut sum = Form::zero(alloc);
+fn measured_at(form: &Form, start: &LegStart, space: &mut Workspace) -> Option<Form> {
+    let mut sum = Form::zero(space.alloc);
     for term in form.terms() {
-        let one = match term.symbol {
-            Some(symbol) => match place_at(start, symbol) {
-                Some(place) => shifted(Some(place), 0, alloc)?,
-                None => return Ok(None),
-            },
-            None => Form::constant(1, alloc)?,
-        };
-        let scale = Scale {
-            factor: term.coefficient,
-            power: term.power,
-        };
-        sum = sum.add(&one.scaled(&scale, alloc)?, alloc)?;
+        let part = term_at(term, start, space)?;
+        sum = space.sum(&sum, &part);
     }
-    Ok(Some(sum))
+    Some(sum)
 }
 
 // The number of the first cut point behind the entry, or 0.
@@ -118,26 +123,33 @@ fn claim_at(
     search: &PathSearch<'_>,
     start: &LegStart,
     open: &OpenCondition,
-) -> Result<Option<Claim>, SearchStop> {
-    match measured_at(&open.wanted, start, search.alloc)? {
-        Some(form) => claim_of(search, start.number, &form),
-        None => Ok(None),
-    }
-}
-
-// What is known at a key, as claims.
-fn known_at(search: &PathSearch<'_>, keys: &Keys, place: usize) -> Result<Vec<Claim>, SearchStop> {
-    match (keys.keys.get(place), keys.facts.get(place)) {
-        (Some(key), Some(facts)) => fact_claims(search, key, facts, false),
-        _ => Ok(Vec::new(search.alloc)),
-    }
+    space: &mut Workspace,
+) -> Option<Claim> {
+    let form = measured_at(&open.wanted, start, space)?;
+    claim_of(search, start.number, &form, space)
 }
 
 // A condition as a claim where its element stands.
-fn claim_there(search: &PathSearch<'_>, open: &OpenCondition) -> Result<Option<Claim>, SearchStop> {
-    match difference_in(&open.wanted, &open.forms, search.alloc)? {
-        Some(form) => claim_of(search, open.number, &form),
-        None => Ok(None),
+fn claim_there(
+    search: &PathSearch<'_>,
+    open: &OpenCondition,
+    space: &mut Workspace,
+) -> Option<Claim> {
+    let form = difference_in(&open.wanted, &open.forms, space)?;
+    claim_of(search, open.number, &form, space)
+}
+
+// What is known at a key, as claims.
+fn known_at(
+    search: &PathSearch<'_>,
+    keys: &Keys,
+    place: Option<usize>,
+    space: &mut Workspace,
+) -> Vec<Claim> {
+    let place = place.unwrap_or(usize::MAX);
+    match (keys.keys.get(place), keys.facts.get(place)) {
+        (Some(key), Some(facts)) => fact_claims(search, key, facts, false, space),
+        _ => Vec::new(space.alloc),
     }
 }
 
@@ -147,32 +159,23 @@ fn unshown(
     web: &Web,
     keys: &Keys,
     number: usize,
-) -> Result<Option<Shortfall>, SearchStop> {
-    for open in &web.record.opens {
-        let Some(start) = web.starts.get(open.source) else {
-            continue;
-        };
-        if open.number == number {
-            return Ok(Some(Shortfall {
-                needed: claim_there(search, open)?,
-                point: start.number,
-                wanted: claim_at(search, start, open)?,
-                known: known_at(search, keys, open.source)?,
-                ways: Vec::new(search.alloc),
-            }));
-        }
-    }
-    Ok(None)
+    space: &mut Workspace,
+) -> Option<Shortfall> {
+    let open = web.record.opens.iter().find(|open| {
+        open.number == number && open.source < web.starts.len()
+    })?;
+    let start = web.starts.get(open.source)?;
+    Some(Shortfall {
+        needed: claim_there(search, open, space),
+        point: start.number,
+        wanted: claim_at(search, start, open, space),
+        known: known_at(search, keys, Some(open.source), space),
+        ways: Vec::new(space.alloc),
+    })
 }
 
-// What is known where paths begin at a node: at the key of the first of some, or at its first one.
-fn known_at_node(
-    search: &PathSearch<'_>,
-    web: &Web,
-    keys: &Keys,
-    number: usize,
-    paths: &[usize],
-) -> Result<Vec<Claim>, SearchStop> {
+// The key where paths begin at a node: that of the first of some, or else the first one.
+fn place_at_node(web: &Web, keys: &Keys, number: usize, paths: &[usize]) -> Option<usize> {
     let of_paths = paths
         .iter()
         .filter_map(|at| web.legs.get(*at))
@@ -181,24 +184,24 @@ fn known_at_node(
         .keys
         .get(*place)
         .is_some_and(|key| key.number == number);
-    match of_paths.chain(0..keys.keys.len()).find(is_there) {
-        Some(place) => known_at(search, keys, place),
-        None => Ok(Vec::new(search.alloc)),
-    }
+    of_paths.chain(0..keys.keys.len()).find(is_there)
 }
 
 // The elements on paths, each way once.
-fn ways_of(web: &Web, paths: &[usize], alloc: Global) -> Result<Vec<Vec<usize>>, SearchStop> {
-    let mut ways: Vec<Vec<usize>> = Vec::new(alloc);
+fn ways_of(web: &Web, paths: &[usize], space: &mut Workspace) -> Vec<Vec<usize>> {
+    let mut ways: Vec<Vec<usize>> = Vec::new(space.alloc);
     for path in paths {
-        let last = web.legs.get(*path).and_then(|leg| leg.passed);
-        let way = web.record.way(last, alloc)?;
+        let last = match web.legs.get(*path) {
+            Some(leg) => leg.passed,
+            None => None,
+        };
+        let way = web.record.way(last, space);
         let is_new = ways.iter().all(|other| other.as_slice() != way.as_slice());
         if is_new && ways.len() < MOST_WAYS {
-            ways.push(way)?;
+            space.push(&mut ways, way);
         }
     }
-    Ok(ways)
+    ways
 }
 
 // What is known at a node from which paths lead on without a bound.
@@ -206,16 +209,18 @@ fn endless(
     search: &PathSearch<'_>,
     web: &Web,
     keys: &Keys,
-    number: usize,
-    paths: &[usize],
-) -> Result<Option<Shortfall>, SearchStop> {
-    Ok(Some(Shortfall {
+    at: (usize, &[usize]),
+    space: &mut Workspace,
+) -> Shortfall {
+    let (number, paths) = at;
+    let place = place_at_node(web, keys, number, paths);
+    Shortfall {
         needed: None,
         point: number,
         wanted: None,
-        known: known_at_node(search, web, keys, number, paths)?,
-        ways: ways_of(web, paths, search.alloc)?,
-    }))
+        known: known_at(search, keys, place, space),
+        ways: ways_of(web, paths, space),
+    }
 }
 
 // Why a search stops, as far as that can be told.
@@ -225,15 +230,21 @@ pub fn reason_for(
     keys: &Keys,
     known: &mut KnownClaims,
     stop: SearchStop,
-) -> Result<Option<Shortfall>, SearchStop> {
-    match stop {
-        SearchStop::Refused(SearchRefusal::Condition(number)) => unshown(search, web, keys, number),
+) -> Option<Shortfall> {
+    let mut space = Workspace::new(search.alloc);
+    let reason = match stop {
+        SearchStop::Refused(SearchRefusal::Condition(number)) => {
+            unshown(search, web, keys, number, &mut space)
+        }
         SearchStop::Refused(SearchRefusal::Steps(number)) => {
             known.work = WORK;
-            let paths = unbounded(web, known, number, search.alloc)?;
-            endless(search, web, keys, number, &paths)
+            let paths = unbounded(web, known, number, &mut space);
+            Some(endless(search, web, keys, (number, &paths), &mut space))
         }
-        SearchStop::Refused(SearchRefusal::Size) => endless(search, web, keys, first_of(keys), &[]),
-        _ => Ok(None),
-    }
+        SearchStop::Refused(SearchRefusal::Size) => {
+            Some(endless(search, web, keys, (first_of(keys), &[]), &mut space))
+        }
+        _ => None,
+    };
+    if space.is_stopped() { None } else { reason }
 }

@@ -1,22 +1,21 @@
 //! What was found as claims of a certificate.
-use crate::known_claims::KnownClaims;
-use crate::promises::Promises;
-use std::alloc::Global;
 use teco_base::Reg;
 use teco_bounds::bounds::{Bounds, NONE};
-use teco_bounds::fault::{SearchRefusal, SearchStop};
-use teco_bounds::keys::{
-    HELD, Key, LAST_LENGTH, LINE_END, LINE_START, POINTER, SIZE, STEPS, TYPED, add_always,
-    bound_form, symbol_of,
-};
+use teco_bounds::constraints::{add_always, bound_form, symbol_of};
+use teco_bounds::keys::{Key, Keys};
 use teco_bounds::measures::{
-    LENGTH, NUMBER, PUSHED_LENGTH, PUSHED_NUMBER, SINGLES, TURNS, family_of, index_of,
+    ENTRY_HELD, HELD, LAST_LENGTH, LENGTH, LINE_END, LINE_START, NUMBER, POINTER, PUSHED_LENGTH,
+    PUSHED_NUMBER, SINGLES, SIZE, STEPS, TURNS, TYPED, family_of, index_of,
 };
 use teco_bounds::numbers::plus;
-use teco_bounds::search::{Keys, PathSearch};
+use teco_bounds::workspace::{Stop, Workspace};
 use teco_claims::{Claim, ClaimMeasure, ClaimSingle, ClaimTerm, Claims, Cut, Fraction};
-use teco_linear::Form;
+use teco_linear::{Form, Term};
 use teco_poly::Poly;
+use teco_potentials::known_claims::KnownClaims;
+use teco_potentials::promises::Promises;
+use teco_trails::fault::{SearchRefusal, SearchStop};
+use teco_trails::search::PathSearch;
 
 // Bounds from here on are limits. They are claimed of measures alone, and only where a register, a turn or
 // a pair has one: it may rest on those of other measures.
@@ -36,6 +35,13 @@ fn polynomial(coefficients: &[u64]) -> Option<Poly> {
     Some(sum)
 }
 
+fn polynomial_if(coefficients: &Option<Vec<u64>>) -> Option<Poly> {
+    match coefficients {
+        Some(coefficients) => polynomial(coefficients),
+        None => None,
+    }
+}
+
 // The codes of characters have no name.
 fn single_of(place: u32) -> Option<ClaimSingle> {
     match place {
@@ -47,6 +53,7 @@ fn single_of(place: u32) -> Option<ClaimSingle> {
         LINE_START => Some(ClaimSingle::LineStart),
         LAST_LENGTH => Some(ClaimSingle::LastLength),
         TYPED => Some(ClaimSingle::Typed),
+        ENTRY_HELD => Some(ClaimSingle::EntryHeld),
         _ => None,
     }
 }
@@ -80,40 +87,59 @@ fn measure_of(search: &PathSearch<'_>, number: usize, place: u32) -> Option<Clai
     }
 }
 
+// Adds the term of a claim that a term over the places of measures is; says whether its measure has a
+// name.
+fn add_term(
+    search: &PathSearch<'_>,
+    number: usize,
+    term: &Term,
+    terms: &mut Vec<ClaimTerm>,
+    space: &mut Workspace,
+) -> bool {
+    let measure = match term.symbol {
+        Some(place) => match measure_of(search, number, place) {
+            Some(measure) => Some(measure),
+            None => return false,
+        },
+        None => None,
+    };
+    let claimed = ClaimTerm {
+        is_negative: term.coefficient < 0,
+        coefficient: Fraction {
+            numerator: term.coefficient.unsigned_abs(),
+            divisor: 1,
+        },
+        power: term.power,
+        measure,
+    };
+    space.push(terms, claimed);
+    true
+}
+
 // A form over the places of measures as a claim; none where it speaks of what has no name.
 pub fn claim_of(
     search: &PathSearch<'_>,
     number: usize,
     form: &Form,
-) -> Result<Option<Claim>, SearchStop> {
-    let mut terms: Vec<ClaimTerm> = Vec::new(search.alloc);
+    space: &mut Workspace,
+) -> Option<Claim> {
+    let mut terms = Vec::new(space.alloc);
     for term in form.terms() {
-        let measure = match term.symbol {
-            Some(place) => match measure_of(search, number, place) {
-                Some(measure) => Some(measure),
-                None => return Ok(None),
-            },
-            None => None,
-        };
-        terms.push(ClaimTerm {
-            is_negative: term.coefficient < 0,
-            coefficient: Fraction {
-                numerator: term.coefficient.unsigned_abs(),
-                divisor: 1,
-            },
-            power: term.power,
-            measure,
-        })?;
+        if !add_term(search, number, term, &mut terms, space) {
+            return None;
+        }
     }
-    terms.sort_by_key(|term| order(term))?;
-    Ok(Some(Claim { terms }))
+    if terms.sort_by_key(|term| order(term)).is_err() {
+        space.stop(Stop::Memory);
+    }
+    Some(Claim { terms })
 }
 
 // What always holds at a key.
-fn always(search: &PathSearch<'_>, key: &Key) -> Result<Bounds, SearchStop> {
-    let mut always = Bounds::none(search.alloc)?.of_symbols(&key.told, search.alloc)?;
+fn always(key: &Key, space: &mut Workspace) -> Bounds {
+    let mut always = Bounds::none(space).of_symbols(&key.told, space);
     add_always(&mut always, &key.told);
-    Ok(always)
+    always
 }
 
 // Whether a register, a turn or a pair has a limit that does not always hold.
@@ -128,13 +154,13 @@ fn is_limited(always: &Bounds, facts: &Bounds) -> bool {
 }
 
 // Whether limits are claimed: a register, a turn or a pair has one.
-fn has_limits(search: &PathSearch<'_>, keys: &Keys) -> Result<bool, SearchStop> {
+fn has_limits(keys: &Keys, space: &mut Workspace) -> bool {
     for (key, facts) in keys.keys.iter().zip(keys.facts.iter()) {
-        if is_limited(&always(search, key)?, facts) {
-            return Ok(true);
+        if is_limited(&always(key, space), facts) {
+            return true;
         }
     }
-    Ok(false)
+    false
 }
 
 // Leaves out what need not be claimed of facts, with limits or without.
@@ -150,12 +176,8 @@ fn leave_out(facts: &mut Bounds, always: &Bounds, with_limits: bool) {
 }
 
 // Takes the forms of bounds that no chain of the others implies; the others are taken out.
-fn take_unchained(
-    left: &mut Bounds,
-    always: &Bounds,
-    forms: &mut Vec<Form>,
-    alloc: Global,
-) -> Result<(), SearchStop> {
+fn take_unchained(left: &mut Bounds, always: &Bounds, space: &mut Workspace) -> Vec<Form> {
+    let mut forms = Vec::new(space.alloc);
     for row in 0..left.size() {
         for column in 0..left.size() {
             if row == column || left.at(row, column) == NONE {
@@ -164,27 +186,20 @@ fn take_unchained(
             if is_chained(left, always, row, column) {
                 left.set(row, column, NONE);
             } else {
-                forms.push(bound_form(left, row, column, alloc)?)?;
+                let form = bound_form(left, row, column, space);
+                space.push(&mut forms, form);
             }
         }
     }
-    Ok(())
+    forms
 }
 
 // The facts of a key that are claimed, with limits or without.
-fn claimed_facts(
-    search: &PathSearch<'_>,
-    key: &Key,
-    facts: &Bounds,
-    with_limits: bool,
-) -> Result<Vec<Form>, SearchStop> {
-    let alloc = search.alloc;
-    let always = always(search, key)?;
-    let mut left = facts.copied(alloc)?;
+fn claimed_facts(key: &Key, facts: &Bounds, with_limits: bool, space: &mut Workspace) -> Vec<Form> {
+    let always = always(key, space);
+    let mut left = facts.copied(space);
     leave_out(&mut left, &always, with_limits);
-    let mut forms = Vec::new(alloc);
-    take_unchained(&mut left, &always, &mut forms, alloc)?;
-    Ok(forms)
+    take_unchained(&mut left, &always, space)
 }
 
 // The facts of a key as claims, with limits or without.
@@ -193,41 +208,36 @@ pub fn fact_claims(
     key: &Key,
     facts: &Bounds,
     with_limits: bool,
-) -> Result<Vec<Claim>, SearchStop> {
-    let forms = claimed_facts(search, key, facts, with_limits)?;
-    let mut claims = Vec::new(search.alloc);
-    for form in &forms {
-        if let Some(claim) = claim_of(search, key.number, form)? {
-            claims.push(claim)?;
+    space: &mut Workspace,
+) -> Vec<Claim> {
+    let mut claims = Vec::new(space.alloc);
+    for form in &claimed_facts(key, facts, with_limits, space) {
+        if let Some(claim) = claim_of(search, key.number, form, space) {
+            space.push(&mut claims, claim);
         }
     }
-    Ok(claims)
+    claims
 }
 
-// The cut point of a key, with limits or without.
-fn cut(
+// What is known besides at a key, which stands at a node, as claims.
+fn other_claims(
     search: &PathSearch<'_>,
-    keys: &Keys,
-    place: usize,
     known: &KnownClaims,
-    with_limits: bool,
-) -> Result<Option<Cut>, SearchStop> {
-    let (Some(key), Some(facts)) = (keys.keys.get(place), keys.facts.get(place)) else {
-        return Ok(None);
-    };
-    let mut claims = fact_claims(search, key, facts, with_limits)?;
+    place: usize,
+    number: usize,
+    space: &mut Workspace,
+) -> Vec<Claim> {
+    let mut claims = Vec::new(space.alloc);
     for (at, form) in &known.claims {
-        if *at == place {
-            match claim_of(search, key.number, form)? {
-                Some(claim) => claims.push(claim)?,
-                None => return Err(SearchStop::Refused(SearchRefusal::TooMuch)),
-            }
+        if *at != place {
+            continue;
+        }
+        match claim_of(search, number, form, space) {
+            Some(claim) => space.push(&mut claims, claim),
+            None => space.stop(Stop::TooMuch),
         }
     }
-    Ok(Some(Cut {
-        point: key.number,
-        claims,
-    }))
+    claims
 }
 
 // The cut points of the keys, in order.
@@ -235,16 +245,24 @@ fn cuts_of(
     search: &PathSearch<'_>,
     keys: &Keys,
     known: &KnownClaims,
-) -> Result<Vec<Cut>, SearchStop> {
-    let with_limits = has_limits(search, keys)?;
-    let mut cuts: Vec<Cut> = Vec::new(search.alloc);
-    for place in 1..keys.keys.len() {
-        if let Some(cut) = cut(search, keys, place, known, with_limits)? {
-            cuts.push(cut)?;
+    space: &mut Workspace,
+) -> Vec<Cut> {
+    let with_limits = has_limits(keys, space);
+    let mut cuts = Vec::new(space.alloc);
+    for (place, (key, facts)) in keys.keys.iter().zip(keys.facts.iter()).enumerate() {
+        if place == 0 {
+            continue;
         }
+        let mut claims = fact_claims(search, key, facts, with_limits, space);
+        let mut others = other_claims(search, known, place, key.number, space);
+        space.append(&mut claims, &mut others);
+        let point = key.number;
+        space.push(&mut cuts, Cut { point, claims });
     }
-    cuts.sort_by_key(|cut| cut.point)?;
-    Ok(cuts)
+    if cuts.sort_by_key(|cut| cut.point).is_err() {
+        space.stop(Stop::Memory);
+    }
+    cuts
 }
 
 // The claims.
@@ -258,14 +276,15 @@ pub fn claims_of(
     else {
         return Err(SearchStop::Refused(SearchRefusal::TooMuch));
     };
-    let types = match &promises.types {
-        Some(types) => polynomial(types),
-        None => None,
-    };
-    let cuts = cuts_of(search, keys, known)?;
+    let grows = polynomial_if(&promises.grows);
+    let types = polynomial_if(&promises.types);
+    let mut space = Workspace::new(search.alloc);
+    let cuts = cuts_of(search, keys, known, &mut space);
+    space.finish()?;
     Ok(Claims {
         commands,
         size,
+        grows,
         types,
         cuts,
     })
@@ -323,15 +342,16 @@ fn kind_of(measure: &ClaimMeasure) -> u64 {
         ClaimMeasure::One(ClaimSingle::Steps) => 1,
         ClaimMeasure::One(ClaimSingle::LineEnd) => 2,
         ClaimMeasure::One(ClaimSingle::Held) => 3,
-        ClaimMeasure::PushedNumber(_) | ClaimMeasure::PushedLength(_) => 4,
-        ClaimMeasure::One(ClaimSingle::LastLength) => 5,
-        ClaimMeasure::One(ClaimSingle::Typed) => 6,
-        ClaimMeasure::One(ClaimSingle::Pointer) => 7,
-        ClaimMeasure::Number(_) => 8,
-        ClaimMeasure::Turns(_) => 9,
-        ClaimMeasure::One(ClaimSingle::LineStart) => 10,
-        ClaimMeasure::Length(_) => 11,
-        ClaimMeasure::One(ClaimSingle::Size) => 12,
+        ClaimMeasure::One(ClaimSingle::EntryHeld) => 4,
+        ClaimMeasure::PushedNumber(_) | ClaimMeasure::PushedLength(_) => 5,
+        ClaimMeasure::One(ClaimSingle::LastLength) => 6,
+        ClaimMeasure::One(ClaimSingle::Typed) => 7,
+        ClaimMeasure::One(ClaimSingle::Pointer) => 8,
+        ClaimMeasure::Number(_) => 9,
+        ClaimMeasure::Turns(_) => 10,
+        ClaimMeasure::One(ClaimSingle::LineStart) => 11,
+        ClaimMeasure::Length(_) => 12,
+        ClaimMeasure::One(ClaimSingle::Size) => 13,
     }
 }
 

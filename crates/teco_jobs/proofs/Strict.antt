@@ -37,7 +37,8 @@ module _ (grow : ValuesGrow) (terms : Terms) (call : PromisedCall) (strict : Are
   admits : (old : World) → IsAnswered (on_terms terms call) old true
       → IsReady call.promise (loaded call.promise.library old)
   admits old asked =
-      ready-with (loaded call.promise.library old) asked.most asked.unread (asked.answered refl strict.strict)
+      ready-with (loaded call.promise.library old) asked.most asked.unread
+      ((asked.answered.0 refl).promised strict.strict)
 
   runs : (old new : World) (stop : Stop) → AdmittedStops (on_terms terms call) old stop new
       → IsSure (value call.promise.commands (n_of (loaded call.promise.library old))) stop

@@ -1,6 +1,6 @@
 //! What is seen, and said, of the runs of a verified macro on files.
-ghost use Rattle.std.specs.Prelude.{◌≡◌, Some, IfSome, IsTrue};
-ghost use Rattle.teco_jobs.specs.Terms.{Answers, IsPromised, n_at_most};
+ghost use Rattle.std.specs.Prelude.{◌≡◌, ◌↔◌, true, Some, IfSome, IsTrue};
+ghost use Rattle.teco_jobs.specs.Terms.{Answers, IsPromised, IsReadWhole, n_at_most};
 
 use crate::bound::Bound;
 use std::fmt;
@@ -46,18 +46,23 @@ pub struct Terms {
 }
 
 impl Terms {
-    // Is a run at this N within the promise? One at an N that can't be told is not.
-    fn is_promised(self, n: Option<u64>) -> bool
-        ensures { IsTrue result → IsPromised self n }
+    // Is a run within the promise where so much is held and unread? One at an N that can't be told is not.
+    fn is_promised(self, held: u128, unread: Option<u64>) -> bool
+        ensures { IsTrue result ↔ IsPromised self (n_at_most held unread) }
     {
-        match n {
-            Some(n) => self.bound.premise.holds_at(u128::from(n)),
+        match unread {
+            Some(unread) => match held.checked_add(u128::from(unread)) {
+                Some(n) => self.bound.premise.holds_at(n),
+                None => false,
+            },
             None => false,
         }
     }
 
     // Is a run let go on behind which so many bytes stay unread?
-    fn is_whole(self, unread: Option<u64>) -> bool {
+    fn is_whole(self, unread: Option<u64>) -> bool
+        ensures { IsTrue result ↔ (self.wants_all ≡ true → IsReadWhole unread) }
+    {
         match unread {
             Some(unread) => unread == 0 || !self.wants_all,
             None => true,
@@ -69,7 +74,7 @@ impl Guard for Terms {
     ghost answers = { Answers };
 
     fn admits(&self, held: u128, unread: Option<u64>) -> bool {
-        if self.is_strict && !self.is_promised(n_of(held, unread)) {
+        if self.is_strict && !self.is_promised(held, unread) {
             return false;
         }
         self.is_whole(unread)
@@ -232,7 +237,7 @@ impl<H: Host + Reporting, E: Write + Drop> Observer<H> for Warden<'_, E> {
         let n = n_of(asked.held, asked.unread);
         self.count(n);
         self.tell_promise(n, host.input_length());
-        if self.watch.terms.is_promised(n) || !self.watch.terms.is_strict {
+        if self.watch.terms.is_promised(asked.held, asked.unread) || !self.watch.terms.is_strict {
             self.tell_unread(asked.unread);
         }
         self.is_running = asked.admitted;

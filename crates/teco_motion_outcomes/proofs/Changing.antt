@@ -4,6 +4,7 @@ use Rattle.teco_motion_outcomes.proofs.Prelude.{slice_index_or, refl, sym, ap, s
 use Rattle.teco_motion_outcomes.proofs.Prelude.{ints, Term, value, Kept, Case, Number, Length, Turns, PushedNumber}
 use Rattle.teco_motion_outcomes.proofs.Prelude.{PushedLength, First, Value, One, Each, Single, Steps, Pointer, Size}
 use Rattle.teco_motion_outcomes.proofs.Prelude.{Held, LineEnd, LineStart, LastLength, CodeHere, CodeBefore, Typed}
+use Rattle.teco_motion_outcomes.proofs.Prelude.{EntryHeld}
 use Rattle.teco_motion_outcomes.proofs.Prelude.{Clause, Places, IsAtLevel, IsCommanded, Leads, commanded, AreMet}
 use Rattle.teco_motion_outcomes.proofs.Prelude.{Before, changed, Point, length_of, number_of, single, read_at, answers}
 use Rattle.teco_motion_outcomes.proofs.Prelude.{is_of_singles, leads, leaves, left_alone}
@@ -103,6 +104,7 @@ module _ (s : Point) (here : Places) (given unknown : ℕ → ℤ) where
   stays answer CodeHere = refl
   stays answer CodeBefore = refl
   stays answer Typed = refl
+  stays answer EntryHeld = refl
 
   leads_to_answer : (answer : Option ℤ) → here.level ≡ length s.arguments.outer
       → Leads (answer_row answer) (read_at s here given unknown) s s.kept answer

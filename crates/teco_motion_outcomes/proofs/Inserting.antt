@@ -6,7 +6,8 @@ use Rattle.teco_motion_outcomes.proofs.Prelude.{ap, subst, ◌∙◌, arith, nat
 use Rattle.teco_motion_outcomes.proofs.Prelude.{byte_of, line_place, text_after_insertion, LIMIT, Term, Valuation}
 use Rattle.teco_motion_outcomes.proofs.Prelude.{value, no_answer, Element, Kept, retrieval, storage, text_in, Get}
 use Rattle.teco_motion_outcomes.proofs.Prelude.{IsWhole, Case, TakenForms, Single, Steps, Pointer, Size, Held, LineEnd}
-use Rattle.teco_motion_outcomes.proofs.Prelude.{LineStart, LastLength, CodeHere, CodeBefore, Typed, One, Outcomes}
+use Rattle.teco_motion_outcomes.proofs.Prelude.{LineStart, LastLength, CodeHere, CodeBefore, Typed, EntryHeld, One}
+use Rattle.teco_motion_outcomes.proofs.Prelude.{Outcomes}
 use Rattle.teco_motion_outcomes.proofs.Prelude.{Places, value_if, AreCommanded, Leads, Performs, commanded, IsDone}
 use Rattle.teco_motion_outcomes.proofs.Prelude.{Describe, end_code, Before, changed, Point, IsTrueOf, single}
 use Rattle.teco_motion_outcomes.proofs.Prelude.{code_before, code_here, with_codes, read_at, leads_singles, performed}
@@ -128,6 +129,7 @@ module _ (s : Point) (here : Places) (given unknown : ℕ → ℤ) (new : List �
         singles CodeHere = ap (λ x. Some (pos x)) (grown_here s.kept.text new s.kept.pointer inside)
         singles CodeBefore = ap Some (omega (arith, ints, grown_before s.kept.text new s.kept.pointer inside))
         singles Typed = refl
+        singles EntryHeld = refl
 
   pub starts : 1 ≤ line_place new (length new) (pos 0) → Leads STARTS before s (kept_with new s.kept) None
   starts one =
@@ -147,6 +149,7 @@ module _ (s : Point) (here : Places) (given unknown : ℕ → ℤ) (new : List �
         singles CodeHere = ap (λ x. Some (pos x)) (grown_here s.kept.text new s.kept.pointer inside)
         singles CodeBefore = ap Some (omega (arith, ints, grown_before s.kept.text new s.kept.pointer inside))
         singles Typed = refl
+        singles EntryHeld = refl
 
 -- ---- what is inserted
 abbrev read_by : List Term → List Term → List Term → ℕ → Valuation → ℕ → ℤ
@@ -277,6 +280,7 @@ module _ (s : Point) (here : Places) (given unknown : ℕ → ℤ) (new : List �
         singles CodeHere = ap (λ x. Some (pos x)) (grown_here s.kept.text new s.kept.pointer inside)
         singles CodeBefore = ap Some (omega (arith, ints, before_is))
         singles Typed = refl
+        singles EntryHeld = refl
 
 -- what is not known of the state behind
 abbrev unknown_behind : Kept → List ℕ → ℕ → ℤ

@@ -5,7 +5,8 @@ use Rattle.teco_motion_outcomes.proofs.Prelude.{if◌then◌else◌, nat_le, sli
 use Rattle.teco_motion_outcomes.proofs.Prelude.{arith, nat_tests, ints, All, line_place, Term, Valuation, value}
 use Rattle.teco_motion_outcomes.proofs.Prelude.{no_answer, with_answer, motion, Element, place_in, Kept, IsWhole, Case}
 use Rattle.teco_motion_outcomes.proofs.Prelude.{Single, Steps, Pointer, Size, Held, LineEnd, LineStart, LastLength}
-use Rattle.teco_motion_outcomes.proofs.Prelude.{CodeHere, CodeBefore, Typed, One, Each, Number, Length, Turns}
+use Rattle.teco_motion_outcomes.proofs.Prelude.{CodeHere, CodeBefore, Typed, EntryHeld, One, Each, Number, Length}
+use Rattle.teco_motion_outcomes.proofs.Prelude.{Turns}
 use Rattle.teco_motion_outcomes.proofs.Prelude.{PushedNumber, PushedLength, First, Value, value_if, TakenForms}
 use Rattle.teco_motion_outcomes.proofs.Prelude.{Outcomes, Clause, Places, Before, AreMet, changed, Point, IsTrueOf}
 use Rattle.teco_motion_outcomes.proofs.Prelude.{single, code_here, code_before, Begins, Describe, AreCommanded}
@@ -165,6 +166,7 @@ module _ (s : Point) (here : Places) (given unknown : ℕ → ℤ) (k : ℕ) (wh
     ahead CodeHere = ap Some (omega (arith, ints, at_it))
     ahead CodeBefore = ap Some (omega (arith, ints, before_it))
     ahead Typed = refl
+    ahead EntryHeld = refl
 
     within : line_place s.kept.text k (pos 1) ≡ line_place s.kept.text s.kept.pointer (pos 1)
         → line_place s.kept.text k (pos 0) ≡ line_place s.kept.text s.kept.pointer (pos 0)
@@ -180,6 +182,7 @@ module _ (s : Point) (here : Places) (given unknown : ℕ → ℤ) (k : ℕ) (wh
     within d f CodeHere = ap Some (omega (arith, ints, at_it))
     within d f CodeBefore = ap Some (omega (arith, ints, before_it))
     within d f Typed = refl
+    within d f EntryHeld = refl
 
     back : (which : Single) → Some (single (commanded s kept None) which)
         ≡ changed BACK b (One which) (Some (single (commanded s s.kept None) which))
@@ -193,6 +196,7 @@ module _ (s : Point) (here : Places) (given unknown : ℕ → ℤ) (k : ℕ) (wh
     back CodeHere = ap Some (omega (arith, ints, at_it))
     back CodeBefore = ap Some (omega (arith, ints, before_it))
     back Typed = refl
+    back EntryHeld = refl
 
   -- to the next character
   there : IsEnd s.kept.text k (line_place s.kept.text k (pos 1))
@@ -292,6 +296,7 @@ module _ (s : Point) (here : Places) (given unknown : ℕ → ℤ) (k : ℕ) (wh
           singles CodeHere = ap Some (omega (arith, ints, at_it))
           singles CodeBefore = ap Some (omega (arith, ints, before))
           singles Typed = refl
+          singles EntryHeld = refl
     by_sort (is_low going low high) = inr (inl (moved PASSES_LOW None refl refl refl refl refl refl
         (omega (arith, ints, next, ahead), (omega (arith, ints, low), (omega (arith, ints, high), tt)))
         (singles (goes_on next going)) (λ i. refl))) where
@@ -307,6 +312,7 @@ module _ (s : Point) (here : Places) (given unknown : ℕ → ℤ) (k : ℕ) (wh
           singles same CodeHere = ap Some (omega (arith, ints, at_it))
           singles same CodeBefore = ap Some (omega (arith, ints, before))
           singles same Typed = refl
+          singles same EntryHeld = refl
     by_sort (is_high going low high) = inr (inr (moved PASSES_HIGH None refl refl refl refl refl refl
         (omega (arith, ints, next, ahead), (omega (arith, ints, low), (omega (arith, ints, high), tt)))
         (singles (goes_on next going)) (λ i. refl))) where
@@ -322,6 +328,7 @@ module _ (s : Point) (here : Places) (given unknown : ℕ → ℤ) (k : ℕ) (wh
           singles same CodeHere = ap Some (omega (arith, ints, at_it))
           singles same CodeBefore = ap Some (omega (arith, ints, before))
           singles same Typed = refl
+          singles same EntryHeld = refl
 
   pub returned : k + 1 ≡ s.kept.pointer
       → Leads RETURNS_END b s kept None ⊎ (Leads RETURNS_LOW b s kept None ⊎ Leads RETURNS_HIGH b s kept None)
@@ -359,6 +366,7 @@ module _ (s : Point) (here : Places) (given unknown : ℕ → ℤ) (k : ℕ) (wh
           singles CodeHere = ap Some (omega (arith, ints, before))
           singles CodeBefore = ap Some (omega (arith, ints, before_it))
           singles Typed = refl
+          singles EntryHeld = refl
     by_sort (is_low going low high) = inr (inl (moved RETURNS_LOW None refl refl refl refl refl refl (
       omega (arith, ints, begun.before, (came last going).start_same),
       (omega (arith, ints, low, before), (omega (arith, ints, high, before), tt)),
@@ -376,6 +384,7 @@ module _ (s : Point) (here : Places) (given unknown : ℕ → ℤ) (k : ℕ) (wh
           singles same CodeHere = ap Some (omega (arith, ints, before))
           singles same CodeBefore = ap Some (omega (arith, ints, before_it))
           singles same Typed = refl
+          singles same EntryHeld = refl
     by_sort (is_high going low high) = inr (inr (moved RETURNS_HIGH None refl refl refl refl refl refl (
       omega (arith, ints, begun.before, (came last going).start_same),
       (omega (arith, ints, low, before), (omega (arith, ints, high, before), tt)),
@@ -393,6 +402,7 @@ module _ (s : Point) (here : Places) (given unknown : ℕ → ℤ) (k : ℕ) (wh
           singles same CodeHere = ap Some (omega (arith, ints, before))
           singles same CodeBefore = ap Some (omega (arith, ints, before_it))
           singles same Typed = refl
+          singles same EntryHeld = refl
 
 -- ---- to a place that a number names, or off the buffer
 pub place_there : (text : List ℕ) (k : ℕ) → k ≤ length text → place_in text (pos k) ≡ Some k
@@ -486,6 +496,7 @@ module _ (case : Case) (ways : List command.Way) (place : List Term) (here : Pla
     stays CodeHere = refl
     stays CodeBefore = refl
     stays Typed = refl
+    stays EntryHeld = refl
 
     -- nothing moves, and 0 is answered
     nothing : Succeeds (λ effect. Describe n all (commanded s effect.kept effect.answer)) (Ok (with_answer

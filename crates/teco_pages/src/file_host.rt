@@ -1,5 +1,6 @@
 //! A host of the files of the system.
-ghost use Rattle.std.specs.Prelude.{◌≡◌, ◌≤◌, ◌<◌, [], suc, length, IfOk, IsErr};
+ghost use Rattle.std.specs.Prelude.{◌≡◌, ◌≤◌, ◌<◌, ◌+◌, [], suc, length, IfOk, IfSome, IsErr};
+ghost use Rattle.teco_files.specs.Buffers.{source_told};
 ghost use Rattle.teco_hosts.specs.HostFiles.{Notes};
 ghost use Rattle.teco_pages.specs.Kept.{output_contents};
 ghost use Rattle.teco_base.specs.declared.TheConstants.{LIMIT};
@@ -145,12 +146,12 @@ impl<R: System> FileHost<R> {
         }
     }
 
-    /// How many bytes the open input had when it was opened, where it is a regular file.
+    /// How many bytes the open input had when it was opened, if that was told.
     pub fn input_length(&self) -> Option<u64> {
         self.input.as_ref()?.length()
     }
 
-    /// How many bytes of the open input were not given yet, where it is a regular file.
+    /// How many bytes of the open input were not given yet, if that can be told. No more come.
     pub fn bytes_left(&self) -> Option<u64> {
         let length = self.input_length()?;
         Some(length.saturating_sub(self.given as u64))
@@ -197,7 +198,7 @@ impl<R: System> Host for FileHost<R> {
     }
 
     fn read(&mut self, buf: &mut [u8]) -> Result<usize, Failed> {
-        match read_some(&mut self.input, LIMIT - self.given, buf) {
+        match read_some(&mut self.input, self.given, buf) {
             Ok(n) => {
                 self.given += n;
                 note_given(&mut self.likeness, self.handling, buf, n);
@@ -321,18 +322,51 @@ fn is_same<F: OpenFile + Read + Drop>(
     }
 }
 
-// Reads some bytes of the input that is open, but no more than are left of what it may give. Where
-// none are it must be at its end.
-fn read_some<F: OpenFile + Read + Drop>(
-    input: &mut Option<ReadFile<F>>,
-    left: usize,
+// How many bytes a file may give: no more than it had when it was opened, if that was told.
+fn most_given<F: OpenFile + Read + Drop>(file: &ReadFile<F>) -> usize
+    ensures limit { result ≤ LIMIT }
+    ensures told { IfSome (source_told file.now) (λ told. result ≤ told) }
+{
+    match file.length() {
+        Some(told) => match usize::try_from(told) {
+            Ok(told) => told.min(LIMIT),
+            Err(_) => LIMIT,
+        },
+        None => LIMIT,
+    }
+}
+
+// Reads some bytes of a file of which so many were given, but no more than are left of what it may
+// give. Where none are it must be at its end.
+fn read_on<F: OpenFile + Read + Drop>(
+    file: &mut ReadFile<F>,
+    given: usize,
     buf: &mut [u8],
 ) -> Result<usize, TroubleReason>
+    requires { given ≤ LIMIT }
     ensures bound { IfOk result (λ n. n ≤ length buf.new) }
-    ensures left { IfOk result (λ n. n ≤ left) }
+    ensures limit { IfOk result (λ n. given + n ≤ LIMIT) }
+    ensures told { IfSome (source_told file.old) (λ told. given ≤ told → IfOk result (λ n. given + n ≤ told)) }
+{
+    let most = most_given(file);
+    match file.read_within(most.saturating_sub(given), buf) {
+        Err(TroubleReason::Long) if most < LIMIT => Err(TroubleReason::Grown),
+        answer => answer,
+    }
+}
+
+// Reads some bytes of the input that is open, of which so many were given.
+fn read_some<F: OpenFile + Read + Drop>(
+    input: &mut Option<ReadFile<F>>,
+    given: usize,
+    buf: &mut [u8],
+) -> Result<usize, TroubleReason>
+    requires { given ≤ LIMIT }
+    ensures bound { IfOk result (λ n. n ≤ length buf.new) }
+    ensures limit { IfOk result (λ n. given + n ≤ LIMIT) }
 {
     match input {
-        Some(file) => file.read_within(left, buf),
+        Some(file) => read_on(file, given, buf),
         None => Err(TroubleReason::NotOpen),
     }
 }

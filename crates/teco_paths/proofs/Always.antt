@@ -119,20 +119,20 @@ pushed_length_most i s whole =
     (λ p e. whole_from_end s.kept.registers.stack (s.origin.pushes + i) p whole.stack e)
 
 -- ---- by places
-measure_is : (k c : ℕ) → 10 ≤ k → (k - 10) % 7 ≡ c → measure_of k ≡ Each (family_of c) ((k - 10) / 7)
-measure_is k c l e = by (nat_lt k 10) refl
+measure_is : (k c : ℕ) → 11 ≤ k → (k - 11) % 7 ≡ c → measure_of k ≡ Each (family_of c) ((k - 11) / 7)
+measure_is k c l e = by (nat_lt k 11) refl
   where
-    by : (b : Bool) → nat_lt k 10 ≡ b
-        → (if b then One (single_of k) else Each (family_of ((k - 10) % 7)) ((k - 10) / 7)) ≡ Each (family_of c)
-        ((k - 10) / 7)
-    by true h = absurd (omega (arith, l, ltb-true k 10 h))
-    by false h = ap (λ c. Each (family_of c) ((k - 10) / 7)) e
+    by : (b : Bool) → nat_lt k 11 ≡ b
+        → (if b then One (single_of k) else Each (family_of ((k - 11) % 7)) ((k - 11) / 7)) ≡ Each (family_of c)
+        ((k - 11) / 7)
+    by true h = absurd (omega (arith, l, ltb-true k 11 h))
+    by false h = ap (λ c. Each (family_of c) ((k - 11) / 7)) e
 
-pub least_here : (k c least : ℕ) → 10 ≤ k → (k - 10) % 7 ≡ c → IsLeast (Each (family_of c) ((k - 10) / 7)) least
+pub least_here : (k c least : ℕ) → 11 ≤ k → (k - 11) % 7 ≡ c → IsLeast (Each (family_of c) ((k - 11) / 7)) least
     → IsLeast (measure_of k) least
 least_here k c least l e h = subst (λ m. IsLeast m least) (sym (measure_is k c l e)) h
 
-pub most_here : (k c most : ℕ) → 10 ≤ k → (k - 10) % 7 ≡ c → IsMost (Each (family_of c) ((k - 10) / 7)) most
+pub most_here : (k c most : ℕ) → 11 ≤ k → (k - 11) % 7 ≡ c → IsMost (Each (family_of c) ((k - 11) / 7)) most
     → IsMost (measure_of k) most
 most_here k c most l e h = subst (λ m. IsMost m most) (sym (measure_is k c l e)) h
 

@@ -1,6 +1,6 @@
 -- The state at the entry is as the cut point there says.
 use Rattle.teco_paths.proofs.Prelude.{◌≡◌, ℕ, zero, suc, ◌+◌, ◌-◌, ◌*◌, ◌/◌, ◌%◌, ◌<◌, ◌≤◌, refl, sym, ap, ◌∙◌, arith}
-use Rattle.teco_paths.proofs.Prelude.{subst}
+use Rattle.teco_paths.proofs.Prelude.{cases_order, inl, inr, subst, ◌⊎◌}
 use Rattle.teco_paths.proofs.Prelude.{List, [], ◌∷◌, length, Bool, true, false, Option, Some, None, nat_lt, slice_get}
 use Rattle.teco_paths.proofs.Prelude.{◌==◌, if◌then◌else◌, ℤ, pos, unwrap_or, ◌+ℤ◌, ◌-ℤ◌, ◌≤ℤ◌, is_some}
 use Rattle.teco_paths.proofs.Prelude.{option_and_then, ltb-true, ltb-false, ints, All, REGISTERS, Term, Valuation}
@@ -12,6 +12,7 @@ use Rattle.teco_paths.proofs.Prelude.{numbers_of, single_of, steps_before}
 use Rattle.std.proofs.Common.{eqb-true}
 use Rattle.std.specs.Prelude.{option_map}
 use Rattle.std.specs.Prelude.{slice_index_or, ◌&&◌}
+use Rattle.std.proofs.lemmas.List.{get_or_past}
 use Rattle.std.proofs.lemmas.List.Sums.{sum_by-cons}
 use Rattle.std.specs.List.{sum_by}
 use Rattle.teco_model.specs.Arguments.{Arguments}
@@ -99,14 +100,14 @@ value_of (Some range) (Some n) i asked = value_some n i
 value_of argument given i asked = absurd (grind arith)
 
 -- the argument is the value at the only level
-given_is : (given : ℕ) (s : Point) → s.arguments ≡ arguments_given (Some given) → numbers_of s 16 ≡ pos given
+given_is : (given : ℕ) (s : Point) → s.arguments ≡ arguments_given (Some given) → numbers_of s 17 ≡ pos given
 given_is given s e =
     ap (λ (a : Arguments). unwrap_or (option_and_then (λ (level : Level). level.value) (from_end (levels a) 0)) (pos 0))
     e
 
 -- ---- the texts of registers are held
 pub lengths_more : (used : List Bool) (v : Valuation) (k : ℕ)
-    → used_lengths used v (k + 1) ≡ used_lengths used v k +ℤ length_if (slice_index_or used (11 + 7 * k) false) v k
+    → used_lengths used v (k + 1) ≡ used_lengths used v k +ℤ length_if (slice_index_or used (12 + 7 * k) false) v k
 lengths_more used v k = let z : k + 1 ≡ suc k = omega arith in rw z refl
 
 abbrev texts_in : List Pair → ℕ → ℤ
@@ -114,7 +115,7 @@ texts_in pairs zero = pos 0
 texts_in pairs (suc k) = texts_in pairs k +ℤ unwrap_or (length_of (slice_get pairs k)) (pos 0)
 
 one_length : (s : Point) (k : ℕ)
-    → numbers_of s (11 + 7 * k) ≡ unwrap_or (length_of (slice_get s.kept.registers.pairs k)) (pos 0)
+    → numbers_of s (12 + 7 * k) ≡ unwrap_or (length_of (slice_get s.kept.registers.pairs k)) (pos 0)
 one_length s k =
     ap (λ m. unwrap_or (measures_of s m) (pos 0)) (ap measure_of (omega arith) ∙ measure_again (Each Length k))
 
@@ -130,7 +131,7 @@ one_more_used s k sum false most = omega (arith, ints, no_length_below (slice_ge
 used_most : (used : List Bool) (s : Point) (k : ℕ)
     → used_lengths used (numbers_of s) k ≤ℤ texts_in s.kept.registers.pairs k
 used_most used s zero = omega (arith, ints)
-used_most used s (suc k) = one_more_used s k _ (slice_index_or used (11 + 7 * k) false) (used_most used s k)
+used_most used s (suc k) = one_more_used s k _ (slice_index_or used (12 + 7 * k) false) (used_most used s k)
 
 text_of_pair : (pairs : List Pair) (k : ℕ)
     → unwrap_or (length_of (slice_get pairs k)) (pos 0) ≡ pos (length (slice_index_or pairs k empty_pair).text)
@@ -139,7 +140,7 @@ text_of_pair (p ∷ pairs) zero = refl
 text_of_pair (p ∷ pairs) (suc k) = text_of_pair pairs k
 
 -- the number of a length's place is how long the text of the register is
-long_is : (s : Point) (k : ℕ) → numbers_of s (11 + 7 * k) ≡ pos (length (text_in k s.kept))
+long_is : (s : Point) (k : ℕ) → numbers_of s (12 + 7 * k) ≡ pos (length (text_in k s.kept))
 long_is s k = one_length s k ∙ text_of_pair s.kept.registers.pairs k
 
 texts_of_more : (p : Pair) (pairs : List Pair) (k : ℕ)
@@ -204,8 +205,17 @@ module _ (lengths : List (Option ℕ)) (argument : Option ArgumentRange) where
   pub typed_between : IsEntryBound lengths argument 9 0 0
   typed_between n given s e = (omega (arith, ints, e.typed), omega (arith, ints, e.typed))
 
+  -- what is held is what was held at the entry, no less and no more
+  pub no_less_held : (form : List Term) → ((n : ℕ) (v : Valuation) → value form n v ≡ v 3 -ℤ v 10)
+      → IsEntryClaim lengths argument form
+  no_less_held form is n given s e = omega (arith, ints, is n (numbers_of s), e.all)
+
+  pub no_more_held : (form : List Term) → ((n : ℕ) (v : Valuation) → value form n v ≡ v 10 -ℤ v 3)
+      → IsEntryClaim lengths argument form
+  no_more_held form is n given s e = omega (arith, ints, is n (numbers_of s), e.all)
+
   pub length_between : (register long : ℕ) → slice_index_or lengths register None ≡ Some long
-      → IsEntryBound lengths argument (11 + 7 * register) long long
+      → IsEntryBound lengths argument (12 + 7 * register) long long
   length_between register long known n given s e =
       let held = long_is s register in
       let same = e.loaded register long known in
@@ -226,15 +236,15 @@ module _ (lengths : List (Option ℕ)) (argument : Option ArgumentRange) where
 
 module _ (lengths : List (Option ℕ)) (range : ArgumentRange) (low high : ℕ) (low_is : low ≡ range.low)
     (high_is : high ≡ range.high) where
-  range_between : IsEntryBound lengths (Some range) 16 low high
+  range_between : IsEntryBound lengths (Some range) 17 low high
   range_between n None s e = absurd e.asked
   range_between n (Some given) s e =
       let same = given_is given s e.arguments in
       (omega (arith, ints, same, e.asked.low, low_is), omega (arith, ints, same, e.asked.high, high_is))
 
   pub argument_between : (argument : Option ArgumentRange) → argument ≡ Some range
-      → IsEntryBound lengths argument 16 low high
-  argument_between argument is = subst (λ a. IsEntryBound lengths a 16 low high) (sym is) range_between
+      → IsEntryBound lengths argument 17 low high
+  argument_between argument is = subst (λ a. IsEntryBound lengths a 17 low high) (sym is) range_between
 
 -- ---- all of it
 waits_none : (given : Option ℕ) (a : Arguments) → a ≡ arguments_given given → None ∷ [] ≡ operators_of (levels a)
@@ -283,10 +293,24 @@ not_family has PushedLength i l = refl
 not_family has First i l = refl
 not_family has Value i l = not_first has i l
 
-pub not_there : (has : Bool) (k : ℕ) → 10 + 7 * REGISTERS ≤ k → is_there has (measure_of k) ≡ false
-not_there has k l = by (nat_lt k 10) refl
+pub not_there : (has : Bool) (k : ℕ) → 11 + 7 * REGISTERS ≤ k → is_there has (measure_of k) ≡ false
+not_there has k l = by (nat_lt k 11) refl
   where
-    by : (b : Bool) → nat_lt k 10 ≡ b
-        → is_there has (if b then One (single_of k) else Each (family_of ((k - 10) % 7)) ((k - 10) / 7)) ≡ false
-    by true e = absurd (omega (arith, l, ltb-true k 10 e))
-    by false e = not_family has (family_of ((k - 10) % 7)) ((k - 10) / 7) (omega (arith, l))
+    by : (b : Bool) → nat_lt k 11 ≡ b
+        → is_there has (if b then One (single_of k) else Each (family_of ((k - 11) % 7)) ((k - 11) / 7)) ≡ false
+    by true e = absurd (omega (arith, l, ltb-true k 11 e))
+    by false e = not_family has (family_of ((k - 11) % 7)) ((k - 11) / 7) (omega (arith, l))
+
+-- marks that are right in all places that there are
+pub all_there : (has : Bool) (all : List Bool) (place : ℕ) → 11 + 7 * REGISTERS ≤ place → length all ≡ place
+    → ((k : ℕ) → k < place → slice_index_or all k false ≡ is_there has (measure_of k)) → AreThere has all
+all_there has all place behind count same k = by (cases_order k place)
+  where
+    beyond : place ≤ k → slice_index_or all k false ≡ is_there has (measure_of k)
+    beyond l =
+        get_or_past all k false (omega (arith, l, count)) ∙ sym (not_there has k (omega (arith, l, behind)))
+
+    by : (k ≡ place) ⊎ ((k < place) ⊎ (place < k)) → slice_index_or all k false ≡ is_there has (measure_of k)
+    by (inl e) = beyond (omega (arith, e))
+    by (inr (inl less)) = same k less
+    by (inr (inr more)) = beyond (omega (arith, more))

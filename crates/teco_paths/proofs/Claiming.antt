@@ -3,9 +3,10 @@ use Rattle.teco_paths.proofs.Prelude.{◌≡◌, ℕ, refl, sym, ap, ◌∙◌, 
 use Rattle.teco_paths.proofs.Prelude.{pos, ◌≤ℤ◌, ◌-ℤ◌, is_some, unwrap_or, ints, All, Term, Valuation, value, values}
 use Rattle.teco_paths.proofs.Prelude.{Holds, Implies, Case, value_if, place, Point, IsShape, IsTrueOf, Describes}
 use Rattle.teco_paths.proofs.Prelude.{single, Typed, CutState, AreFilled, ArePresent, AreSymbols, ComesTo, filled_by}
-use Rattle.teco_paths.proofs.Prelude.{IsFact, Course, IsTypedWithin, most_typed, TypesNoMore, measure_of, numbers_of}
-use Rattle.teco_paths.proofs.Prelude.{Polynomial}
-use Rattle.std.specs.Prelude.{◌+◌, ◌≤◌, slice_index_or}
+use Rattle.teco_paths.proofs.Prelude.{IsFact, Course, IsWithin, most_with, TypesNoMore, measure_of, numbers_of}
+use Rattle.teco_paths.proofs.Prelude.{Polynomial, EntryHeld, GrowsNoMore, IsSmall}
+use Rattle.std.specs.Prelude.{◌+◌, ◌≤◌, ◌+ℤ◌, length, slice_index_or}
+use Rattle.teco_rows.specs.declared.measure.Single.TheVariants.{Held}
 use Rattle.teco_rows.specs.declared.case.Shape.{Shape}
 use Rattle.teco_rows.specs.declared.measure.Single.{Single}
 use Rattle.teco_paths.specs.Claims.{AreClaimed, AreKnown, ClaimHolds}
@@ -95,8 +96,53 @@ number_within case most number within n s d = omega (arith, ints, within n s d)
 pub types_within : (course : Course) (case : Case) (most : Polynomial) → course.types ≡ Some most
     → ((n : ℕ) (s : Point) → Describes n case s → single s Typed ≤ℤ pos (poly.value most n)) → TypesNoMore course case
 types_within course case most some within n s d =
-    subst (λ types. IsTypedWithin (most_typed types n s.origin.typed) s.kept) (sym some)
+    subst (λ types. IsWithin (most_with types n s.origin.typed) (length s.kept.typed)) (sym some)
     (omega (arith, ints, within n s d))
+
+-- what is held, by what was held at the entry
+pub grown_within : (case : Case) (more : Polynomial) (bound before most held difference : List Term)
+    → ((n : ℕ) (v : Valuation) → value bound n v ≡ pos (poly.value more n))
+    → ((n : ℕ) (v : Valuation) (s : Point) → IsTrueOf n v case s → value before n v ≡ single s EntryHeld)
+    → ((n : ℕ) (v : Valuation) → value most n v ≡ value before n v +ℤ value bound n v)
+    → ((n : ℕ) (v : Valuation) (s : Point) → IsTrueOf n v case s → value held n v ≡ single s Held)
+    → ((n : ℕ) (v : Valuation) → value difference n v ≡ value most n v -ℤ value held n v)
+    → Implies case.constraints.items difference → (n : ℕ) (s : Point) → Describes n case s
+    → single s Held ≤ℤ (single s EntryHeld +ℤ pos (poly.value more n))
+grown_within case more bound before most held difference bound_is before_is most_is held_is difference_is implied n s
+    d =
+    let holds : pos 0 ≤ℤ value difference n d.0 = implied n d.0 d.1.fits.constraints in
+    omega (
+      arith,
+      ints,
+      holds,
+      bound_is n d.0,
+      before_is n d.0 s d.1,
+      most_is n d.0,
+      held_is n d.0 s d.1,
+      difference_is n d.0,
+    )
+
+-- how much longer the text gets, where that is bounded, and where it is not
+pub grows_within : (course : Course) (case : Case) (more : Polynomial) → course.grows ≡ Some more
+    → ((n : ℕ) (s : Point) → Describes n case s
+    → single s Held ≤ℤ (single s EntryHeld +ℤ pos (poly.value more n)))
+    → GrowsNoMore course case
+grows_within course case more some within n s d =
+    subst (λ grows. IsWithin (most_with grows n s.origin.held) (length s.kept.text + s.unread)) (sym some)
+    (omega (arith, ints, within n s d))
+
+pub grows_freely : (course : Course) (case : Case) → course.grows ≡ None → GrowsNoMore course case
+grows_freely course case none n s d =
+    subst (λ grows. IsWithin (most_with grows n s.origin.held) (length s.kept.text + s.unread)) (sym none) tt
+
+-- no more is held than may be
+pub small_where : (course : Course) (case : Case)
+    → ((n : ℕ) (s : Point) → Describes n case s → single s Held ≤ℤ pos (poly.value course.size n))
+    → GrowsNoMore course case → IsSmall course case
+small_where course case fits grows n s d = record {
+  fits = omega (arith, ints, fits n s d);
+  grows = grows n s d;
+}
 
 -- a copy of a shape
 pub shaped : (shape copy : Shape) (s : Point) → copy.operators.items ≡ shape.operators.items

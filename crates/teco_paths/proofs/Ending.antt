@@ -2,53 +2,70 @@
 use Rattle.teco_paths.proofs.Prelude.{◌≡◌, ◌⊎◌, inl, inr, ℕ, zero, suc, ◌+◌, ◌-◌, ◌<◌, ◌≤◌, Option, sym, subst, arith}
 use Rattle.teco_paths.proofs.Prelude.{cases_order, All, Any, NoFileCommands, Reaches, State, step, Case, point_of}
 use Rattle.teco_paths.proofs.Prelude.{Describes, Course, Ends, IsFollowed, Leads, Ground, IsAt, EndsBy, held_in}
-use Rattle.teco_paths.proofs.Prelude.{IsTypedWithin}
+use Rattle.teco_paths.proofs.Prelude.{IsHeldWithin, IsWithin, None, Some, length}
 use Rattle.teco_law_runs.proofs.Walking.{none_on, none_yet, reaches_here, reaches_later, reaches_none, reaches_on}
 use Rattle.teco_model.specs.State.{End}
 use Rattle.teco_paths.specs.Paths.{IsAtCut, IsOf, CutsEnd}
 use Rattle.teco_poly.specs.Polynomial.{value}
 
--- at the end
-small_at : (held : ℕ) (s t : State) (k : ℕ) → k ≤ 0 → Reaches k s t → held_in s ≤ held → held_in t ≤ held
-small_at held s t zero least r small = subst (λ u. held_in u ≤ held) (reaches_none s t r) small
-small_at held s t (suc k) least r small = absurd (omega (arith, least))
+-- what is no more than something that is within bounds is so, too
+within_down : (most : Option ℕ) (more less : ℕ) → less ≤ more → IsWithin most more → IsWithin most less
+within_down None more less l w = tt
+within_down (Some most) more less l w = omega (arith, l, w)
 
-pub ends_here : (most held : ℕ) (typed : Option ℕ) (steps : ℕ) (s : State) → step s ≡ End s.world → steps ≤ most
-    → held_in s ≤ held → IsTypedWithin typed s.world.kept → EndsBy most held typed steps s
-ends_here most held typed steps s over within small types = record {
+pub held_down : (size : ℕ) (grown : Option ℕ) (more less : ℕ) → less ≤ more → IsHeldWithin size grown more
+    → IsHeldWithin size grown less
+held_down size grown more less l w = record {
+  fits = omega (arith, l, w.fits);
+  grows = within_down grown more less l w.grows;
+}
+
+-- at the end
+small_at : (size : ℕ) (grown : Option ℕ) (s t : State) (k : ℕ) → k ≤ 0 → Reaches k s t
+    → IsHeldWithin size grown (held_in s) → IsHeldWithin size grown (held_in t)
+small_at size grown s t zero least r small =
+    subst (λ u. IsHeldWithin size grown (held_in u)) (reaches_none s t r) small
+small_at size grown s t (suc k) least r small = absurd (omega (arith, least))
+
+pub ends_here : (most size : ℕ) (grown typed : Option ℕ) (steps : ℕ) (s : State) → step s ≡ End s.world
+    → steps ≤ most → IsHeldWithin size grown (held_in s) → IsWithin typed (length s.world.kept.typed)
+    → EndsBy most size grown typed steps s
+ends_here most size grown typed steps s over within small types = record {
   more = 0;
   new = s.world;
   within = omega (arith, within);
   none = none_yet s;
-  small = λ k t least r. small_at held s t k least r small;
+  small = λ k t least r. small_at size grown s t k least r small;
+  left_small = small;
   types = types;
   ends = record { last = s; steps = reaches_here s; end = over };
 }
 
 -- some steps before it
-module _ (most held : ℕ) (typed : Option ℕ) (steps j : ℕ) (s t : State) (came : Reaches j s t)
-    (small : (k : ℕ) (u : State) → k < j → Reaches k s u → held_in u ≤ held)
-    (later : EndsBy most held typed (steps + j) t)
+module _ (most size : ℕ) (grown typed : Option ℕ) (steps j : ℕ) (s t : State) (came : Reaches j s t)
+    (small : (k : ℕ) (u : State) → k < j → Reaches k s u → IsHeldWithin size grown (held_in u))
+    (later : EndsBy most size grown typed (steps + j) t)
   where
-    small_on : (k : ℕ) (u : State) → k ≤ j + later.more → Reaches k s u → held_in u ≤ held
+    small_on : (k : ℕ) (u : State) → k ≤ j + later.more → Reaches k s u → IsHeldWithin size grown (held_in u)
     small_on k u least r = by (cases_order k j)
       where
-        behind : (i : ℕ) → k ≡ j + i → held_in u ≤ held
+        behind : (i : ℕ) → k ≡ j + i → IsHeldWithin size grown (held_in u)
         behind i e =
             later.small i u (omega (arith, least, e)) (reaches_later j i s t u came (subst (λ k. Reaches k s u) e r))
 
-        by : (k ≡ j) ⊎ ((k < j) ⊎ (j < k)) → held_in u ≤ held
+        by : (k ≡ j) ⊎ ((k < j) ⊎ (j < k)) → IsHeldWithin size grown (held_in u)
         by (inl e) = behind 0 (omega (arith, e))
         by (inr (inl less)) = small k u less r
         by (inr (inr more)) = behind (k - j) (omega (arith, more))
 
-    pub ends_on : NoFileCommands s j → EndsBy most held typed steps s
+    pub ends_on : NoFileCommands s j → EndsBy most size grown typed steps s
     ends_on none = record {
       more = j + later.more;
       new = later.new;
       within = omega (arith, later.within);
       none = none_on j later.more s t none came later.none;
       small = small_on;
+      left_small = later.left_small;
       types = later.types;
       ends = record {
         last = later.ends.last;

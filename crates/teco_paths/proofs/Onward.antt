@@ -2,11 +2,12 @@
 use Rattle.teco_paths.proofs.Prelude.{cases_order, ◌≡◌, ◌⊎◌, inl, inr, ℕ, zero, suc, ◌+◌, ◌-◌, ◌<◌, ◌≤◌, refl, sym, ap}
 use Rattle.teco_paths.proofs.Prelude.{◌∙◌, subst, arith, List, [], ◌∷◌, ◌++◌, length, All, Case, point_of, CutState}
 use Rattle.teco_paths.proofs.Prelude.{NodeCase, ComesTo, IsCaseOf, Arrives, Course, IsFollowed, Leads, LeadsOn, IsAt}
-use Rattle.teco_paths.proofs.Prelude.{held_in, most_typed, GoOn, IsInTime, IsSharper, IsSmall, IsThere, TypesNoMore}
+use Rattle.teco_paths.proofs.Prelude.{held_in, most_with, IsHeldWithin, GoOn, IsInTime, IsSharper, IsSmall, IsThere}
+use Rattle.teco_paths.proofs.Prelude.{TypesNoMore}
 use Rattle.teco_paths.proofs.Prelude.{numbers_of, Stand, stands, numbered}
 use Rattle.std.specs.Prelude.{slice_index_or}
 use Rattle.teco_law_runs.specs.Run.{RunsEnd}
-use Rattle.teco_paths.proofs.Ending.{cut_here, cuts_later, cuts_on, ends_here, ends_on}
+use Rattle.teco_paths.proofs.Ending.{cut_here, cuts_later, cuts_on, ends_here, ends_on, held_down}
 use Rattle.teco_paths.proofs.Lists.{all_both, over_behind}
 use Rattle.teco_poly.specs.Polynomial.{value}
 
@@ -19,10 +20,12 @@ leads_by course number case spots small go all ground steps s of at d cuts =
     let j = g.more + 1 in
     let there : IsThere course.nodes ground (steps + j) g.next any.1 = any.4 in
     let leads : LeadsOn course any.1 = subst (LeadsOn course) any.3 (all any.0 any.1 any.2) in
-    let held : held_in s ≤ value course.size ground.n = small ground.n _ d in
-    ends_on (value course.commands ground.n) (value course.size ground.n)
-    (most_typed course.types ground.n ground.origin.typed) steps j s g.next g.goes
-    (λ k u less r. omega (arith, held, g.small k u (omega (arith, less)) r))
+    let size = value course.size ground.n in
+    let grown = most_with course.grows ground.n ground.origin.held in
+    let held : IsHeldWithin size grown (held_in s) = small ground.n _ d in
+    ends_on (value course.commands ground.n) size grown (most_with course.types ground.n ground.origin.typed) steps j s
+    g.next g.goes
+    (λ k u less r. held_down size grown (held_in s) (held_in u) (g.small k u (omega (arith, less)) r) held)
     (leads ground (steps + j) g.next of
     (record { stands = there.stands; begins = g.begins; loaded = g.loaded; whole = g.whole; files = g.files })
     there.described
@@ -49,7 +52,7 @@ over_leads ends course spot some number_is in_time small types ground steps s li
     ap (numbered (stands course.nodes ground.entry)) (sym k) ∙ at.stands.at in
     let over_is = over_behind course.nodes ground.entry at.stands.stand there in
     ends_here (value course.commands ground.n) (value course.size ground.n)
-    (most_typed course.types ground.n ground.origin.typed) steps s
+    (most_with course.grows ground.n ground.origin.held) (most_with course.types ground.n ground.origin.typed) steps s
     (ends ground.entry s (ap (λ (x : Stand). x.position) (sym over_is) ∙ at.stands.position))
     (in_time ground.n _ d) (small ground.n _ d) (types ground.n (point_of steps ground.origin s) d)
 

@@ -38,9 +38,10 @@ pub use Rattle.teco_paths.specs.Claims.{AreFilled, ArePresent, AreSymbols, Comes
 pub use Rattle.teco_paths.specs.Entry.{AreThere, IsEntered, IsEntryClaim, IsEntryCut, is_there, used_lengths}
 pub use Rattle.teco_paths.specs.Facts.{IsFact}
 pub use Rattle.teco_paths.specs.Paths.{Arrives, Course, Ends, IsFollowed, Leads, LeadsOn}
-pub use Rattle.teco_paths.specs.Runs.{EndsBy, Ground, IsAt, StandsBy, held_in}
+pub use Rattle.teco_paths.specs.Runs.{EndsBy, Ground, IsAt, IsHeldWithin, StandsBy, held_in}
 pub use Rattle.teco_paths.specs.Steps.{AreLeft, AreMet, ArePossible, AreSifted, AreSpots, GoOn, GoesBy, IsImpossible}
-pub use Rattle.teco_paths.specs.Steps.{IsInTime, IsKept, IsMet, IsPlain, IsRead, IsSharper, IsSmall, IsTarget, IsThere}
+pub use Rattle.teco_paths.specs.Steps.{GrowsNoMore, IsInTime, IsKept, IsMet, IsPlain, IsRead, IsSharper, IsSmall}
+pub use Rattle.teco_paths.specs.Steps.{IsTarget, IsThere}
 pub use Rattle.teco_paths.specs.Steps.{IsTold, IsWith, LawAt, Passes, Steps, TypesNoMore, cases_by}
 pub use Rattle.teco_paths.specs.Sure.{IsCertain}
 pub use Rattle.teco_paths.specs.Symbols.{family_of, measure_of, numbers_of, single_of}
@@ -48,7 +49,7 @@ pub use Rattle.teco_paths.specs.declared.cut.CutState.{CutState}
 pub use Rattle.teco_paths.specs.declared.facts.TheConstants.{MOST_BELOW, MOST_NUMBER, ORDER}
 pub use Rattle.teco_paths.specs.declared.spot.NodeCase.{NodeCase}
 pub use Rattle.teco_poly.specs.Polynomial.{Polynomial}
-pub use Rattle.teco_promise.specs.Promise.{IsTypedWithin, most_typed}
+pub use Rattle.teco_promise.specs.Promise.{IsWithin, most_with}
 pub use Rattle.teco_rows.proofs.Lines.{line_end}
 pub use Rattle.teco_rows.specs.Cases.{value_if}
 pub use Rattle.teco_rows.specs.Measures.{place}
@@ -60,7 +61,7 @@ pub use Rattle.teco_rows.specs.declared.measure.Family.TheVariants.{First, Lengt
 pub use Rattle.teco_rows.specs.declared.measure.Family.TheVariants.{Turns, Value}
 pub use Rattle.teco_rows.specs.declared.measure.Measure.{Measure}
 pub use Rattle.teco_rows.specs.declared.measure.Measure.TheVariants.{Each, One}
-pub use Rattle.teco_rows.specs.declared.measure.Single.TheVariants.{LineEnd, Pointer, Size, Typed}
+pub use Rattle.teco_rows.specs.declared.measure.Single.TheVariants.{LineEnd, Pointer, Size, Typed, EntryHeld}
 pub use Rattle.teco_rows.specs.declared.outcomes.Guarded.{Guarded}
 pub use Rattle.teco_rows.specs.declared.outcomes.Outcomes.{Outcomes}
 pub use Rattle.teco_search_outcomes.specs.PageSearches.{Comes}

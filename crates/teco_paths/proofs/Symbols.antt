@@ -2,7 +2,8 @@
 use Rattle.teco_paths.proofs.Prelude.{◌≡◌, ℕ, zero, suc, ◌+◌, ◌-◌, ◌*◌, ◌/◌, ◌%◌, ◌<◌, ◌≤◌, refl, ap, ◌∙◌, arith, List}
 use Rattle.teco_paths.proofs.Prelude.{[], ◌∷◌, Bool, true, false, Option, Some, None, nat_lt, if◌then◌else◌, ℤ, pos}
 use Rattle.teco_paths.proofs.Prelude.{◌+ℤ◌, ◌*ℤ◌, is_some, unwrap_or, ltb-true, ltb-false, Term, Valuation, value}
-use Rattle.teco_paths.proofs.Prelude.{Pointer, Size, LineEnd, Typed, Family, Number, Length, Turns, PushedNumber}
+use Rattle.teco_paths.proofs.Prelude.{Pointer, Size, LineEnd, Typed, EntryHeld, Family, Number, Length, Turns}
+use Rattle.teco_paths.proofs.Prelude.{PushedNumber}
 use Rattle.teco_paths.proofs.Prelude.{PushedLength, First, Value, Measure, One, Each, place, Point, measures_of}
 use Rattle.teco_paths.proofs.Prelude.{single_of, family_of, measure_of, numbers_of}
 use Rattle.std.specs.Prelude.{◌^◌, slice_index_or}
@@ -11,7 +12,7 @@ use Rattle.teco_rows.specs.declared.measure.Single.TheVariants.{Steps, Held, Lin
 use Rattle.teco_rows.specs.declared.measure.Single.TheVariants.{LastLength, CodeHere, CodeBefore}
 use Rattle.teco_rows.specs.Measures.{single_code, family_code}
 
-single_again : (k : ℕ) → k < 10 → single_code (single_of k) ≡ k
+single_again : (k : ℕ) → k < 11 → single_code (single_of k) ≡ k
 single_again zero l = refl
 single_again (suc zero) l = refl
 single_again (suc (suc zero)) l = refl
@@ -22,7 +23,8 @@ single_again (suc (suc (suc (suc (suc (suc zero)))))) l = refl
 single_again (suc (suc (suc (suc (suc (suc (suc zero))))))) l = refl
 single_again (suc (suc (suc (suc (suc (suc (suc (suc zero)))))))) l = refl
 single_again (suc (suc (suc (suc (suc (suc (suc (suc (suc zero))))))))) l = refl
-single_again (suc (suc (suc (suc (suc (suc (suc (suc (suc (suc k)))))))))) l = absurd (omega (arith, l))
+single_again (suc (suc (suc (suc (suc (suc (suc (suc (suc (suc zero)))))))))) l = refl
+single_again (suc (suc (suc (suc (suc (suc (suc (suc (suc (suc (suc k))))))))))) l = absurd (omega (arith, l))
 
 family_again : (k : ℕ) → k < 7 → family_code (family_of k) ≡ k
 family_again zero l = refl
@@ -36,15 +38,15 @@ family_again (suc (suc (suc (suc (suc (suc (suc k))))))) l = absurd (omega (arit
 
 -- each place has its measure
 pub place_again : (k : ℕ) → place (measure_of k) ≡ k
-place_again k = among (nat_lt k 10) refl
+place_again k = among (nat_lt k 11) refl
   where
-    among : (b : Bool) → nat_lt k 10 ≡ b
-        → place (if b then One (single_of k) else Each (family_of ((k - 10) % 7)) ((k - 10) / 7)) ≡ k
-    among true l = single_again k (ltb-true k 10 l)
+    among : (b : Bool) → nat_lt k 11 ≡ b
+        → place (if b then One (single_of k) else Each (family_of ((k - 11) % 7)) ((k - 11) / 7)) ≡ k
+    among true l = single_again k (ltb-true k 11 l)
     among false l =
-        let most : 10 ≤ k = ltb-false k 10 l in
-        let code : family_code (family_of ((k - 10) % 7)) ≡ (k - 10) % 7 = family_again ((k - 10) % 7) (omega arith) in
-        ap (λ c. 10 + 7 * ((k - 10) / 7) + c) code ∙ omega (arith, most)
+        let most : 11 ≤ k = ltb-false k 11 l in
+        let code : family_code (family_of ((k - 11) % 7)) ≡ (k - 11) % 7 = family_again ((k - 11) % 7) (omega arith) in
+        ap (λ c. 11 + 7 * ((k - 11) / 7) + c) code ∙ omega (arith, most)
 
 family_fits : (f : Family) → (family_code f < 7) × (family_of (family_code f) ≡ f)
 family_fits Number = (omega arith, refl)
@@ -55,17 +57,17 @@ family_fits PushedLength = (omega arith, refl)
 family_fits First = (omega arith, refl)
 family_fits Value = (omega arith, refl)
 
-each_again : (f : Family) (i k : ℕ) → k ≡ 10 + 7 * i + family_code f → measure_of k ≡ Each f i
-each_again f i k e = among (nat_lt k 10) refl
+each_again : (f : Family) (i k : ℕ) → k ≡ 11 + 7 * i + family_code f → measure_of k ≡ Each f i
+each_again f i k e = among (nat_lt k 11) refl
   where
-    among : (b : Bool) → nat_lt k 10 ≡ b
-        → (if b then One (single_of k) else Each (family_of ((k - 10) % 7)) ((k - 10) / 7)) ≡ Each f i
-    among true l = absurd (omega (arith, ltb-true k 10 l, e))
+    among : (b : Bool) → nat_lt k 11 ≡ b
+        → (if b then One (single_of k) else Each (family_of ((k - 11) % 7)) ((k - 11) / 7)) ≡ Each f i
+    among true l = absurd (omega (arith, ltb-true k 11 l, e))
     among false l =
         let fits = family_fits f in
-        let code : (k - 10) % 7 ≡ family_code f = omega (arith, fits.0, e) in
-        let index : (k - 10) / 7 ≡ i = omega (arith, fits.0, e) in
-        ap (λ c. Each (family_of c) ((k - 10) / 7)) code ∙ ap (λ g. Each g ((k - 10) / 7)) fits.1
+        let code : (k - 11) % 7 ≡ family_code f = omega (arith, fits.0, e) in
+        let index : (k - 11) / 7 ≡ i = omega (arith, fits.0, e) in
+        ap (λ c. Each (family_of c) ((k - 11) / 7)) code ∙ ap (λ g. Each g ((k - 11) / 7)) fits.1
         ∙ ap (λ j. Each f j) index
 
 -- and each measure its place
@@ -80,7 +82,8 @@ measure_again (One LastLength) = refl
 measure_again (One CodeHere) = refl
 measure_again (One CodeBefore) = refl
 measure_again (One Typed) = refl
-measure_again (Each f i) = each_again f i (10 + 7 * i + family_code f) refl
+measure_again (One EntryHeld) = refl
+measure_again (Each f i) = each_again f i (11 + 7 * i + family_code f) refl
 
 -- what is there where it is marked
 by_mark : (o : Option ℤ) (b : Bool) → is_some o ≡ b → (if b then Some (unwrap_or o (pos 0)) else None) ≡ o

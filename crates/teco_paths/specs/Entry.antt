@@ -38,17 +38,18 @@ pub record IsEntered
   pub loops : s.loops ≡ []
   pub pushes : s.origin.pushes ≡ length s.kept.registers.stack
   pub typed : s.origin.typed ≡ length s.kept.typed
+  pub all : s.origin.held ≡ length s.kept.text + s.unread
 
 -- the length of the text of a register, or 0
 abbrev pub length_if : Bool → Valuation → ℕ → ℤ
 length_if false v register = pos 0
-length_if true v register = v (11 + 7 * register)
+length_if true v register = v (12 + 7 * register)
 
 -- the lengths of those texts of the first registers, together, whose places are marked
 abbrev pub used_lengths : List Bool → Valuation → ℕ → ℤ
 used_lengths used v zero = pos 0
 used_lengths used v (suc registers) =
-    used_lengths used v registers +ℤ length_if (slice_index_or used (11 + 7 * registers) false) v registers
+    used_lengths used v registers +ℤ length_if (slice_index_or used (12 + 7 * registers) false) v registers
 
 -- a claim holds at each such state
 abbrev pub IsEntryClaim : List (Option ℕ) → Option ArgumentRange → List Term → Type 0

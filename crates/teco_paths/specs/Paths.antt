@@ -14,11 +14,12 @@ use Rattle.teco_paths.specs.declared.spot.NodeCase.{NodeCase}
 use Rattle.teco_paths.specs.Claims.{AreClaimed}
 use Rattle.teco_paths.specs.Runs.{Ground, IsAt, EndsBy}
 use Rattle.teco_poly.specs.Polynomial.{Polynomial, value}
-use Rattle.teco_promise.specs.Promise.{most_typed}
+use Rattle.teco_promise.specs.Promise.{most_with}
 use Rattle.teco_verifier.specs.expansion.Node.{Node}
 
 -- The nodes of a macro, how long the texts of its library are, which files are open, the cut points, how many steps a
--- run may take and how much it may hold, and how many bytes it may type, if that is claimed.
+-- run may take and how much it may hold, and, if that is claimed, how much longer its text may get and how many bytes
+-- it may type.
 pub record Course : Type 0 where
   pub nodes : List Node
   pub lengths : List (Option ℕ)
@@ -26,6 +27,7 @@ pub record Course : Type 0 where
   pub cuts : List CutState
   pub commands : Polynomial
   pub size : Polynomial
+  pub grows : Option Polynomial
   pub types : Option Polynomial
 
 -- A run is of the nodes of a course, with its files open, and the size may be held.
@@ -38,7 +40,7 @@ pub record IsOf (course : Course) (ground : Ground) : Type 0 where
 abbrev pub Ends : Course → Ground → ℕ → State → Type 0
 Ends course ground steps s =
     EndsBy (value course.commands ground.n) (value course.size ground.n)
-    (most_typed course.types ground.n ground.origin.typed) steps s
+    (most_with course.grows ground.n ground.origin.held) (most_with course.types ground.n ground.origin.typed) steps s
 
 -- A run comes to a cut point in time, and all is as it says.
 pub record IsAtCut (course : Course) (ground : Ground) (steps : ℕ) (s : State) (cut : CutState) : Type 0 where

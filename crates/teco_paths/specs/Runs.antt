@@ -7,7 +7,7 @@ use Rattle.teco_model.specs.Macros.{Library, IsLoaded, Needs}
 use Rattle.teco_model.specs.Run.{Reaches, Ends}
 use Rattle.teco_model.specs.State.{World, State}
 use Rattle.teco_flow_outcomes.specs.Law.{unread_in}
-use Rattle.teco_promise.specs.Promise.{IsTypedWithin}
+use Rattle.teco_promise.specs.Promise.{IsWithin}
 use Rattle.teco_rows.specs.States.{Origin}
 use Rattle.teco_verifier.specs.expansion.Node.{Node, Stand, stands, numbered}
 use Rattle.teco_verifier.specs.expansion.Position.{position_of}
@@ -38,13 +38,19 @@ pub record IsAt (nodes : List Node) (ground : Ground) (number : ℕ) (s : State)
 abbrev pub held_in : State → ℕ
 held_in s = length s.world.kept.text + unread_in s.world.files.input
 
+-- No more is held than the size, nor than it may have grown to.
+pub record IsHeldWithin (size : ℕ) (grown : Option ℕ) (held : ℕ) : Type 0 where
+  pub fits : held ≤ size
+  pub grows : IsWithin grown held
+
 -- A run comes to its end so many steps after its entry and in time, without a code, by no command of files, holds no
 -- more than it may on the way, and has typed no more in the end.
-pub record EndsBy (most held : ℕ) (typed : Option ℕ) (steps : ℕ) (s : State) : Type 0 where
+pub record EndsBy (most size : ℕ) (grown typed : Option ℕ) (steps : ℕ) (s : State) : Type 0 where
   pub more : ℕ
   pub new : World
   pub within : steps + more ≤ most
   pub none : NoFileCommands s more
-  pub small : (k : ℕ) (t : State) → k ≤ more → Reaches k s t → held_in t ≤ held
-  pub types : IsTypedWithin typed new.kept
+  pub small : (k : ℕ) (t : State) → k ≤ more → Reaches k s t → IsHeldWithin size grown (held_in t)
+  pub left_small : IsHeldWithin size grown (length new.kept.text + unread_in new.files.input)
+  pub types : IsWithin typed (length new.kept.typed)
   pub ends : Ends s more new

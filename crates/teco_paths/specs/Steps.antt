@@ -32,10 +32,10 @@ use Rattle.teco_flow_outcomes.specs.Law.{Goes, frames_on, place_away, point_of}
 use Rattle.teco_search_outcomes.specs.PageSearches.{Comes}
 use Rattle.teco_rows.specs.States.{Point, IsShape, IsTrueOf, Describes}
 use Rattle.teco_paths.specs.declared.spot.NodeCase.{NodeCase}
-use Rattle.teco_paths.specs.Runs.{Ground, StandsBy, IsAt, held_in}
+use Rattle.teco_paths.specs.Runs.{Ground, StandsBy, IsAt, IsHeldWithin, held_in}
 use Rattle.teco_paths.specs.Paths.{Course}
 use Rattle.teco_poly.specs.Polynomial.{value}
-use Rattle.teco_promise.specs.Promise.{IsTypedWithin, most_typed}
+use Rattle.teco_promise.specs.Promise.{IsWithin, most_with}
 use Rattle.teco_verifier.specs.expansion.Names.{written_by}
 use Rattle.teco_verifier.specs.expansion.Node.{Node, numbered}
 
@@ -256,10 +256,17 @@ GoOn nodes needs number case spots =
     → ground.needs ≡ needs → AreLinked ground.library ground.entry nodes → IsAt nodes ground number s
     → Describes ground.n case (point_of steps ground.origin s) → GoesOn nodes ground steps s spots
 
+-- the text has got no longer than it may, if that is bounded
+abbrev pub GrowsNoMore : Course → Case → Type 0
+GrowsNoMore course case =
+    (n : ℕ) (s : Point) → Describes n case s
+    → IsWithin (most_with course.grows n s.origin.held) (length s.kept.text + s.unread)
+
 -- no more is held than may be
 abbrev pub IsSmall : Course → Case → Type 0
 IsSmall course case =
-    (n : ℕ) (s : Point) → Describes n case s → length s.kept.text + s.unread ≤ value course.size n
+    (n : ℕ) (s : Point) → Describes n case s
+    → IsHeldWithin (value course.size n) (most_with course.grows n s.origin.held) (length s.kept.text + s.unread)
 
 -- no more steps were done
 abbrev pub IsInTime : Course → Case → Type 0
@@ -269,4 +276,4 @@ IsInTime course case =
 -- no more bytes were typed
 abbrev pub TypesNoMore : Course → Case → Type 0
 TypesNoMore course case =
-    (n : ℕ) (s : Point) → Describes n case s → IsTypedWithin (most_typed course.types n s.origin.typed) s.kept
+    (n : ℕ) (s : Point) → Describes n case s → IsWithin (most_with course.types n s.origin.typed) (length s.kept.typed)

@@ -5,43 +5,67 @@ use Rattle.teco_law_runs.specs.Linked.{AreLinked}
 use Rattle.teco_law_runs.specs.Ready.{AreOpen, IsReady, n_of}
 use Rattle.teco_model.specs.Macros.{Library, ArgumentRange, IsAsked, Needs}
 use Rattle.teco_model.specs.State.{World, start}
+use Rattle.teco_claims.specs.Values.{Claimed}
+use Rattle.teco_paths.specs.Paths.{Course}
 use Rattle.teco_paths.specs.Runs.{EndsBy}
 use Rattle.teco_poly.specs.Polynomial.{Polynomial, value}
-use Rattle.teco_promise.specs.Promise.{EndsTyping, most_typed}
+use Rattle.teco_promise.specs.Promise.{EndsInBounds, held_of, most_with}
 use Rattle.teco_verifier.specs.expansion.Node.{Node}
 
 -- the texts of a library are so long
 abbrev pub AreLengths : List (Option ℕ) → Library → Type 0
 AreLengths lengths library = map (option_map length) library ≡ lengths
 
--- Every run of a macro ends without a code within the number of commands, and types no more bytes than are told, where
--- the needed files are open and the size may be held.
-abbrev pub EndsInTime :
-    List Node → List (Option ℕ) → Option ArgumentRange → Needs → Polynomial → Polynomial → Option Polynomial
-    → Type 0
-EndsInTime nodes lengths argument needs commands size types =
-    (library : Library) (entry : ℕ) (given : Option ℕ) (world : World)
-    → AreLengths lengths library → AreLinked library entry nodes → IsAsked argument given
-    → IsReady library entry size (n_of world) world → AreOpen needs world.files
-    → EndsTyping (start (call_given entry given) world) (value commands (n_of world))
-    (most_typed types (n_of world) (length world.kept.typed))
+-- What is claimed of a whole run: the most steps, the size, and, if that is claimed, how much longer its text may get
+-- and how many bytes it may type.
+pub record RunBounds : Type 0 where
+  pub commands : Polynomial
+  pub size : Polynomial
+  pub grows : Option Polynomial
+  pub types : Option Polynomial
 
--- Every run of the macro ends within the printed number of commands, without a code, holds no more than the printed
--- size, and types no more bytes than are printed, if a bound is, where that size may be held and the needed files are
--- open.
-abbrev pub IsCertain :
-    List Node → List (Option ℕ) → Option ArgumentRange → Needs → Polynomial → Polynomial → Option Polynomial
-    → Type 0
-IsCertain nodes lengths argument needs commands size types =
+-- those of a course, and those of claims
+abbrev pub bounds_of : Course → RunBounds
+bounds_of course = record {
+  commands = course.commands;
+  size = course.size;
+  grows = course.grows;
+  types = course.types;
+}
+
+abbrev pub bounds_in : Claimed → RunBounds
+bounds_in claimed = record {
+  commands = claimed.commands;
+  size = claimed.size;
+  grows = claimed.grows;
+  types = claimed.types;
+}
+
+-- Every run of a macro ends without a code within the number of commands; its text gets no longer, and it types no more
+-- bytes, than is told, where the needed files are open and the size may be held.
+abbrev pub EndsInTime : List Node → List (Option ℕ) → Option ArgumentRange → Needs → RunBounds → Type 0
+EndsInTime nodes lengths argument needs bounds =
     (library : Library) (entry : ℕ) (given : Option ℕ) (world : World)
     → AreLengths lengths library → AreLinked library entry nodes → IsAsked argument given
-    → IsReady library entry size (n_of world) world → AreOpen needs world.files
-    → EndsBy (value commands (n_of world)) (value size (n_of world))
-    (most_typed types (n_of world) (length world.kept.typed)) 0 (start (call_given entry given) world)
+    → IsReady library entry bounds.size (n_of world) world → AreOpen needs world.files
+    → EndsInBounds (start (call_given entry given) world) (value bounds.commands (n_of world))
+    (most_with bounds.grows (n_of world) (held_of world))
+    (most_with bounds.types (n_of world) (length world.kept.typed))
+
+-- Every run of the macro ends within the printed number of commands, without a code, and holds no more than the printed
+-- size, where that may be held and the needed files are open; its text gets no longer, and it types no more bytes, than
+-- is printed, if bounds are.
+abbrev pub IsCertain : List Node → List (Option ℕ) → Option ArgumentRange → Needs → RunBounds → Type 0
+IsCertain nodes lengths argument needs bounds =
+    (library : Library) (entry : ℕ) (given : Option ℕ) (world : World)
+    → AreLengths lengths library → AreLinked library entry nodes → IsAsked argument given
+    → IsReady library entry bounds.size (n_of world) world → AreOpen needs world.files
+    → EndsBy (value bounds.commands (n_of world)) (value bounds.size (n_of world))
+    (most_with bounds.grows (n_of world) (held_of world))
+    (most_with bounds.types (n_of world) (length world.kept.typed)) 0 (start (call_given entry given) world)
 
 abbrev pub CertainEnd : Type 0
 CertainEnd =
     (nodes : List Node) (lengths : List (Option ℕ)) (argument : Option ArgumentRange) (needs : Needs)
-    (commands size : Polynomial) (types : Option Polynomial)
-    → IsCertain nodes lengths argument needs commands size types
-    → EndsInTime nodes lengths argument needs commands size types
+    (bounds : RunBounds)
+    → IsCertain nodes lengths argument needs bounds → EndsInTime nodes lengths argument needs bounds

@@ -3,7 +3,7 @@ use Rattle.std.specs.Prelude.{ℕ, zero, suc, ◌-◌, ◌/◌, ◌%◌, pos, na
 use Rattle.teco_linear.specs.Form.{Valuation}
 use Rattle.teco_rows.specs.declared.measure.Single.{Single}
 use Rattle.teco_rows.specs.declared.measure.Single.TheVariants.{Steps, Pointer, Size, Held, LineEnd, LineStart}
-use Rattle.teco_rows.specs.declared.measure.Single.TheVariants.{LastLength, CodeHere, CodeBefore, Typed}
+use Rattle.teco_rows.specs.declared.measure.Single.TheVariants.{LastLength, CodeHere, CodeBefore, Typed, EntryHeld}
 use Rattle.teco_rows.specs.declared.measure.Family.{Family}
 use Rattle.teco_rows.specs.declared.measure.Family.TheVariants.{Number, Length, Turns, PushedNumber, PushedLength}
 use Rattle.teco_rows.specs.declared.measure.Family.TheVariants.{First, Value}
@@ -22,7 +22,8 @@ single_of (suc (suc (suc (suc (suc zero))))) = LineStart
 single_of (suc (suc (suc (suc (suc (suc zero)))))) = LastLength
 single_of (suc (suc (suc (suc (suc (suc (suc zero))))))) = CodeHere
 single_of (suc (suc (suc (suc (suc (suc (suc (suc zero)))))))) = CodeBefore
-single_of k = Typed
+single_of (suc (suc (suc (suc (suc (suc (suc (suc (suc zero))))))))) = Typed
+single_of k = EntryHeld
 
 -- the families, by theirs
 abbrev pub family_of : ℕ → Family
@@ -36,7 +37,7 @@ family_of k = Value
 
 -- the measure in a place
 abbrev pub measure_of : ℕ → Measure
-measure_of k = if nat_lt k 10 then One (single_of k) else Each (family_of ((k - 10) % 7)) ((k - 10) / 7)
+measure_of k = if nat_lt k 11 then One (single_of k) else Each (family_of ((k - 11) % 7)) ((k - 11) / 7)
 
 -- the number that a symbol is at a state; that of an absent measure is 0
 abbrev pub numbers_of : Point → Valuation

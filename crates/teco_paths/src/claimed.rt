@@ -1,7 +1,7 @@
 //! The claims of a certificate.
 ghost use Rattle.std.specs.Prelude.{◌≡◌, ℕ, IfOk, OnOk, option_map};
-ghost use Rattle.teco_promise.specs.Promise.{most_typed};
-ghost use Rattle.teco_paths.specs.Sure.{IsCertain};
+ghost use Rattle.teco_promise.specs.Promise.{most_with};
+ghost use Rattle.teco_paths.specs.Sure.{IsCertain, bounds_in};
 ghost use Rattle.teco_poly.specs.Polynomial as poly;
 
 use crate::coefficients::coefficients;
@@ -36,6 +36,7 @@ struct Prepared {
     used: Vec<bool>,
     commands: Vec<u64>,
     size: Vec<u64>,
+    grows: Option<Vec<u64>>,
     types: Option<Vec<u64>>,
 }
 
@@ -52,7 +53,7 @@ fn lent(coefficients: &Option<Vec<u64>>) -> Option<&[u64]>
 // The coefficients of a polynomial, if there is one.
 fn coefficients_if(polynomial: &Option<Poly>, alloc: Global) -> Result<Option<Vec<u64>>, PathFault>
     ensures { IfOk result (λ found. (n before : ℕ)
-        → most_typed (option_map (λ t. t.items) found) n before ≡ most_typed polynomial.now n before) }
+        → most_with (option_map (λ t. t.items) found) n before ≡ most_with polynomial.now n before) }
 {
     match polynomial {
         Some(polynomial) => {
@@ -77,6 +78,7 @@ fn stands(
         cuts: &prepared.cuts,
         commands: &prepared.commands,
         size: &prepared.size,
+        grows: lent(&prepared.grows),
         types: lent(&prepared.types),
     };
     let first = entry_cut(called.lengths, called.argument, &prepared.used, alloc)?;
@@ -88,6 +90,7 @@ fn stands(
 fn with_cuts(prepared: Prepared, cuts: Vec<CutState>) -> Prepared
     ensures commands { result.commands.items ≡ prepared.commands.items }
     ensures size { result.size.items ≡ prepared.size.items }
+    ensures grows { result.grows ≡ prepared.grows }
     ensures types { result.types ≡ prepared.types }
 {
     let Prepared {
@@ -95,6 +98,7 @@ fn with_cuts(prepared: Prepared, cuts: Vec<CutState>) -> Prepared
         used,
         commands,
         size,
+        grows,
         types,
     } = prepared;
     Prepared {
@@ -102,6 +106,7 @@ fn with_cuts(prepared: Prepared, cuts: Vec<CutState>) -> Prepared
         used,
         commands,
         size,
+        grows,
         types,
     }
 }
@@ -112,11 +117,14 @@ fn bounds(nodes: &Nodes<'_>, claimed: &Claims, alloc: Global) -> Result<Prepared
         → poly.value prepared.commands.items n ≡ poly.value claimed.now.commands n) }
     ensures size { IfOk result (λ prepared. (n : ℕ)
         → poly.value prepared.size.items n ≡ poly.value claimed.now.size n) }
+    ensures grows { IfOk result (λ prepared. (n before : ℕ)
+        → most_with (option_map (λ t. t.items) prepared.grows) n before ≡ most_with claimed.now.grows n before) }
     ensures types { IfOk result (λ prepared. (n before : ℕ)
-        → most_typed (option_map (λ t. t.items) prepared.types) n before ≡ most_typed claimed.now.types n before) }
+        → most_with (option_map (λ t. t.items) prepared.types) n before ≡ most_with claimed.now.types n before) }
 {
     let commands = coefficients(&claimed.commands, alloc)?;
     let size = coefficients(&claimed.size, alloc)?;
+    let grows = coefficients_if(&claimed.grows, alloc)?;
     let types = coefficients_if(&claimed.types, alloc)?;
     let used = used(nodes, claimed, alloc)?;
     Ok(Prepared {
@@ -124,6 +132,7 @@ fn bounds(nodes: &Nodes<'_>, claimed: &Claims, alloc: Global) -> Result<Prepared
         used,
         commands,
         size,
+        grows,
         types,
     })
 }
@@ -131,8 +140,12 @@ fn bounds(nodes: &Nodes<'_>, claimed: &Claims, alloc: Global) -> Result<Prepared
 // Follows all paths by them.
 fn check_prepared(called: &Called<'_>, prepared: &Prepared, alloc: Global) -> Result<(), PathFault>
     ensures { OnOk result (IsCertain called.now.nodes.now called.now.lengths.now called.now.argument
-        called.now.needs prepared.now.commands.items prepared.now.size.items
-        (option_map (λ t. t.items) prepared.now.types)) }
+        called.now.needs (record {
+          commands = prepared.now.commands.items;
+          size = prepared.now.size.items;
+          grows = option_map (λ t. t.items) prepared.now.grows;
+          types = option_map (λ t. t.items) prepared.now.types;
+        })) }
 {
     let course = MacroGraph {
         nodes: called.nodes,
@@ -142,17 +155,18 @@ fn check_prepared(called: &Called<'_>, prepared: &Prepared, alloc: Global) -> Re
         cuts: &prepared.cuts,
         commands: &prepared.commands,
         size: &prepared.size,
+        grows: lent(&prepared.grows),
         types: lent(&prepared.types),
     };
     check_claims(&course, called.argument, alloc)
 }
 
 /// Follows all paths of a macro by the claims of a certificate. Where nothing is refused, every run of
-/// it ends within the commands that the certificate says, holds no more than it says, and types no
-/// more bytes, if it says how many.
+/// it ends within the commands that the certificate says and holds no more than it says; its text gets
+/// no longer and it types no more bytes than it says, if it does.
 pub fn check_claimed(called: &Called<'_>, claimed: &Claims, alloc: Global) -> Result<(), PathFault>
     ensures { OnOk result (IsCertain called.now.nodes.now called.now.lengths.now called.now.argument
-        called.now.needs claimed.now.commands claimed.now.size claimed.now.types) }
+        called.now.needs (bounds_in claimed.now)) }
 {
     let first = bounds(called.nodes, claimed, alloc)?;
     let stands = stands(called, &first, alloc)?;

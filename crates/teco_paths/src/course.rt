@@ -12,8 +12,9 @@ use teco_model::Needs;
 
 /// The nodes of a macro, the lengths of the library's texts by the places of their registers, the
 /// files that are open, which measures the macro uses, by their places, the cut points, how many
-/// commands a run may take and how much it may hold, and how many bytes it may type, if that is
-/// claimed: polynomials in N, each by its coefficients, that of the constant first.
+/// commands a run may take and how much it may hold, and, if that is claimed, how much longer its text
+/// may get and how many bytes it may type: polynomials in N, each by its coefficients, that of the
+/// constant first.
 #[derive(Drop)]
 pub struct MacroGraph<'a> {
     pub nodes: &'a Nodes<'a>,
@@ -23,6 +24,7 @@ pub struct MacroGraph<'a> {
     pub cuts: &'a [CutState],
     pub commands: &'a [u64],
     pub size: &'a [u64],
+    pub grows: Option<&'a [u64]>,
     pub types: Option<&'a [u64]>,
 }
 
@@ -39,6 +41,7 @@ impl<'a> Model for MacroGraph<'a> {
       cuts = c.cuts.now;
       commands = c.commands.now;
       size = c.size.now;
+      grows = option_map (λ t. t.now) c.grows;
       types = option_map (λ t. t.now) c.types;
     } };
 }

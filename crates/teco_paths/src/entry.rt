@@ -20,20 +20,22 @@ use teco_linear::{Form, Term};
 use teco_model::ArgumentRange;
 use teco_rows::case::Shape;
 
-// The places of the steps that were done, of what is held, of the bytes that were typed, of the
-// length of the first register's text, and of the pending argument.
+// The places of the steps that were done, of what is held, of the bytes that were typed, of what was
+// held at the entry, of the length of the first register's text, and of the pending argument.
 const STEPS: u32 = 0;
 
 const HELD: u32 = 3;
 
 const TYPED: u32 = 9;
 
-const FIRST_LENGTH: u32 = 11;
+const ENTRY_HELD: u32 = 10;
 
-const ARGUMENT: u32 = 16;
+const FIRST_LENGTH: u32 = 12;
+
+const ARGUMENT: u32 = 17;
 
 // How many places there are at an entry.
-pub const PLACES: usize = 10 + 7 * REGISTERS;
+pub const PLACES: usize = 11 + 7 * REGISTERS;
 
 // How many steps were done there.
 fn steps_done(argument: Option<ArgumentRange>) -> u32
@@ -43,6 +45,16 @@ fn steps_done(argument: Option<ArgumentRange>) -> u32
         Some(_) => 1,
         None => 0,
     }
+}
+
+// That a symbol is no less than another.
+fn no_less_than(symbol: u32, other: u32, alloc: Global) -> Result<Form, PathFault>
+    ensures { IfOk result (λ form. (n : ℕ) (v : Valuation) → value form n v ≡ v symbol -ℤ v other) }
+{
+    let number = Form::symbol(symbol, alloc)?;
+    let least = Form::symbol(other, alloc)?;
+    let form = number.sub(&least, alloc)?;
+    Ok(form)
 }
 
 // N, less what is held.
@@ -66,7 +78,7 @@ fn most_held(alloc: Global) -> Result<Form, PathFault>
 fn length_used(used: &[bool], register: u32, alloc: Global) -> Result<Form, PathFault>
     requires { register < REGISTERS }
     ensures { IfOk result (λ form. (n : ℕ) (v : Valuation)
-        → value form n v ≡ length_if (slice_index_or used.now (11 + 7 * register) false) v register) }
+        → value form n v ≡ length_if (slice_index_or used.now (12 + 7 * register) false) v register) }
 {
     let place = FIRST_LENGTH + 7 * register;
     if used.get(place as usize) == Some(&true) {
@@ -178,6 +190,8 @@ fn entry_claims(
     let mut claims = length_claims(lengths, alloc)?;
     add_between(&mut claims, STEPS, done, done, alloc)?;
     add_between(&mut claims, TYPED, 0, 0, alloc)?;
+    claims.push(no_less_than(HELD, ENTRY_HELD, alloc)?)?;
+    claims.push(no_less_than(ENTRY_HELD, HELD, alloc)?)?;
     claims.push(most_in_all(used, alloc)?)?;
     add_range(&mut claims, argument, alloc)?;
     Ok(claims)
@@ -187,11 +201,11 @@ fn entry_claims(
 fn is_present(has_argument: bool, place: usize) -> bool
     ensures { result ≡ is_there has_argument (measure_of place) }
 {
-    if place < 10 {
+    if place < 11 {
         return true;
     }
-    let index = (place - 10) / 7;
-    match (place - 10) % 7 {
+    let index = (place - 11) / 7;
+    match (place - 11) % 7 {
         0 => index < REGISTERS,
         1 => index < REGISTERS,
         2 => false,

@@ -120,10 +120,10 @@ fn room(size: &[u64], alloc: Global) -> Result<Form, PathFault>
 fn least_at(place: usize) -> Option<u32>
     ensures { IfSome result (λ below. IsLeast (measure_of place) below) }
 {
-    if place < 10 {
+    if place < 11 {
         return None;
     }
-    match (place - 10) % 7 {
+    match (place - 11) % 7 {
         0 => Some(MOST_BELOW),
         1 => Some(0),
         2 => Some(0),
@@ -137,10 +137,10 @@ fn least_at(place: usize) -> Option<u32>
 fn most_at(place: usize) -> Option<u32>
     ensures { IfSome result (λ most. IsMost (measure_of place) most) }
 {
-    if place < 10 {
+    if place < 11 {
         return None;
     }
-    match (place - 10) % 7 {
+    match (place - 11) % 7 {
         0 => Some(MOST_NUMBER),
         1 => Some(LIMIT as u32),
         3 => Some(MOST_NUMBER),

@@ -1,5 +1,6 @@
 //! One step of a path.
-ghost use Rattle.std.specs.Prelude.{◌≡◌, ◌<◌, ◌≤◌, ◌≤ℤ◌, ◌++◌, ℕ, length, pos, IfOk};
+ghost use Rattle.std.specs.Prelude.{◌≡◌, ◌<◌, ◌≤◌, ◌≤ℤ◌, ◌+ℤ◌, ◌++◌, ℕ, length, pos, IfOk};
+ghost use Rattle.teco_rows.specs.declared.measure.Single.TheVariants.{EntryHeld, Held};
 ghost use Rattle.std.specs.Bool.{OnTrue};
 ghost use Rattle.std.specs.List.{All};
 ghost use Rattle.teco_model.specs.Element.{seen};
@@ -7,7 +8,7 @@ ghost use Rattle.teco_poly.specs.Polynomial.{value};
 ghost use Rattle.teco_rows.specs.States.{Describes, Point, single as measure};
 ghost use Rattle.teco_paths.specs.Paths.{Leads, LeadsOn};
 ghost use Rattle.teco_paths.specs.Steps.{AreKept, AreSpots, GoOn, IsAskedAt, IsInTime, IsPlain, IsRead};
-ghost use Rattle.teco_paths.specs.Steps.{IsSmall, IsTextEnd, TypesNoMore};
+ghost use Rattle.teco_paths.specs.Steps.{GrowsNoMore, IsSmall, IsTextEnd, TypesNoMore};
 
 use crate::course::{MacroGraph, form_of};
 use crate::fault::PathFault;
@@ -80,11 +81,36 @@ fn is_bounded(
     is_so(case, &most.sub(&measured, alloc)?, alloc)
 }
 
-/// Whether what a case says of how much is held is within the size that is claimed.
+// Whether a case says that no more is held than at the entry, with a polynomial in N.
+fn is_grown_within(polynomial: &[u64], case: &Case, alloc: Global) -> Result<bool, PathFault>
+    ensures { IfOk result (λ answer. OnTrue answer ((n : ℕ) (s : Point) → Describes n case.now s
+        → measure s Held ≤ℤ (measure s EntryHeld +ℤ pos (value polynomial.now n)))) }
+{
+    let more = form_of(polynomial, alloc)?;
+    let before = single(case, Single::EntryHeld, alloc)?;
+    let most = before.add(&more, alloc)?;
+    let held = single(case, Single::Held, alloc)?;
+    is_so(case, &most.sub(&held, alloc)?, alloc)
+}
+
+// Whether it says that the text has got no longer than is claimed, if that is.
+fn grows_no_more(course: &MacroGraph<'_>, case: &Case, alloc: Global) -> Result<bool, PathFault>
+    ensures { IfOk result (λ answer. OnTrue answer (GrowsNoMore course.now case.now)) }
+{
+    match course.grows {
+        Some(grows) => is_grown_within(grows, case, alloc),
+        None => Ok(true),
+    }
+}
+
+/// Whether what a case says of how much is held is within the size that is claimed, and within how
+/// much longer the text may get, if that is claimed.
 pub fn is_small(course: &MacroGraph<'_>, case: &Case, alloc: Global) -> Result<bool, PathFault>
     ensures { IfOk result (λ answer. OnTrue answer (IsSmall course.now case.now)) }
 {
-    is_bounded(course.size, case, Single::Held, alloc)
+    let is_fitting = is_bounded(course.size, case, Single::Held, alloc)?;
+    let is_grown = grows_no_more(course, case, alloc)?;
+    Ok(is_fitting && is_grown)
 }
 
 /// Whether the steps that a case says are within the commands that are claimed.

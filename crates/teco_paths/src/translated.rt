@@ -20,6 +20,7 @@ fn single_of(single: teco_claims::ClaimSingle) -> Single {
         teco_claims::ClaimSingle::LineStart => Single::LineStart,
         teco_claims::ClaimSingle::LastLength => Single::LastLength,
         teco_claims::ClaimSingle::Typed => Single::Typed,
+        teco_claims::ClaimSingle::EntryHeld => Single::EntryHeld,
     }
 }
 

@@ -35,7 +35,7 @@ fn named_by(kind: &Kind) -> Option<usize> {
 // Marks the number and the length of a register.
 fn mark(used: &mut [bool], register: usize) {
     if register < REGISTERS {
-        for place in [10 + 7 * register, 11 + 7 * register] {
+        for place in [11 + 7 * register, 12 + 7 * register] {
             if let Some(slot) = used.get_mut(place) {
                 *slot = true;
             }
@@ -87,7 +87,7 @@ fn mark_all_claimed(used: &mut [bool], claimed: &Claims) {
 fn without_registers(alloc: Global) -> Result<Vec<bool>, PathFault> {
     let mut used = Vec::new(alloc);
     for place in 0..PLACES {
-        used.push(place < 10 || (place - 10) % 7 > 1)?;
+        used.push(place < 11 || (place - 11) % 7 > 1)?;
     }
     Ok(used)
 }

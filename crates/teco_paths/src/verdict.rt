@@ -1,6 +1,6 @@
 //! Whether claims hang together.
 ghost use Rattle.std.specs.Prelude.{OnOk};
-ghost use Rattle.teco_paths.specs.Sure.{IsCertain};
+ghost use Rattle.teco_paths.specs.Sure.{IsCertain, bounds_of};
 
 use crate::course::MacroGraph;
 use crate::cut::case_of;
@@ -18,7 +18,7 @@ pub fn check_claims(
     alloc: Global,
 ) -> Result<(), PathFault>
     ensures { OnOk result (IsCertain course.now.nodes course.now.lengths argument course.now.needs
-        course.now.commands course.now.size course.now.types) }
+        (bounds_of course.now)) }
 {
     teco_law_runs::laws::steps_are_alike();
     teco_law_runs::laws::runs_are_alike();

@@ -4,11 +4,14 @@ use Rattle.teco_law_runs.specs.Given.{call_given}
 use Rattle.teco_law_runs.specs.Ready.{AreOpen, IsReady, n_of}
 use Rattle.teco_law_runs.specs.Ending.{EndsWithin}
 use Rattle.teco_model.specs.Macros.{Library, ArgumentRange, IsAsked, Needs}
+use Rattle.teco_model.specs.Paging.{unread_of}
+use Rattle.teco_model.specs.Run.{Reaches}
 use Rattle.teco_model.specs.State.{Kept, World, State, start}
 use Rattle.teco_poly.specs.Polynomial.{Polynomial, value}
 
 -- The texts of a library, the register that is called, the argument that it takes, if any, the files that must be
--- open, the most commands, the most that is held, and the most bytes that are typed, if a bound on them is known.
+-- open, the most commands, the most that must fit, and, if bounds on them are known, how much longer the text gets and
+-- the most bytes that are typed.
 pub record Promise : Type 0 where
   pub library : Library
   pub entry : ℕ
@@ -16,29 +19,38 @@ pub record Promise : Type 0 where
   pub needs : Needs
   pub commands : Polynomial
   pub size : Polynomial
+  pub grows : Option Polynomial
   pub types : Option Polynomial
 
--- how many bytes may have been typed at N, if that is bounded, where so many were before
-abbrev pub most_typed : Option Polynomial → ℕ → ℕ → Option ℕ
-most_typed types n before = option_map (λ most. before + value most n) types
+-- how much is in the buffer and unread
+abbrev pub held_of : World → ℕ
+held_of world = length world.kept.text + unread_of world
 
--- no more bytes are typed than that
-abbrev pub IsTypedWithin : Option ℕ → Kept → Type 0
-IsTypedWithin None kept = ⊤
-IsTypedWithin (Some most) kept = length kept.typed ≤ most
+-- how much there may be at N of what was so much before, if what is added is bounded
+abbrev pub most_with : Option Polynomial → ℕ → ℕ → Option ℕ
+most_with added n before = option_map (λ most. before + value most n) added
 
--- A run comes to its end within so many steps, and has typed no more bytes.
-pub record EndsTyping (s : State) (most : ℕ) (typed : Option ℕ) : Type 0 where
+-- no more than that
+abbrev pub IsWithin : Option ℕ → ℕ → Type 0
+IsWithin None number = ⊤
+IsWithin (Some most) number = number ≤ most
+
+-- A run comes to its end within so many steps; on its way and at its end no more is in the buffer and unread, and at
+-- its end no more bytes were typed.
+pub record EndsInBounds (s : State) (most : ℕ) (held typed : Option ℕ) : Type 0 where
   pub ends : EndsWithin s most
-  pub types : IsTypedWithin typed ends.new.kept
+  pub on_the_way : (k : ℕ) (t : State) → k ≤ ends.steps → Reaches k s t → IsWithin held (held_of t.world)
+  pub at_the_end : IsWithin held (held_of ends.new)
+  pub types : IsWithin typed (length ends.new.kept.typed)
 
 -- Each call with an argument that is asked for, where the library is loaded, the size may be held and the files that it
--- needs are open, comes to its end within the commands, without a code, by no command of files, and types no more bytes
--- than are told.
+-- needs are open, comes to its end within the commands, without a code, by no command of files; its text gets no longer
+-- on the way, and it types no more bytes, than is told.
 abbrev pub EachRunEnds : Promise → Type 0
 EachRunEnds promise =
     (given : Option ℕ) (world : World)
     → IsAsked promise.argument given → IsReady promise.library promise.entry promise.size (n_of world) world
     → AreOpen promise.needs world.files
-    → EndsTyping (start (call_given promise.entry given) world) (value promise.commands (n_of world))
-    (most_typed promise.types (n_of world) (length world.kept.typed))
+    → EndsInBounds (start (call_given promise.entry given) world) (value promise.commands (n_of world))
+    (most_with promise.grows (n_of world) (held_of world))
+    (most_with promise.types (n_of world) (length world.kept.typed))

@@ -23,6 +23,8 @@ pub struct Statement<'l> {
     pub commands: Poly,
     /// The most that is held, and the length of the longest text, by N.
     pub size: Poly,
+    /// By how much the buffer and what is unread may get longer on the way, by N, if a bound on that is known.
+    pub grows: Option<Poly>,
     /// The most bytes that a run types, by N, if a bound on them is known.
     pub types: Option<Poly>,
 }
@@ -39,6 +41,7 @@ impl<'l> Model for Statement<'l> {
       needs = s.needs;
       commands = s.commands;
       size = s.size;
+      grows = s.grows;
       types = s.types;
     } };
 }
@@ -115,6 +118,13 @@ impl<'l> Promise<'l> {
         ensures { result ≡ self.now.size }
     {
         self.statement.size
+    }
+
+    /// By how much the buffer and what is unread may get longer on the way; `None` where no bound is known.
+    pub fn grows(&self) -> Option<Poly>
+        ensures { result ≡ self.now.grows }
+    {
+        self.statement.grows
     }
 
     /// The most bytes that a run types; `None` where no bound is known.

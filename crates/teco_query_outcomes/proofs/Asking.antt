@@ -7,7 +7,8 @@ use Rattle.teco_query_outcomes.proofs.Prelude.{sym, ap, subst, ◌∙◌, arith,
 use Rattle.teco_query_outcomes.proofs.Prelude.{value_beside, code_at, pair_of, Kept, after_query_with, Operator}
 use Rattle.teco_query_outcomes.proofs.Prelude.{AreBytes}
 use Rattle.teco_query_outcomes.proofs.Prelude.{IsWhole, Case, Single, Steps, Pointer, Size, Held, LineEnd, LineStart}
-use Rattle.teco_query_outcomes.proofs.Prelude.{LastLength, CodeHere, CodeBefore, Typed, Outcomes, Places, IsAtLevel}
+use Rattle.teco_query_outcomes.proofs.Prelude.{LastLength, CodeHere, CodeBefore, Typed, EntryHeld, Outcomes, Places}
+use Rattle.teco_query_outcomes.proofs.Prelude.{IsAtLevel}
 use Rattle.teco_query_outcomes.proofs.Prelude.{Leads}
 use Rattle.teco_query_outcomes.proofs.Prelude.{commanded, Describe, Gives, GivesAny, IsOne, Succeeds, with_level, Asks}
 use Rattle.teco_query_outcomes.proofs.Prelude.{Stands, value_if, Value, Point, IsShape, IsTrueOf, behind, each, single}
@@ -135,6 +136,7 @@ module _ (s : Point) (here : Places) (given : ℕ → ℤ) where
   stays answer CodeHere = refl
   stays answer CodeBefore = refl
   stays answer Typed = refl
+  stays answer EntryHeld = refl
 
   set_mode : (mode : ℤ) (which : Single)
       → Some (single (commanded s (record s.kept { mode = mode }) None) which)
@@ -149,6 +151,7 @@ module _ (s : Point) (here : Places) (given : ℕ → ℤ) where
   set_mode mode CodeHere = refl
   set_mode mode CodeBefore = refl
   set_mode mode Typed = refl
+  set_mode mode EntryHeld = refl
 
   pub mode_leads : (mode : ℤ) (unknown : ℕ → ℤ)
       → Leads [] (read_at s here given unknown) s (record s.kept { mode = mode }) None

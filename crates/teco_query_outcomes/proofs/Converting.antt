@@ -12,7 +12,7 @@ use Rattle.teco_query_outcomes.proofs.Prelude.{after_query_with, Level, Operator
 use Rattle.teco_query_outcomes.proofs.Prelude.{Steps}
 use Rattle.teco_query_outcomes.proofs.Prelude.{Pointer, Size, Held, LineEnd, LineStart, LastLength, CodeHere}
 use Rattle.teco_query_outcomes.proofs.Prelude.{CodeBefore}
-use Rattle.teco_query_outcomes.proofs.Prelude.{Typed, Guarded, Outcomes, Clause, Places, value_if, Leads}
+use Rattle.teco_query_outcomes.proofs.Prelude.{Typed, EntryHeld, Guarded, Outcomes, Clause, Places, value_if, Leads}
 use Rattle.teco_query_outcomes.proofs.Prelude.{commanded, Describe, GivesAny, Succeeds, with_level, Before, changed}
 use Rattle.teco_query_outcomes.proofs.Prelude.{Point}
 use Rattle.teco_query_outcomes.proofs.Prelude.{IsShape, IsTrueOf, Describes, behind, code_here, each, single, read_at}
@@ -218,6 +218,7 @@ module _ (s : Point) (whole : IsWhole s.kept) where
   any_singles n v here CodeHere = ap Some (omega (arith, ints))
   any_singles n v here CodeBefore = ap Some (omega (arith, ints))
   any_singles n v here Typed = refl
+  any_singles n v here EntryHeld = refl
 
   digit_singles : (n : ℕ) (v : Valuation) (here : Places) (which : Single)
       → Some (single (record s { kept = kept; unread = s.unread }) which)
@@ -232,6 +233,7 @@ module _ (s : Point) (whole : IsWhole s.kept) where
   digit_singles n v here CodeHere = ap Some (omega (arith, ints))
   digit_singles n v here CodeBefore = ap Some (omega (arith, ints))
   digit_singles n v here Typed = refl
+  digit_singles n v here EntryHeld = refl
 
   low_singles : (n : ℕ) (v : Valuation) (here : Places) (which : Single)
       → Some (single (record s { kept = kept; unread = s.unread }) which)
@@ -246,6 +248,7 @@ module _ (s : Point) (whole : IsWhole s.kept) where
   low_singles n v here CodeHere = ap Some (omega (arith, ints))
   low_singles n v here CodeBefore = ap Some (omega (arith, ints))
   low_singles n v here Typed = refl
+  low_singles n v here EntryHeld = refl
 
   high_singles : (n : ℕ) (v : Valuation) (here : Places) (which : Single)
       → Some (single (record s { kept = kept; unread = s.unread }) which)
@@ -260,6 +263,7 @@ module _ (s : Point) (whole : IsWhole s.kept) where
   high_singles n v here CodeHere = ap Some (omega (arith, ints))
   high_singles n v here CodeBefore = ap Some (omega (arith, ints))
   high_singles n v here Typed = refl
+  high_singles n v here EntryHeld = refl
 
 pub goes_behind : (case made : Case) → IsChangedFrom case READS [] made → IsBehindNumber case made
 goes_behind case made changes n v s true_of whole =
@@ -343,6 +347,7 @@ module _ (s : Point) (here : Places) (given : ℕ → ℤ) (new : List ℕ) (ins
         singles CodeHere = ap (λ x. Some (pos x)) (grown_here s.kept.text new s.kept.pointer inside)
         singles CodeBefore = ap Some (omega (arith, ints))
         singles Typed = refl
+        singles EntryHeld = refl
 
 -- each number of 32 bits is within the bounds of one of these
 data IsOneOf (x : ℤ) : Type 0 where

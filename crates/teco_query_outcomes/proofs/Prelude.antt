@@ -45,7 +45,7 @@ pub use Rattle.teco_rows.specs.declared.measure.Family.TheVariants.{Value}
 pub use Rattle.teco_rows.specs.declared.measure.Measure.TheVariants.{One}
 pub use Rattle.teco_rows.specs.declared.measure.Single.{Single}
 pub use Rattle.teco_rows.specs.declared.measure.Single.TheVariants.{CodeBefore, CodeHere, Held, LastLength, LineEnd}
-pub use Rattle.teco_rows.specs.declared.measure.Single.TheVariants.{LineStart, Pointer, Size, Steps, Typed}
+pub use Rattle.teco_rows.specs.declared.measure.Single.TheVariants.{LineStart, Pointer, Size, Steps, Typed, EntryHeld}
 pub use Rattle.teco_rows.specs.declared.outcomes.Guarded.{Guarded}
 pub use Rattle.teco_rows.specs.declared.outcomes.Outcomes.{Outcomes}
 pub use Rattle.teco_rows.specs.declared.row.Clause.{Clause}

@@ -8,6 +8,7 @@ use Rattle.teco_query_outcomes.proofs.Prelude.{pair_of}
 use Rattle.teco_query_outcomes.proofs.Prelude.{Kept, after_stack, Operator, IsWhole, Case, Value, One, Steps, Pointer}
 use Rattle.teco_query_outcomes.proofs.Prelude.{Size}
 use Rattle.teco_query_outcomes.proofs.Prelude.{Held, LineEnd, LineStart, LastLength, CodeHere, CodeBefore, Typed}
+use Rattle.teco_query_outcomes.proofs.Prelude.{EntryHeld}
 use Rattle.teco_query_outcomes.proofs.Prelude.{Outcomes}
 use Rattle.teco_query_outcomes.proofs.Prelude.{Describe, Foretells, IsOne, Succeeds, Before, changed, Describes, Point}
 use Rattle.teco_query_outcomes.proofs.Prelude.{IsShape, IsTrueOf, behind, describes_one}
@@ -130,6 +131,7 @@ module _ (n : â„•) (v : Valuation) (s : Point) (step : RowStep) (register at : â
     becomes (One CodeHere) = refl
     becomes (One CodeBefore) = refl
     becomes (One Typed) = refl
+    becomes (One EntryHeld) = refl
     becomes (Each Number i) = refl
     becomes (Each Length i) = refl
     becomes (Each Turns i) = refl
@@ -176,6 +178,7 @@ module _ (n : â„•) (v : Valuation) (s : Point) (step : RowStep) (register at : â
     becomes (One CodeHere) = refl
     becomes (One CodeBefore) = refl
     becomes (One Typed) = refl
+    becomes (One EntryHeld) = refl
     becomes (Each Number i) =
         number_set s.kept.registers.pairs step.here.register i pair _ (omega (arith, whole.count))
         (ap Some (omega (arith, ints, number_newest)))

@@ -9,7 +9,8 @@ use Rattle.teco_query_outcomes.proofs.Prelude.{Valuation, value, levels_after_ta
 use Rattle.teco_query_outcomes.proofs.Prelude.{outcome_at}
 use Rattle.teco_query_outcomes.proofs.Prelude.{reply_of, step, AreBytes, Case, TakenForms, Single, Steps, Pointer, Size}
 use Rattle.teco_query_outcomes.proofs.Prelude.{Held}
-use Rattle.teco_query_outcomes.proofs.Prelude.{LineEnd, LineStart, LastLength, CodeHere, CodeBefore, Typed, Outcomes}
+use Rattle.teco_query_outcomes.proofs.Prelude.{LineEnd, LineStart, LastLength, CodeHere, CodeBefore, Typed, EntryHeld}
+use Rattle.teco_query_outcomes.proofs.Prelude.{Outcomes}
 use Rattle.teco_query_outcomes.proofs.Prelude.{Places}
 use Rattle.teco_query_outcomes.proofs.Prelude.{value_if, AreCommanded, IsAtLevel, IsTaken, Leads, commanded, Describe}
 use Rattle.teco_query_outcomes.proofs.Prelude.{Before}
@@ -58,6 +59,7 @@ module _ (s : Point) (here : Places) (given : ℕ → ℤ) (at : here.level ≡ 
   stays x CodeHere = refl
   stays x CodeBefore = refl
   stays x Typed = refl
+  stays x EntryHeld = refl
 
   inside_leads : (k c : ℕ) → pos s.kept.pointer +ℤ given 0 ≡ pos k → k < length s.kept.text → c < 256
       → Leads INSIDE (read_at s here given (λ i. pos c)) s s.kept (Some (pos c))

@@ -4,7 +4,8 @@ use Rattle.teco_rows.proofs.Prelude.{Some, None, ℤ, if◌then◌else◌, optio
 use Rattle.teco_rows.proofs.Prelude.{subst, ◌∙◌, arith, nat_tests, All, Term, Valuation, Arguments, Level, Case, VALUE}
 use Rattle.teco_rows.proofs.Prelude.{Number, Length, Turns, PushedNumber, PushedLength, First, Value, Measure, One}
 use Rattle.teco_rows.proofs.Prelude.{Each, Steps, Pointer, Size, Held, LineEnd, LineStart, LastLength, CodeHere}
-use Rattle.teco_rows.proofs.Prelude.{CodeBefore, Typed, Places, IsAtLevel, value_if, place, is_at, measure_at, Point}
+use Rattle.teco_rows.proofs.Prelude.{CodeBefore, Typed, EntryHeld, Places, IsAtLevel, value_if, place, is_at}
+use Rattle.teco_rows.proofs.Prelude.{measure_at, Point}
 use Rattle.teco_rows.proofs.Prelude.{IsTrueOf, from_end, levels, measures_of, operators_of}
 use Rattle.teco_linear.specs.Implied as linear
 use Rattle.teco_rows.specs.declared.levels.TheConstants.{FIRST}
@@ -60,6 +61,7 @@ module _ (s : Point) (level : Level) (outer : List Level) (here : Places) (e : s
   without (One CodeHere) = refl
   without (One CodeBefore) = refl
   without (One Typed) = refl
+  without (One EntryHeld) = refl
   without (Each Number i) = refl
   without (Each Length i) = refl
   without (Each Turns i) = refl

@@ -2,7 +2,8 @@
 use Rattle.teco_rows.proofs.Prelude.{◌≡◌, ℕ, ℤ, List, [], ◌++◌, length, Option, Some, None, is_some, is_none, ◌&&◌}
 use Rattle.teco_rows.proofs.Prelude.{false, Ok, slice_index_or, refl, sym, ap, subst, ◌∙◌, arith, ints, Term, Valuation}
 use Rattle.teco_rows.proofs.Prelude.{value, Arguments, ◌>>=◌, Operator, Level, Case, Steps, Pointer, Size, Held}
-use Rattle.teco_rows.proofs.Prelude.{LineEnd, LineStart, LastLength, CodeHere, CodeBefore, Typed, Number, Length, Turns}
+use Rattle.teco_rows.proofs.Prelude.{LineEnd, LineStart, LastLength, CodeHere, CodeBefore, Typed, EntryHeld, Number}
+use Rattle.teco_rows.proofs.Prelude.{Length, Turns}
 use Rattle.teco_rows.proofs.Prelude.{PushedNumber, PushedLength, First, Value, Measure, One, Each, Clause, Places}
 use Rattle.teco_rows.proofs.Prelude.{RowStep, Before, Holds, changed, value_if, Point, IsLed, Describes, behind}
 use Rattle.teco_rows.proofs.Prelude.{measures_of, IsAtLevel, IsCommanded, commanded}
@@ -40,6 +41,7 @@ takes s here given unknown at (One LastLength) = refl
 takes s here given unknown at (One CodeHere) = refl
 takes s here given unknown at (One CodeBefore) = refl
 takes s here given unknown at (One Typed) = refl
+takes s here given unknown at (One EntryHeld) = refl
 takes s here given unknown at (Each Number i) = refl
 takes s here given unknown at (Each Length i) = refl
 takes s here given unknown at (Each Turns i) = refl

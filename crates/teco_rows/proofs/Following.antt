@@ -3,6 +3,7 @@ use Rattle.teco_rows.proofs.Prelude.{◌≡◌, ℕ, ◌+◌, ◌*◌, ◌<◌, 
 use Rattle.teco_rows.proofs.Prelude.{false, Option, Some, None, slice_index_or, if◌then◌else◌, refl, sym, ap, subst}
 use Rattle.teco_rows.proofs.Prelude.{◌∙◌, arith, nat_tests, All, Term, Valuation, value, Draft, Case, Single, Steps}
 use Rattle.teco_rows.proofs.Prelude.{Pointer, Size, Held, LineEnd, LineStart, LastLength, CodeHere, CodeBefore, Typed}
+use Rattle.teco_rows.proofs.Prelude.{EntryHeld}
 use Rattle.teco_rows.proofs.Prelude.{Family, Number, Length, Turns, PushedNumber, PushedLength, First, Value, Measure}
 use Rattle.teco_rows.proofs.Prelude.{Mark, Clause, Sets, Drops, Wants, Places, RowStep, family_code, place}
 use Rattle.teco_rows.proofs.Prelude.{index_at, measure_at, is_at, total, Adds, measures_by, read_by, value_if}
@@ -13,7 +14,7 @@ use Rattle.teco_rows.specs.declared.row.Mark.TheVariants.{One, Here}
 use Rattle.teco_rows.specs.Measures.{single_code}
 use Rattle.teco_rows.specs.Rows.{Multiples}
 
-single_below : (s : Single) → single_code s < 10
+single_below : (s : Single) → single_code s < 11
 single_below Steps = omega arith
 single_below Pointer = omega arith
 single_below Size = omega arith
@@ -24,6 +25,7 @@ single_below LastLength = omega arith
 single_below CodeHere = omega arith
 single_below CodeBefore = omega arith
 single_below Typed = omega arith
+single_below EntryHeld = omega arith
 
 family_below : (f : Family) → family_code f < 7
 family_below Number = omega arith
@@ -34,13 +36,13 @@ family_below PushedLength = omega arith
 family_below First = omega arith
 family_below Value = omega arith
 
-apart : (a b i : ℕ) → a < 10 → (a == 10 + 7 * i + b) ≡ false
+apart : (a b i : ℕ) → a < 11 → (a == 11 + 7 * i + b) ≡ false
 apart a b i h = grind (arith, nat_tests)
 
-apart_back : (a b i : ℕ) → a < 10 → (10 + 7 * i + b == a) ≡ false
+apart_back : (a b i : ℕ) → a < 11 → (11 + 7 * i + b == a) ≡ false
 apart_back a b i h = grind (arith, nat_tests)
 
-together : (a b i j : ℕ) → a < 7 → b < 7 → (10 + 7 * i + a == 10 + 7 * j + b) ≡ (a == b) && (i == j)
+together : (a b i j : ℕ) → a < 7 → b < 7 → (11 + 7 * i + a == 11 + 7 * j + b) ≡ (a == b) && (i == j)
 together a b i j h k = grind (arith, nat_tests)
 
 -- two measures stand in one place where they are one

@@ -4,7 +4,8 @@ use Rattle.teco_rows.proofs.Prelude.{unwrap_or, Option, false, ◌≤ℤ◌, ◌
 use Rattle.teco_rows.proofs.Prelude.{negsuc, subst, refl, sym, ap, ◌∙◌, arith, ints, Code, All, cast_unsigned, Term}
 use Rattle.teco_rows.proofs.Prelude.{Valuation, value, Level, Operator, Case, VALUE, Of, Given, Unknown, Clause, Sets}
 use Rattle.teco_rows.proofs.Prelude.{Wants, Steps, Pointer, Size, Held, LineEnd, LineStart, LastLength, CodeHere}
-use Rattle.teco_rows.proofs.Prelude.{CodeBefore, Typed, Number, Length, Turns, PushedNumber, PushedLength, First, Value}
+use Rattle.teco_rows.proofs.Prelude.{CodeBefore, Typed, EntryHeld, Number, Length, Turns, PushedNumber, PushedLength}
+use Rattle.teco_rows.proofs.Prelude.{First, Value}
 use Rattle.teco_rows.proofs.Prelude.{Measure, One, Each, Outcomes, Places, RowStep, Before, Holds, changed, weight}
 use Rattle.teco_rows.proofs.Prelude.{read_with, Point, IsShape, IsLed, IsTrueOf, Describes, behind, measures_of}
 use Rattle.teco_rows.proofs.Prelude.{Describe, Succeeds, with_level, is_over, IsBelowZero, IsDivided, IsFromZero}
@@ -113,6 +114,7 @@ module _ (s : Point) (level : Level) (here : Places) (given unknown : ℕ
   becomes x of value e (One CodeHere) = refl
   becomes x of value e (One CodeBefore) = refl
   becomes x of value e (One Typed) = refl
+  becomes x of value e (One EntryHeld) = refl
   becomes x of value e (Each Number i) = refl
   becomes x of value e (Each Length i) = refl
   becomes x of value e (Each Turns i) = refl

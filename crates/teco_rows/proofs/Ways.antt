@@ -4,7 +4,8 @@ use Rattle.teco_rows.proofs.Prelude.{get_or, slice_get, slice_index_or, Some, No
 use Rattle.teco_rows.proofs.Prelude.{if◌then◌else◌, refl, sym, ap, subst, ◌∙◌, arith, length-append, ◌⊎◌, inl, inr}
 use Rattle.teco_rows.proofs.Prelude.{take_more, take_all, get_or_append_left, get_or-append_seam, Term, Valuation}
 use Rattle.teco_rows.proofs.Prelude.{value, Kept, Case, Outcomes, Places, Single, Steps, Pointer, Size, Held, LineEnd}
-use Rattle.teco_rows.proofs.Prelude.{LineStart, LastLength, CodeHere, CodeBefore, Typed, Number, Length, Turns}
+use Rattle.teco_rows.proofs.Prelude.{LineStart, LastLength, CodeHere, CodeBefore, Typed, EntryHeld, Number, Length}
+use Rattle.teco_rows.proofs.Prelude.{Turns}
 use Rattle.teco_rows.proofs.Prelude.{PushedNumber, PushedLength, First, Value, Measure, One, Each, Mark, Clause, Sets}
 use Rattle.teco_rows.proofs.Prelude.{Drops, Wants, Before, AreMet, changed, is_at, total, Point, IsTrueOf, each, single}
 use Rattle.teco_rows.proofs.Prelude.{measures_of, Describe, AreCommanded, IsCommanded, Leads, commanded, row_of}
@@ -159,6 +160,7 @@ module _ (a row : List Clause) (b : Before) (s : Point) (kept : Kept) (x : ℤ) 
   same CodeHere = refl
   same CodeBefore = refl
   same Typed = refl
+  same EntryHeld = refl
 
   through : (m : Measure) (y z : Option ℤ) → z ≡ changed row b m y → changed a b m y ≡ y
       → z ≡ changed (a ++ row) b m y

@@ -2,7 +2,7 @@
 use Rattle.std.specs.Prelude.{ℕ, ◌+◌, ◌*◌}
 use Rattle.teco_rows.specs.declared.measure.Single.{Single}
 use Rattle.teco_rows.specs.declared.measure.Single.TheVariants.{Steps, Pointer, Size, Held, LineEnd, LineStart}
-use Rattle.teco_rows.specs.declared.measure.Single.TheVariants.{LastLength, CodeHere, CodeBefore, Typed}
+use Rattle.teco_rows.specs.declared.measure.Single.TheVariants.{LastLength, CodeHere, CodeBefore, Typed, EntryHeld}
 use Rattle.teco_rows.specs.declared.measure.Family.{Family}
 use Rattle.teco_rows.specs.declared.measure.Family.TheVariants.{Number, Length, Turns, PushedNumber, PushedLength}
 use Rattle.teco_rows.specs.declared.measure.Family.TheVariants.{First, Value}
@@ -21,6 +21,7 @@ single_code LastLength = 6
 single_code CodeHere = 7
 single_code CodeBefore = 8
 single_code Typed = 9
+single_code EntryHeld = 10
 
 -- the families, in their order
 abbrev pub family_code : Family → ℕ
@@ -35,4 +36,4 @@ family_code Value = 6
 -- a case has first the forms of what a state has once, and then one of each family in turn
 abbrev pub place : Measure → ℕ
 place (One single) = single_code single
-place (Each family index) = 10 + 7 * index + family_code family
+place (Each family index) = 11 + 7 * index + family_code family

@@ -13,7 +13,7 @@ use Rattle.teco_model.specs.declared.arguments.Operator.{Operator}
 use Rattle.teco_model.specs.declared.flow.Loop.{Loop}
 use Rattle.teco_rows.specs.declared.measure.Single.{Single}
 use Rattle.teco_rows.specs.declared.measure.Single.TheVariants.{Steps, Pointer, Size, Held, LineEnd, LineStart}
-use Rattle.teco_rows.specs.declared.measure.Single.TheVariants.{LastLength, CodeHere, CodeBefore, Typed}
+use Rattle.teco_rows.specs.declared.measure.Single.TheVariants.{LastLength, CodeHere, CodeBefore, Typed, EntryHeld}
 use Rattle.teco_rows.specs.declared.measure.Family.{Family}
 use Rattle.teco_rows.specs.declared.measure.Family.TheVariants.{Number, Length, Turns, PushedNumber, PushedLength}
 use Rattle.teco_rows.specs.declared.measure.Family.TheVariants.{First, Value}
@@ -24,10 +24,12 @@ use Rattle.teco_rows.specs.Rows.{Measures}
 use Rattle.teco_rows.specs.declared.row.RowStep.{RowStep}
 use Rattle.teco_rows.specs.Cases.{Fits, Carries}
 
--- What there was at the entry: how many pairs were on the push-down list, and how many bytes were typed.
+-- What there was at the entry: how many pairs were on the push-down list, how many bytes were typed, and how much was
+-- in the buffer and unread.
 pub record Origin : Type 0 where
   pub pushes : ℕ
   pub typed : ℕ
+  pub held : ℕ
 
 -- What a case speaks of: how many steps were done, what is unread, what there was at the entry, what is kept, the
 -- pending arguments, and the iterations that are open in all texts, the innermost first.
@@ -73,6 +75,7 @@ single s LastLength = pos s.kept.last_length
 single s CodeHere = pos (code_here s.kept.text s.kept.pointer)
 single s CodeBefore = pos (code_before s.kept.text s.kept.pointer)
 single s Typed = pos (length s.kept.typed) -ℤ pos s.origin.typed
+single s EntryHeld = pos s.origin.held
 
 -- the number and the length of the text of a pair
 abbrev pub number_of : Option Pair → Option ℤ

@@ -25,6 +25,8 @@ pub enum Single {
     CodeBefore,
     /// How many bytes were typed since the entry.
     Typed,
+    /// The length of the buffer and of what was unread at the entry.
+    EntryHeld,
 }
 
 /// A measure that there is of each register, open iteration, pushed pair or argument level.
@@ -60,7 +62,7 @@ impl Single {
     // Its number among those that a state has once.
     fn code(self) -> usize
         ensures value { result ≡ single_code self }
-        ensures within { result < 10 }
+        ensures within { result < 11 }
     {
         match self {
             Single::Steps => 0,
@@ -73,6 +75,7 @@ impl Single {
             Single::CodeHere => 7,
             Single::CodeBefore => 8,
             Single::Typed => 9,
+            Single::EntryHeld => 10,
         }
     }
 }
@@ -103,7 +106,7 @@ impl Measure {
     {
         match self {
             Measure::One(single) => single.code(),
-            Measure::Each(family, index) => 10 + 7 * index as usize + family.code(),
+            Measure::Each(family, index) => 11 + 7 * index as usize + family.code(),
         }
     }
 }

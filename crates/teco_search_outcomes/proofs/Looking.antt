@@ -14,7 +14,8 @@ use Rattle.teco_search_outcomes.proofs.Prelude.{kept_at, pattern_of, search_text
 use Rattle.teco_search_outcomes.proofs.Prelude.{search_reply, Kept, State, World, outcome_at, reply_of, step, Search}
 use Rattle.teco_search_outcomes.proofs.Prelude.{FindInPages, ReplaceInPages, Part, Span, IsFirstFrom, IsMatch, AreBytes}
 use Rattle.teco_search_outcomes.proofs.Prelude.{IsWhole, Case, TakenForms, One, Single, Steps, Pointer, Size, Held}
-use Rattle.teco_search_outcomes.proofs.Prelude.{LineEnd, LineStart, LastLength, CodeHere, CodeBefore, Typed, Guarded}
+use Rattle.teco_search_outcomes.proofs.Prelude.{LineEnd, LineStart, LastLength, CodeHere, CodeBefore, Typed, EntryHeld}
+use Rattle.teco_search_outcomes.proofs.Prelude.{Guarded}
 use Rattle.teco_search_outcomes.proofs.Prelude.{Outcomes, Places, Agree, value_if, IsTaken, Describe, IsGuarded}
 use Rattle.teco_search_outcomes.proofs.Prelude.{Succeeds, changed, Origin, Point, IsTrueOf, Describes, single}
 use Rattle.teco_search_outcomes.proofs.Prelude.{with_codes, among, line_begin, line_end, IsChangedFrom, read_given}
@@ -206,6 +207,7 @@ is_later_page case made changes n v s pages kept rest true_of h =
       singles here CodeHere = ap Some (omega (arith, ints))
       singles here CodeBefore = ap Some (omega (arith, ints))
       singles here Typed = ap (λ x. Some (pos (length x) -ℤ pos s.origin.typed)) h.typed
+      singles here EntryHeld = refl
 
 pub is_through : (case made : Case) → IsChangedFrom case THROUGH [] made → IsThrough case made
 is_through case made changes n v s pages kept rest true_of h =
@@ -240,6 +242,7 @@ is_through case made changes n v s pages kept rest true_of h =
       singles here CodeHere = ap Some (omega (arith, ints))
       singles here CodeBefore = ap Some (omega (arith, ints))
       singles here Typed = ap (λ x. Some (pos (length x) -ℤ pos s.origin.typed)) h.typed
+      singles here EntryHeld = refl
 
 -- what is found on a later page is kept, and a case describes the state with it
 abbrev pub KeepsLater : Search → Element → List Part → Case → Case → Case → List Guarded → Type 0

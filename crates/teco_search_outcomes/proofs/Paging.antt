@@ -11,7 +11,8 @@ use Rattle.teco_search_outcomes.proofs.Prelude.{append, unread, yank, files_behi
 use Rattle.teco_search_outcomes.proofs.Prelude.{world_after_writing, written_page, going_on, Kept, State, World}
 use Rattle.teco_search_outcomes.proofs.Prelude.{outcome_at, reply_of, step, IsWhole, Case, TakenForms, One, Single}
 use Rattle.teco_search_outcomes.proofs.Prelude.{Steps, Pointer, Size, Held, LineEnd, LineStart, LastLength, CodeHere}
-use Rattle.teco_search_outcomes.proofs.Prelude.{CodeBefore, Typed, Outcomes, Places, value_if, IsTaken, taken_by}
+use Rattle.teco_search_outcomes.proofs.Prelude.{CodeBefore, Typed, EntryHeld, Outcomes, Places, value_if, IsTaken}
+use Rattle.teco_search_outcomes.proofs.Prelude.{taken_by}
 use Rattle.teco_search_outcomes.proofs.Prelude.{Describe, Succeeds, changed, Origin, Point, IsTrueOf, Describes, single}
 use Rattle.teco_search_outcomes.proofs.Prelude.{code_here, code_before, with_codes, IsEnd, above_or, ends}
 use Rattle.teco_search_outcomes.proofs.Prelude.{line_begin, line_end, one_begin, IsChangedFrom, IsTold, read_given}
@@ -148,6 +149,7 @@ module _ (s : Point) (bytes : List ℕ) (same : s.unread ≡ length bytes) where
         singles here CodeHere = ap Some (omega (arith, ints))
         singles here CodeBefore = ap Some (omega (arith, ints))
         singles here Typed = refl
+        singles here EntryHeld = refl
 
   emptied_describes : (n : ℕ) (v : Valuation) (case made : Case) → length bytes ≡ 0 → IsChanged case EMPTIED [] made
       → IsTrueOf n v case s → Describes n made (with_next_page s bytes)
@@ -172,6 +174,7 @@ module _ (s : Point) (bytes : List ℕ) (same : s.unread ≡ length bytes) where
         singles here CodeHere = ap Some (omega (arith, ints))
         singles here CodeBefore = ap Some (omega (arith, ints))
         singles here Typed = refl
+        singles here EntryHeld = refl
 
 -- of two cases, what is told of either is among them
 pub tells_both : (one other first second : Case) (cases : List Case) → IsTold one None first → IsTold other None second
@@ -452,6 +455,7 @@ module _ (s : Point) (c : ℕ) (rest : List ℕ) (whole : IsWhole s.kept) (same 
         singles here CodeHere = ap Some (omega (arith, ints))
         singles here CodeBefore = ap (λ x. Some (pos x)) (before_joined s.kept.text added s.kept.pointer whole.inside)
         singles here Typed = refl
+        singles here EntryHeld = refl
 
 same_single : (s : Point) (which : Single)
     → Some (single (with_page s s.kept s.unread) which) ≡ Some (single s which)
@@ -465,6 +469,7 @@ same_single s LastLength = refl
 same_single s CodeHere = refl
 same_single s CodeBefore = refl
 same_single s Typed = refl
+same_single s EntryHeld = refl
 
 stays_describes : (s : Point) (n : ℕ) (v : Valuation) (case made : Case) → s.unread ≡ 0 → IsChanged case STAYS [] made
     → IsTrueOf n v case s → Describes n made (with_page s s.kept s.unread)

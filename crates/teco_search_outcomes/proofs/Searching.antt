@@ -5,7 +5,8 @@ use Rattle.teco_search_outcomes.proofs.Prelude.{drop, refl, sym, ap, subst, ◌�
 use Rattle.teco_search_outcomes.proofs.Prelude.{append-nil, append_assoc, All, line_place, text_after_replacement}
 use Rattle.teco_search_outcomes.proofs.Prelude.{LIMIT, Term, Valuation, value, Kept, Item, Part, Span, Case, Guarded}
 use Rattle.teco_search_outcomes.proofs.Prelude.{Agree, One, Single, Steps, Pointer, Size, Held, LineEnd, LineStart}
-use Rattle.teco_search_outcomes.proofs.Prelude.{LastLength, CodeHere, CodeBefore, Typed, Places, changed, Point}
+use Rattle.teco_search_outcomes.proofs.Prelude.{LastLength, CodeHere, CodeBefore, Typed, EntryHeld, Places, changed}
+use Rattle.teco_search_outcomes.proofs.Prelude.{Point}
 use Rattle.teco_search_outcomes.proofs.Prelude.{IsTrueOf, code_here, code_before, single, Direction, Ahead, KnownMatch}
 use Rattle.teco_search_outcomes.proofs.Prelude.{Codes, IsSingle, EndsIn, IsChangedFrom, read_given, with_kept}
 use Rattle.teco_search_outcomes.proofs.Prelude.{with_page, IsFoundBy, BeginsLater, IsWarned, IsMissed, IsReplacedBy}
@@ -189,6 +190,7 @@ module _ (s : Point) (span : Span) (known : KnownMatch) (long e t : ℕ) (given 
     becomes (One CodeHere) = ap Some (omega (arith, ints))
     becomes (One CodeBefore) = ap Some (omega (arith, ints))
     becomes (One Typed) = ap (λ x. Some (pos (length x) -ℤ pos s.origin.typed)) found.typed
+    becomes (One EntryHeld) = refl
     becomes (Each Number i) = ap (λ r. number_of (slice_get r.pairs i)) found.registers
     becomes (Each Length i) = ap (λ r. length_of (slice_get r.pairs i)) found.registers
     becomes (Each Turns i) = refl
@@ -219,6 +221,7 @@ module _ (s : Point) (span : Span) (known : KnownMatch) (long e t : ℕ) (given 
     becomes (One CodeHere) = ap Some (omega (arith, ints))
     becomes (One CodeBefore) = ap Some (omega (arith, ints))
     becomes (One Typed) = ap (λ x. Some (pos (length x) -ℤ pos s.origin.typed)) replaced.typed
+    becomes (One EntryHeld) = refl
     becomes (Each Number i) = ap (λ r. number_of (slice_get r.pairs i)) replaced.registers
     becomes (Each Length i) = ap (λ r. length_of (slice_get r.pairs i)) replaced.registers
     becomes (Each Turns i) = refl
@@ -319,6 +322,7 @@ ends_with row b s t is c = record {
   set (One CodeHere) x e = e
   set (One CodeBefore) x e = ap Some (omega (arith, ints, is))
   set (One Typed) x e = e
+  set (One EntryHeld) x e = e
   set (Each family i) x e = e
 
 ends_if : (so : Bool) (row : List Clause) (b : Before) (s t : Point)
@@ -526,6 +530,7 @@ same_kept s kept text pointer registers last typed (One CodeBefore) =
     ap (λ x. Some (pos (code_before x kept.pointer))) text ∙ ap (λ p. Some (pos (code_before s.kept.text p))) pointer
 same_kept s kept text pointer registers last typed (One Typed) =
     ap (λ x. Some (pos (length x) -ℤ pos s.origin.typed)) typed
+same_kept s kept text pointer registers last typed (One EntryHeld) = refl
 same_kept s kept text pointer registers last typed (Each Number i) = ap (λ r. number_of (slice_get r.pairs i)) registers
 same_kept s kept text pointer registers last typed (Each Length i) = ap (λ r. length_of (slice_get r.pairs i)) registers
 same_kept s kept text pointer registers last typed (Each Turns i) = refl
@@ -593,6 +598,7 @@ misses case made colons one changes n v s kept true_of whole missed =
       becomes here (One CodeHere) = ap Some (omega (arith, ints))
       becomes here (One CodeBefore) = ap Some (omega (arith, ints))
       becomes here (One Typed) = ap (λ x. Some (pos (length x) -ℤ pos s.origin.typed)) missed.typed
+      becomes here (One EntryHeld) = refl
       becomes here (Each Number i) = ap (λ r. number_of (slice_get r.pairs i)) missed.registers
       becomes here (Each Length i) = ap (λ r. length_of (slice_get r.pairs i)) missed.registers
       becomes here (Each Turns i) = refl
@@ -625,6 +631,7 @@ warns case made changes n s d =
       singles here CodeHere = refl
       singles here CodeBefore = refl
       singles here Typed = ap Some (omega (arith, ints, length-append s.kept.typed search_message, long))
+      singles here EntryHeld = refl
 
 -- ---- room for a text in the stead of a match
 pub has_room : (case made : Case) (guarded : Guarded) (size most : List Term) → guarded.symbols ≡ case.symbols

@@ -14,6 +14,7 @@ use teco_model::Stop;
 use teco_run::{Machine, Stopped};
 use teco_session::Listener;
 use teco_text::{TextStore, VecText};
+use teco_verified_runs::*;
 use teco_verify::{Refusal, Verified, check_certificate, verify};
 
 /// Puts a mark behind each `foo`.

@@ -3,13 +3,13 @@ use crate::subjects::expect;
 use std::alloc::Global;
 use std::process::Abort;
 use std::test::*;
-use teco_apply::run_verified;
 use teco_base::{LIMIT, Reg};
 use teco_hosts::MemHost;
 use teco_library::Library;
 use teco_model::Stop;
 use teco_run::Machine;
 use teco_text::GapText;
+use teco_verified_runs::run_verified;
 use teco_verify::{Verified, check_certificate, verify};
 
 fn is_checked(alloc: Global, verified: &Verified<'_>) -> Option<bool> {

@@ -22,10 +22,12 @@ use Rattle.teco_verdicts.specs.Certificates.{IsCertificate}
 use Rattle.teco_verdicts.specs.Linear.{ChecksByClaims, RefusesCertificate, VerdictByClaims}
 use Rattle.teco_acceptance.specs.Lines.{refused_line}
 use Rattle.teco_console.specs.Output.{Writes}
-use Rattle.teco_verdicts.specs.Methods.{ChecksBy, ChecksIn, VerdictBy, VerdictIn}
+use Rattle.teco_verdicts.specs.Methods.{ChecksBy, ChecksIn, IsRefusedByTable, VerdictBy, VerdictIn}
 use Rattle.teco_acceptance.specs.Accepted.{IsAmong}
 use Rattle.teco_console.specs.declared.method.Edition.{Edition}
+use Rattle.teco_console.specs.declared.method.Edition.TheVariants.{Second}
 use Rattle.teco_console.specs.declared.method.Method.{Method}
+use Rattle.teco_console.specs.declared.method.Method.TheVariants.{Only, Best}
 use Rattle.teco_console.specs.declared.outcome.Outcome.{Outcome}
 use Rattle.teco_console.specs.declared.outcome.Outcome.TheVariants.{Done, Coded, Refused}
 
@@ -93,23 +95,30 @@ straight_verdict library entry (Ok found) straight = straight
 straight_verdict library entry (Err refusal) straight = tt
 
 -- the verdicts of `verify` by a table
+pub by_table : (library : LibraryFile) (entry : ℕ) (found : Finding) → found.library ≡ library.texts
+    → IsCertified found.library found.fields → TakesDeclared library found.fields → found.fields.entry ≡ entry
+    → IsStraightVerdict library entry (Ok found) → AreMadeAgain library found.fields
+    → VerdictByTable library entry Done (certificate_text found.fields)
+by_table library entry found same certified declared of_entry straight made = record {
+  certificate = record {
+    fields = found.fields;
+    certified = subst (λ texts. IsCertified texts found.fields) same certified;
+    declared = declared;
+    of_entry = of_entry;
+    spelled = refl;
+  };
+  straight = λ text elements none is. ap certificate_text (straight text elements none is);
+  made = made;
+}
+
 pub of_verified : {E : Type 0} (library : LibraryFile) (entry : ℕ) (old new : Option (List ℕ))
     (found : Finding) (result : Result Outcome E) → found.library ≡ library.texts
     → IsCertified found.library found.fields → TakesDeclared library found.fields → found.fields.entry ≡ entry
     → IsStraightVerdict library entry (Ok found) → AreMadeAgain library found.fields → IfOk result (λ o. o ≡ Done)
     → Writes old new (certificate_text found.fields) result → Answers (VerdictByTable library entry) old new result
 of_verified library entry old new found result same certified declared of_entry straight made done written =
-    of_written (VerdictByTable library entry) old new Done (certificate_text found.fields) result (record {
-      certificate = record {
-        fields = found.fields;
-        certified = subst (λ texts. IsCertified texts found.fields) same certified;
-        declared = declared;
-        of_entry = of_entry;
-        spelled = refl;
-      };
-      straight = λ text elements none is. ap certificate_text (straight text elements none is);
-      made = made;
-    }) done written
+    of_written (VerdictByTable library entry) old new Done (certificate_text found.fields) result
+    (by_table library entry found same certified declared of_entry straight made) done written
 
 pub of_refused : {E : Type 0} (library : LibraryFile) (entry : ℕ) (old new : Option (List ℕ))
     (refusal : Refusal) (result : Result Outcome E) → IsRefusal library entry refusal
@@ -156,12 +165,36 @@ refused_verdict library entry (Err refusal) straight unexpanded derived unclosed
 }
 
 -- answers of an edition are answers of a method that has it
-pub verdict_by : {E : Type 0} (method : Method) (edition : Edition) (library : LibraryFile) (entry : ℕ)
-    (old new : Option (List ℕ)) (result : Result Outcome E) → IsAmong method edition
-    → Answers (VerdictIn edition library entry) old new result → Answers (VerdictBy method library entry) old new result
-verdict_by method edition library entry old new result among p =
-    answers_as (VerdictIn edition library entry) (VerdictBy method library entry) old new result
-    (λ outcome text answer. record { edition = edition; among = among; answer = answer }) p
+pub verdict_by : {E : Type 0} (asked : Edition) (library : LibraryFile) (entry : ℕ) (old new : Option (List ℕ))
+    (result : Result Outcome E) → Answers (VerdictIn asked library entry) old new result
+    → Answers (VerdictBy (Only asked) library entry) old new result
+verdict_by asked library entry old new result p =
+    answers_as (VerdictIn asked library entry) (VerdictBy (Only asked) library entry) old new result
+    (λ outcome text answer. record { edition = asked; among = refl; answer = answer; by_both = tt }) p
+
+-- where either edition may accept: a certificate of one,
+pub accepted_by : {E : Type 0} (edition : Edition) (library : LibraryFile) (entry : ℕ) (old new : Option (List ℕ))
+    (text : List ℕ) (result : Result Outcome E) → VerdictIn edition library entry Done text
+    → IfOk result (λ o. o ≡ Done) → Writes old new text result → Answers (VerdictBy Best library entry) old new result
+accepted_by edition library entry old new text result answer done written =
+    of_written (VerdictBy Best library entry) old new Done text result
+    (record { edition = edition; among = tt; answer = answer; by_both = tt }) done written
+
+-- and the refusal of one, where the other refuses
+refused_too : (library : LibraryFile) (entry : ℕ) (outcome : Outcome) (text : List ℕ) → IsRefusedByTable library entry
+    → VerdictByClaims library entry outcome text → VerdictBy Best library entry outcome text
+refused_too library entry Done text refused answer =
+    record { edition = Second; among = tt; answer = answer; by_both = tt }
+refused_too library entry Coded text refused answer = absurd answer
+refused_too library entry Refused text refused answer =
+    record { edition = Second; among = tt; answer = answer; by_both = refused }
+
+pub refused_by_both : {E : Type 0} (library : LibraryFile) (entry : ℕ) (old new : Option (List ℕ))
+    (result : Result Outcome E) → IsRefusedByTable library entry
+    → Answers (VerdictByClaims library entry) old new result → Answers (VerdictBy Best library entry) old new result
+refused_by_both library entry old new result refused p =
+    answers_as (VerdictByClaims library entry) (VerdictBy Best library entry) old new result
+    (λ outcome text answer. refused_too library entry outcome text refused answer) p
 
 pub checks_by : {E : Type 0} (method : Method) (edition : Edition) (bytes : List ℕ) (library : LibraryFile) (entry : ℕ)
     (old new : Option (List ℕ)) (result : Result Outcome E) → IsAmong method edition

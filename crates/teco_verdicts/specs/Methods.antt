@@ -3,19 +3,36 @@ use Rattle.std.specs.Prelude.{ℕ, ◌≡◌, ◌⊎◌, ⊤, List, Option, Resu
 use Rattle.std.specs.Io.KnownBytes.{Keeps}
 use Rattle.teco_acceptance.specs.Accepted.{IsAmong}
 use Rattle.teco_library.specs.Library.{LibraryFile}
-use Rattle.teco_verdicts.specs.Answers.{Answer, AnswersFor, ChecksByTable, VerdictByTable}
+use Rattle.teco_verdicts.specs.Answers.{Answer, AnswersFor, ChecksByTable, IsRefusal, VerdictByTable}
 use Rattle.teco_verdicts.specs.Linear.{ChecksByClaims, VerdictByClaims}
 use Rattle.teco_console.specs.declared.method.Edition.{Edition}
 use Rattle.teco_console.specs.declared.method.Edition.TheVariants.{First, Second}
 use Rattle.teco_console.specs.declared.method.Method.{Method}
 use Rattle.teco_console.specs.declared.method.Method.TheVariants.{Only, Best}
 use Rattle.teco_console.specs.declared.outcome.Outcome.{Outcome}
+use Rattle.teco_console.specs.declared.outcome.Outcome.TheVariants.{Done, Coded, Refused}
 use Rattle.teco_console.specs.declared.request.Request.{Request}
+use Rattle.teco_verifier.specs.declared.refusal.RefusalReason.{RefusalReason}
+use Rattle.teco_verify.specs.declared.refusal.Refusal.TheVariants.{No}
 
 -- what `verify` answers of an entry by an edition
 abbrev pub VerdictIn : Edition → LibraryFile → ℕ → Answer
 VerdictIn First library entry = VerdictByTable library entry
 VerdictIn Second library entry = VerdictByClaims library entry
+
+-- by a table the verifier refuses a macro, and not for want of memory
+pub record IsRefusedByTable (library : LibraryFile) (entry : ℕ) : Type 0 where
+  pub why : RefusalReason
+  pub register : Option ℕ
+  pub place : ℕ
+  pub refused : IsRefusal library entry (No why register place)
+
+-- where either edition may accept, what is refused is refused by a table, too
+abbrev pub RefusesByBoth : Method → LibraryFile → ℕ → Outcome → Type 0
+RefusesByBoth (Only asked) library entry outcome = ⊤
+RefusesByBoth Best library entry Done = ⊤
+RefusesByBoth Best library entry Coded = ⊤
+RefusesByBoth Best library entry Refused = IsRefusedByTable library entry
 
 -- by a method: an answer of one of its editions
 pub record VerdictBy (method : Method) (library : LibraryFile) (entry : ℕ) (outcome : Outcome) (text : List ℕ)
@@ -23,6 +40,7 @@ pub record VerdictBy (method : Method) (library : LibraryFile) (entry : ℕ) (ou
   pub edition : Edition
   pub among : IsAmong method edition
   pub answer : VerdictIn edition library entry outcome text
+  pub by_both : RefusesByBoth method library entry outcome
 
 -- what `check` answers of bytes by an edition
 abbrev pub ChecksIn : Edition → List ℕ → LibraryFile → ℕ → Answer

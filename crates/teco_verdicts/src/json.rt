@@ -117,6 +117,7 @@ fn answer_accepted<O: Write + Drop, E: Write + Drop>(
     let name = char::from(promise.entry().name());
     let commands = PrintedPolynomial::of(console.alloc, &promise.commands())?;
     let size = PrintedPolynomial::of(console.alloc, &promise.size())?;
+    let grows = PrintedBound::of(console.alloc, promise.grows())?;
     let types = PrintedBound::of(console.alloc, promise.types())?;
     let needs = promise.needs();
     let input = needs.input;
@@ -127,7 +128,7 @@ fn answer_accepted<O: Write + Drop, E: Write + Drop>(
         "{{\"macro\": \"{name}\", \"accepted\": true, \"commands\": {commands}, \"size\": {size}, "
     ))?;
     console.answer(format_args!(
-        "\"types\": {types}, \"needs_input\": {input}, \"needs_output\": {output}, "
+        "\"grows\": {grows}, \"types\": {types}, \"needs_input\": {input}, \"needs_output\": {output}, "
     ))?;
     console.answer(format_args!("\"greatest_n\": {greatest}}}\n"))?;
     Ok(Outcome::Done)

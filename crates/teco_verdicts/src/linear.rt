@@ -21,8 +21,8 @@ use teco_paths::search::ClaimSearch;
 use teco_source::{Shown, Source};
 use teco_verify::Refusal;
 
-// Prints the certificate of a macro of a source, and says what it promises.
-fn accept<O: Write + Drop, E: Write + Drop>(
+/// Prints the certificate of a macro of a source, and says what it promises.
+pub fn accept_claims<O: Write + Drop, E: Write + Drop>(
     console: &mut Console<O, E>,
     source: &Source,
     claimed: &Claimed<'_>,
@@ -96,8 +96,8 @@ pub fn tell_refused<S: ClaimSearch, O: Write + Drop, E: Write + Drop>(
     )
 }
 
-/// Prints the certificate of a macro of a library by claims that were found, or why there are none.
-pub fn answer_claims<S: ClaimSearch, O: Write + Drop, E: Write + Drop>(
+// Prints the certificate of a macro of a library by claims that were found, or why there are none.
+fn answer_claims<S: ClaimSearch, O: Write + Drop, E: Write + Drop>(
     console: &mut Console<O, E>,
     source: &Source,
     library: &Library,
@@ -113,7 +113,7 @@ pub fn answer_claims<S: ClaimSearch, O: Write + Drop, E: Write + Drop>(
     match found {
         Ok(claimed) => {
             claimed.is_checked();
-            accept(console, source, &claimed)
+            accept_claims(console, source, &claimed)
         }
         Err(unverified) => tell_refused::<S, _, _>(console, source, library, entry, &unverified),
     }

@@ -7,7 +7,7 @@ ghost use Rattle.teco_console.specs.Output.{Writes};
 ghost use Rattle.teco_console.specs.declared.method.Method.TheVariants.{Best};
 ghost use Rattle.teco_console.specs.declared.outcome.Outcome.TheVariants.{Done, Refused};
 
-use crate::linear::{answer_claims, verify_claims};
+use crate::linear::{accept_claims, tell_refused as tell_unclaimed, verify_claims};
 use std::io::Write;
 use teco_acceptance::{
     Accepted, Held, Verdict, explained, library_of, read_library, refuse, refuse_known,
@@ -111,7 +111,6 @@ fn verify_by_edition<S: ClaimSearch, O: Write + Drop, E: Write + Drop>(
 
 // Prints the certificate of a macro of a library by claims, or by a table where there are none, or why
 // there are none.
-#[tactic(auto, using(crate::proofs::Answering::verdict_by))]
 fn verify_by_either<S: ClaimSearch, O: Write + Drop, E: Write + Drop>(
     console: &mut Console<O, E>,
     source: &Source,
@@ -121,11 +120,23 @@ fn verify_by_either<S: ClaimSearch, O: Write + Drop, E: Write + Drop>(
     ensures { Answers (VerdictBy Best library.now entry)
         (O.contents console.old.out) (O.contents console.new.out) result }
 {
-    let found = verify_linear::<S>(library, entry, console.alloc);
-    if found.is_err() && verify(console.alloc, library, entry).is_ok() {
-        return verify_by_edition::<S, _, _>(console, source, library, entry, Edition::First);
+    let unverified = match verify_linear::<S>(library, entry, console.alloc) {
+        Ok(claimed) => {
+            claimed.is_checked();
+            return accept_claims(console, source, &claimed);
+        }
+        Err(unverified) => unverified,
+    };
+    match verify(console.alloc, library, entry) {
+        Ok(verified) => {
+            verified.is_certified();
+            accept(console, source, &verified)
+        }
+        Err(Refusal::No { .. }) => {
+            tell_unclaimed::<S, _, _>(console, source, library, entry, &unverified)
+        }
+        Err(Refusal::Memory) => Err(AnswerFault::Memory),
     }
-    answer_claims::<S, _, _>(console, source, library, entry, found)
 }
 
 // Prints the certificate of a macro of a library by a method, or why it is refused.

@@ -16,5 +16,7 @@ certified_ends linked verified found certified given world asked ready opened =
           fields.commands fields.size (n_of world) world
           (linked found.library fields.entry certified.nodes certified.expanded) certified.printed asked ready
           (subst (λ needs. AreOpen needs world.files) certified.needs_are opened);
+      on_the_way = λ k t least came. tt;
+      at_the_end = tt;
       types = tt;
     }

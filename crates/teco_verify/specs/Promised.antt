@@ -3,7 +3,7 @@ use Rattle.std.specs.Prelude.{None}
 use Rattle.teco_promise.specs.Promise.{Promise}
 use Rattle.teco_verifier.specs.certificate.Fields.{Finding}
 
--- What the certificate says, but for its choices; of typed bytes it says nothing.
+-- What the certificate says, but for its choices; of the text's growth and of typed bytes it says nothing.
 abbrev pub promise_of : Finding → Promise
 promise_of found = record {
   library = found.library;
@@ -12,5 +12,6 @@ promise_of found = record {
   needs = found.fields.needs;
   commands = found.fields.commands;
   size = found.fields.size;
+  grows = None;
   types = None;
 }

@@ -59,6 +59,7 @@ impl<'l> Verified<'l> {
             needs: certificate.needs,
             commands: certificate.commands,
             size: certificate.size,
+            grows: None,
             types: None,
         })
     }

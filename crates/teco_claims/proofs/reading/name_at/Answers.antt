@@ -1,7 +1,7 @@
 use Rattle.teco_claims.proofs.Prelude.{◌≡◌, ◌<◌, ◌^◌, ℕ, true, false, Option, Some, None, List, [], ◌∷◌, ◌++◌, subst}
 use Rattle.teco_claims.proofs.Prelude.{sym, ◌∙◌, append_assoc, refl, decimal, codes, IfSome, ClaimMeasure, One, Number}
 use Rattle.teco_claims.proofs.Prelude.{Length, Turns, PushedNumber, PushedLength, Steps, Pointer, Size, Held, LineEnd}
-use Rattle.teco_claims.proofs.Prelude.{LineStart, LastLength, Typed, EndsTerm, name_text, EndsNumber}
+use Rattle.teco_claims.proofs.Prelude.{LineStart, LastLength, Typed, EntryHeld, EndsTerm, name_text, EndsNumber}
 use Rattle.teco_base.specs.Register.{register_name}
 use Rattle.teco_base.specs.declared.TheConstants.{REGISTERS}
 use Rattle.teco_claims.specs.declared.term.ClaimSingle.{ClaimSingle}
@@ -31,6 +31,7 @@ module _ (letter : ℕ) (words : List ℕ) where
   blank_read (Some (One LineStart)) rest end e = absurd (no_name 115 rest end refl e)
   blank_read (Some (One LastLength)) rest end e = absurd (no_name 109 rest end refl e)
   blank_read (Some (One Typed)) rest end e = absurd (no_name 111 rest end refl e)
+  blank_read (Some (One EntryHeld)) rest end e = absurd (no_name 105 rest end refl e)
   blank_read (Some (Number r)) rest end e = absurd (no_name 110 (register_name r ∷ rest) end refl e)
   blank_read (Some (Length r)) rest end e = absurd (no_name 116 (register_name r ∷ rest) end refl e)
   blank_read (Some (Turns n)) rest end e = absurd (no_name 114 (decimal n ++ rest) end refl e)
@@ -54,6 +55,7 @@ module _ (letter : ℕ) (words : List ℕ) (other : single_of letter ≡ None) w
   no_single LineStart rest = no_letter LineStart 115 rest refl
   no_single LastLength rest = no_letter LastLength 109 rest refl
   no_single Typed rest = no_letter Typed 111 rest refl
+  no_single EntryHeld rest = no_letter EntryHeld 105 rest refl
 
   -- the measures that have a number or a register are read by what stands behind the letter
   module _ (read : Option ClaimMeasure) (behind : List ℕ)

@@ -1,6 +1,7 @@
-use Rattle.teco_paths.proofs.Prelude.{ap, ◌∙◌, option_map, most_typed}
+use Rattle.teco_paths.proofs.Prelude.{ap, ◌∙◌, option_map, most_with}
 use Rattle.teco_paths.proofs.Answered.{on_ok}
 use Rattle.teco_paths.proofs.Certain.{certain_as}
+use Rattle.teco_paths.specs.Sure.{bounds_in}
 use Rattle.teco_poly.specs.Polynomial.{value}
 use Rattle.teco_paths.proofs.claimed.check_claimed.Goals as goal
 
@@ -12,10 +13,19 @@ returns c =
     let prepared = c.with_cuts-prepared in
     on_ok c.check_prepared.result
     (certain_as called.nodes.now called.lengths.now called.argument called.needs
-    prepared.result.commands.items prepared.result.size.items claimed.commands claimed.size
-    (option_map (λ t. t.items) prepared.result.types) claimed.types
-    (λ n. ap (λ p. value p n) prepared.ensures.commands ∙ first.ensures.commands n)
-    (λ n. ap (λ p. value p n) prepared.ensures.size ∙ first.ensures.size n)
-    (λ n before. ap (λ types. most_typed (option_map (λ t. t.items) types) n before) prepared.ensures.types
-    ∙ first.ensures.types n before))
+    (record {
+      commands = prepared.result.commands.items;
+      size = prepared.result.size.items;
+      grows = option_map (λ t. t.items) prepared.result.grows;
+      types = option_map (λ t. t.items) prepared.result.types;
+    }) (bounds_in claimed) (record {
+      commands = λ n. ap (λ p. value p n) prepared.ensures.commands ∙ first.ensures.commands n;
+      size = λ n. ap (λ p. value p n) prepared.ensures.size ∙ first.ensures.size n;
+      grows = λ n before.
+          ap (λ grows. most_with (option_map (λ t. t.items) grows) n before) prepared.ensures.grows
+          ∙ first.ensures.grows n before;
+      types = λ n before.
+          ap (λ types. most_with (option_map (λ t. t.items) types) n before) prepared.ensures.types
+          ∙ first.ensures.types n before;
+    }))
     c.check_prepared.ensures

@@ -9,5 +9,5 @@ of-requires c =
     let found = c.args.self.now in
     subst EachRunEnds
     (sym (same_promise found (ap (λ (l : LibraryFile). l.texts) c.library.ensures) c.entry.ensures c.argument.ensures
-    c.needs.ensures c.commands.ensures c.size.ensures c.types.ensures))
+    c.needs.ensures c.commands.ensures c.size.ensures c.grows.ensures c.types.ensures))
     (checked_ends c.expansions_are_linked.ensures c.certain_ends.ensures found c.is_checked.ensures)

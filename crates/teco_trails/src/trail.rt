@@ -1,0 +1,169 @@
+//! Where a path of the search has come to.
+use crate::keys::copied_shape;
+use crate::notes::PathNotes;
+use teco_bounds::bounds::Bounds;
+use teco_bounds::constraints::all_forms;
+use teco_bounds::forms::form_in;
+use teco_bounds::measures::{CODE_BEFORE, CODE_HERE, LINE_END, POINTER, SIZE};
+use teco_bounds::reduced::{Bounded, UsedLimits, add_symbols};
+use teco_bounds::workspace::{Stop, Workspace};
+use teco_linear::{Difference, Form};
+use teco_paths::implied::{is_so, is_so_nearby};
+use teco_rows::case::Case;
+
+// With more constraints than this they are made fewer.
+const MOST_CONSTRAINTS: usize = 150;
+
+// The symbol that the form in a place is, if it is one.
+fn symbol_in(forms: &[Option<Form>], place: u32) -> Option<u32> {
+    form_in(forms, place)?
+        .terms()
+        .iter()
+        .find_map(|term| term.symbol)
+}
+
+// Whether a form speaks of a symbol.
+fn speaks_of(form: &Form, symbol: Option<u32>) -> bool {
+    symbol.is_some() && form.terms().iter().any(|term| term.symbol == symbol)
+}
+
+// A node by its number, a case that describes the states there, what it says of differences, and the
+// last peak on the way there.
+#[derive(Drop)]
+pub struct Trail {
+    pub number: usize,
+    pub case: Case,
+    pub bounds: Bounds,
+    pub peak: Option<usize>,
+    // Where it is noted which nodes it has passed, if it is.
+    pub passed: Option<usize>,
+    // Whether the case has only the constraints that bound no difference.
+    pub is_lean: bool,
+}
+
+impl Trail {
+    // Whether a form is at least 0, as far as bounds show it or, where they do not tell all, programs.
+    pub fn shows(&self, form: &Form, notes: &mut PathNotes) -> bool {
+        if self.bounds.shows(form) {
+            return true;
+        }
+        if !self.bounds.is_rough() {
+            return false;
+        }
+        let alloc = notes.space.alloc;
+        let shown = if self.is_lean {
+            is_so_nearby(&self.whole(&mut notes.space), form, alloc)
+        } else {
+            is_so(&self.case, form, alloc)
+        };
+        notes.take(shown) == Some(true)
+    }
+
+    // The case with the constraints that bound differences, and no forms.
+    fn whole(&self, space: &mut Workspace) -> Case {
+        let mut constraints = all_forms(&self.bounds, space);
+        let mut own = space.copied_forms(&self.case.constraints);
+        space.append(&mut constraints, &mut own);
+        Case {
+            symbols: self.case.symbols,
+            forms: Vec::new(space.alloc),
+            constraints,
+            shape: copied_shape(&self.case.shape, space),
+        }
+    }
+
+    // The symbols of the characters at the pointer and before it, where they are symbols.
+    fn code_symbols(&self) -> (Option<u32>, Option<u32>) {
+        (
+            symbol_in(&self.case.forms, CODE_HERE),
+            symbol_in(&self.case.forms, CODE_BEFORE),
+        )
+    }
+
+    // Leaves out of the case the constraints that bound differences, but those of characters: by these
+    // outcomes see that something is known of them.
+    pub fn make_lean(&mut self) {
+        self.is_lean = true;
+        let (here, before) = self.code_symbols();
+        self.case.constraints.retain(|form| {
+            Difference::of(form).is_none() || speaks_of(form, here) || speaks_of(form, before)
+        });
+    }
+
+    // Takes it that a form is at least 0.
+    pub fn assume(&mut self, form: &Form, space: &mut Workspace) {
+        self.bounds.add(form, space);
+        let copy = space.copied(form);
+        space.push(&mut self.case.constraints, copy);
+    }
+
+    // That the measure in a place is above the pointer.
+    fn above_pointer(&self, place: u32, space: &mut Workspace) -> Form {
+        let forms = &self.case.forms;
+        let (Some(pointer), Some(measure)) = (form_in(forms, POINTER), form_in(forms, place)) else {
+            space.stop(Stop::TooMuch);
+            return Form::zero(space.alloc);
+        };
+        let one = space.constant(1);
+        let behind = space.sum(pointer, &one);
+        space.difference(measure, &behind)
+    }
+
+    // In front of the buffer's end the line's end is behind the pointer.
+    pub fn sharpen(&mut self, space: &mut Workspace) {
+        let ahead = self.above_pointer(SIZE, space);
+        if !self.bounds.shows(&ahead) {
+            return;
+        }
+        let more = self.above_pointer(LINE_END, space);
+        if !self.bounds.shows(&more) {
+            self.assume(&more, space);
+        }
+    }
+
+    // Of the symbols that others bound, those of the path's start and those that a measure is given by, or
+    // what bounds no difference.
+    fn kept_symbols(&self, others: &Bounded, first: u32, space: &mut Workspace) -> Vec<u32> {
+        let mut live = Vec::new(space.alloc);
+        for form in self.case.forms.iter().flatten().chain(others.rough.iter()) {
+            add_symbols(&mut live, form, space);
+        }
+        let mut kept = Vec::new(space.alloc);
+        for symbol in others.bounds.symbols() {
+            if *symbol < first || live.contains(symbol) {
+                space.push(&mut kept, *symbol);
+            }
+        }
+        kept
+    }
+
+    // Makes the constraints fewer where there are many: symbols that neither a measure nor the path's
+    // start is given by are taken out of those that bound differences.
+    pub fn compact(&mut self, first: u32, space: &mut Workspace) {
+        if self.is_lean || self.case.constraints.len() <= MOST_CONSTRAINTS {
+            return;
+        }
+        let mut all = Bounded::of(&self.case.constraints, UsedLimits::All, space);
+        let kept = self.kept_symbols(&all, first, space);
+        let bounds = all.bounds.of_symbols(&kept, space);
+        self.case.constraints = all_forms(&bounds, space);
+        space.append(&mut self.case.constraints, &mut all.rough);
+    }
+
+    // Keeps of the bounds those of symbols that measures are given by.
+    pub fn forget(&mut self, space: &mut Workspace) {
+        let mut live = Vec::new(space.alloc);
+        for form in self.case.forms.iter().flatten() {
+            add_symbols(&mut live, form, space);
+        }
+        if self.is_lean {
+            for form in &self.case.constraints {
+                add_symbols(&mut live, form, space);
+            }
+        }
+        live.retain(|symbol| self.bounds.place(Some(*symbol)).is_some());
+        if live.len() < self.bounds.symbols().len() {
+            self.bounds = self.bounds.of_symbols(&live, space);
+        }
+    }
+}
