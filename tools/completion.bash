@@ -21,13 +21,14 @@ _teco_options() {
       ;;
     apply)
       echo "-e -f --library -r --register --memory --arg --set --set-file --exact --any-case --rules --esc --pages
-        --strict --stats --cert --quiet -h --help"
+        --strict --stats --cert -q --quiet -h --help"
       ;;
     edit)
       echo "-e -f --library -r --register --memory --arg --set --set-file --exact --any-case --rules --esc --pages
-        --strict --beyond-promise --stats --cert --tested --dry-run --check -0 --null --diff --color --files-from
-        --recursive --include --exclude --binary --backup --force-backup --durable --with-names --no-names --quiet -h
-        --help"
+        --strict --beyond-promise --stats --cert --tested --dry-run --check -0 --null --keep --add --take --most
+        --diff --color --files-from
+        --recursive --include --exclude --binary --backup --force-backup --durable --with-names --no-names -q
+        --quiet -h --help"
       ;;
     trace)
       echo "-e -f --library -r --register --limit --memory --arg --set --set-file --exact --any-case --rules --esc

@@ -106,7 +106,7 @@ complete -c teco -n '__teco_of apply trace' -l pages -x -a 'first each whole' \
 complete -c teco -n '__teco_of apply' -l strict -d 'Leave OUT as it was where the promise does not hold'
 complete -c teco -n '__teco_of apply edit' -l stats -d 'Say how many commands the runs took'
 complete -c teco -n '__teco_of apply edit' -l cert -r -F -d 'Check this certificate in place of a search for one'
-complete -c teco -n '__teco_of apply edit' -l quiet -d 'Say nothing but what fails'
+complete -c teco -n '__teco_of apply edit' -s q -l quiet -d 'Say nothing but what fails'
 complete -c teco -n '__teco_of edit' -l pages -x -a 'first each whole' \
   -d 'The pages that are edited, which form feeds end: whole'
 complete -c teco -n '__teco_of edit' -l strict -d 'Leave a file as it was where the promise does not hold for it'
@@ -115,6 +115,10 @@ complete -c teco -n '__teco_of edit' -l tested -d 'Try the examples of the libra
 complete -c teco -n '__teco_of edit' -l dry-run -d 'Print the names of the files that would change, one a line'
 complete -c teco -n '__teco_of edit' -l check -d 'As --dry-run, and end with status 1 if a file would change'
 complete -c teco -n '__teco_of edit' -s 0 -l null -d 'End each name that --dry-run or --check prints'
+complete -c teco -n '__teco_of edit' -l keep -x -a 'text size lines others=' -d 'What the edit of a file must keep'
+complete -c teco -n '__teco_of edit' -l add -x -a 'nothing only=' -d 'What it may add'
+complete -c teco -n '__teco_of edit' -l take -x -a 'only=' -d 'What it may take'
+complete -c teco -n '__teco_of edit' -l most -x -d 'How many lines it may change'
 complete -c teco -n '__teco_of edit' -l diff -d 'Print what changes, as diff -u does'
 complete -c teco -n '__teco_of edit test' -l color -x -a 'always never auto' \
   -d 'Colours of --diff: always, never, or auto'

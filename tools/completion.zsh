@@ -73,7 +73,7 @@ _teco_options() {
         '--strict[Leave OUT as it was where the promise does not hold]'
         '--stats[Say how many commands the runs took]'
         '--cert=[Check this certificate in place of a search for one]:CERT:_files'
-        '--quiet[Say nothing but what fails]'
+        '(-q --quiet)'{-q,--quiet}'[Say nothing but what fails]'
         '(-h --help)'{-h,--help}'[Print help]'
       )
       ;;
@@ -99,6 +99,10 @@ _teco_options() {
         '--dry-run[Print the names of the files that would change, one a line]'
         '--check[As --dry-run, and end with status 1 if a file would change]'
         '(-0 --null)'{-0,--null}'[End each name that --dry-run or --check prints]'
+        '*--keep=[What the edit of a file must keep]:WHAT:(text size lines others=)'
+        '*--add=[What it may add]:WHAT:(nothing only=)'
+        '*--take=[What it may take]:WHAT:(only=)'
+        '*--most=[How many lines it may change]:LINES:'
         '--diff[Print what changes, as diff -u does]'
         '--color=[Colours of --diff\: always, never, or auto]:WHEN:(always never auto)'
         '--files-from=[Edit the files that this file names too, one a line]:LIST:_files'
@@ -111,7 +115,7 @@ _teco_options() {
         '--durable[Send each file to the disk before it takes its name]'
         '--with-names[Begin each line that is typed over a file with the file'\''s name]'
         '--no-names[Type lines without the names of files]'
-        '--quiet[Say nothing but what fails]'
+        '(-q --quiet)'{-q,--quiet}'[Say nothing but what fails]'
         '(-h --help)'{-h,--help}'[Print help]'
       )
       ;;

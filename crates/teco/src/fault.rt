@@ -23,6 +23,19 @@ pub enum ProgramFault {
     Memory,
 }
 
+impl ProgramFault {
+    /// Did who reads the answer close it, as `head` does?
+    pub fn is_closed_pipe(&self) -> bool {
+        match self {
+            ProgramFault::System(error)
+            | ProgramFault::Tool(ToolFault::Answer(AnswerFault::Write(error))) => {
+                error.kind() == io::ErrorKind::BrokenPipe
+            }
+            _ => false,
+        }
+    }
+}
+
 impl From<WordsFault> for ProgramFault {
     fn from(fault: WordsFault) -> ProgramFault {
         ProgramFault::Words(fault)

@@ -20,7 +20,9 @@ use teco_hosts::Host;
 use teco_infer::Inference;
 use teco_jobs::{Listing, Names, Task};
 use teco_pages::FileHost;
-use teco_tools::{OUTPUT, Prompting, Reporting, Run, Start, Streams, ToolFault, run_scripts};
+use teco_tools::{
+    Escaping, OUTPUT, Prompting, Reporting, Run, Start, Streams, ToolFault, run_scripts,
+};
 use teco_verdicts::{
     check_macro, explain_macro, verify_library, verify_library_as_json, verify_macro,
     verify_macro_as_json,
@@ -30,6 +32,9 @@ use teco_words::{CommandLine, WordsFault};
 /// The command line names no command, or a file of macros, a certificate, standard input, standard
 /// output or memory failed.
 const FAILED: u8 = 2;
+
+/// Who reads standard output has closed it: what shells say of a program that ends by that signal.
+const CLOSED_PIPE: u8 = 141;
 
 // The texts that registers are given before a run, those of files last.
 fn settings(rt: &HostRuntime, given: &ArgMatches<'_>) -> Result<Vec<Setting>, ProgramFault> {
@@ -73,6 +78,7 @@ fn run<O: Write + Drop, E: Write + Drop>(
 ) -> Result<Outcome, ProgramFault> {
     let escape = teco_words::escape_of(given)?;
     let scripts = teco_words::scripts(rt.alloc(), given)?;
+    teco_words::check_escape(escape, &scripts)?;
     let settings = settings(rt, given)?;
     let run = Run {
         scripts: &scripts,
@@ -296,15 +302,24 @@ fn chosen_files<'a, O: Write + Drop, E: Write + Drop>(
     Ok(choose(rt, &mut console.voice, &choice)?)
 }
 
+// Is nothing printed but the names of files and what macros type, at a terminal? With NULs behind
+// names, or differences, it is for programs or safe as it is.
+fn prints_names(rt: &HostRuntime, given: &ArgMatches<'_>) -> bool {
+    rt.stdout().is_terminal() && !given.get_flag("null") && !given.get_flag("diff")
+}
+
 // `edit`.
 fn edit<'a, O: Write + Drop, E: Write + Drop>(
     rt: &HostRuntime,
-    console: &mut Console<O, E>,
+    console: &mut Console<Escaping<O>, E>,
     given: &ArgMatches<'a>,
     arguments: &'a CommandLine,
 ) -> Result<Outcome, ProgramFault> {
     if given.get_flag("quiet") {
         console.voice.hush();
+    }
+    if prints_names(rt, given) {
+        console.out.turn_on();
     }
     if given.get_flag("tested") && !is_tested(rt, console, given)? {
         return Ok(Outcome::Refused);
@@ -318,8 +333,10 @@ fn edit<'a, O: Write + Drop, E: Write + Drop>(
     };
     let files = chosen_files(rt, console, given, arguments)?;
     let look = teco_words::look(given, shows_colours(rt))?;
+    let policies = teco_words::policies_of(rt.alloc(), given)?;
     let edit = InPlaceEdits {
         files: &files,
+        policies: &policies,
         takes_binary: given.get_flag("binary"),
         diff: given.get_flag("diff").then_some(look),
         shows_progress: rt.stderr().is_terminal() && !given.get_flag("quiet"),
@@ -396,10 +413,39 @@ fn explain_what<O: Write + Drop, E: Write + Drop>(
     }
 }
 
+// Says what leads on, where a macro in words is in the form of another program.
+fn tell_hint<O: Write + Drop, E: Write + Drop>(
+    rt: &HostRuntime,
+    console: &mut Console<O, E>,
+    given: &ArgMatches<'_>,
+) {
+    let texts = given.get_strs("text").unwrap_or(&[]);
+    if let Some(hint) = teco_words::hint_for(rt.alloc(), texts) {
+        console.voice.say(format_args!("  {hint}"));
+    }
+}
+
+// Does what the words say, and leads on where that came to nothing.
+fn obey_and_hint<'a, O: Write + Drop, E: Write + Drop>(
+    rt: &HostRuntime,
+    console: &mut Console<Escaping<O>, E>,
+    matches: &ArgMatches<'a>,
+    arguments: &'a CommandLine,
+) -> Result<Outcome, ProgramFault> {
+    let outcome = obey(rt, console, matches, arguments)?;
+    match matches.subcommand() {
+        Some((name, given)) if name != "show" && outcome.status() > 0 => {
+            tell_hint(rt, console, given);
+        }
+        _ => {}
+    }
+    Ok(outcome)
+}
+
 // Does what the words say.
 fn obey<'a, O: Write + Drop, E: Write + Drop>(
     rt: &HostRuntime,
-    console: &mut Console<O, E>,
+    console: &mut Console<Escaping<O>, E>,
     matches: &ArgMatches<'a>,
     arguments: &'a CommandLine,
 ) -> Result<Outcome, ProgramFault> {
@@ -446,14 +492,16 @@ fn read_and_obey(rt: &HostRuntime) -> Result<ExitCode, ProgramFault> {
         Err(error) => return print_refusal(rt, &arguments, &error),
     };
     let errors = rt.stderr();
-    let mut console = Console::new(rt.alloc(), io::writer(rt), io::writer(&errors));
-    let outcome = obey(rt, &mut console, &matches, &arguments)?;
+    let out = Escaping::new(rt.alloc(), io::writer(rt));
+    let mut console = Console::new(rt.alloc(), out, io::writer(&errors));
+    let outcome = obey_and_hint(rt, &mut console, &matches, &arguments)?;
     Ok(ExitCode::from(outcome.status()))
 }
 
 fn main(rt: HostRuntime) -> ExitCode {
     match read_and_obey(&rt) {
         Ok(status) => status,
+        Err(error) if error.is_closed_pipe() => ExitCode::from(CLOSED_PIPE),
         Err(error) => {
             let _ = eprintln!(rt; "teco: {error}");
             ExitCode::from(FAILED)

@@ -4,6 +4,7 @@ use Rattle.teco_certificate.specs.Text.{certificate_text}
 use Rattle.teco_claimed.specs.Claimed as claimed
 use Rattle.teco_claimed.specs.Text.{linear_text}
 use Rattle.teco_console.specs.declared.method.Edition.{Edition}
+use Rattle.teco_console.specs.declared.method.Edition.TheVariants.{First, Second}
 use Rattle.teco_console.specs.declared.method.Method.{Method}
 use Rattle.teco_console.specs.declared.method.Method.TheVariants.{Only, Best}
 use Rattle.teco_library.specs.Library.{LibraryFile, argument_of}
@@ -22,6 +23,11 @@ promise_of (Claims found) = claimed.promise_of found
 abbrev pub certificate_of : Accepted → List ℕ
 certificate_of (Table found) = certificate_text found.fields
 certificate_of (Claims found) = linear_text found.certificate
+
+-- the edition of the rules that accepts it
+abbrev pub edition_of : Accepted → Edition
+edition_of (Table found) = First
+edition_of (Claims found) = Second
 
 -- its table is closed, or its claims hang together
 abbrev pub IsProved : Accepted → Type 0

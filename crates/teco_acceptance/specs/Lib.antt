@@ -2,3 +2,4 @@
 pub mod Lines
 pub mod Refused
 pub mod Accepted
+pub mod Editions

@@ -1,6 +1,10 @@
 //! Macros that are accepted, however that was found.
 ghost use Rattle.std.specs.Prelude.{◌≡◌, IfOk};
-ghost use Rattle.teco_acceptance.specs.Accepted.{IsOf, IsProved, certificate_of, promise_of};
+ghost use Rattle.std.specs.Result.{IfErr};
+ghost use Rattle.teco_acceptance.specs.Accepted.{IsAmong, IsOf, IsProved, certificate_of, edition_of, promise_of};
+ghost use Rattle.teco_acceptance.specs.Refused.{IsRefusal, IsRefusedBy};
+ghost use Rattle.teco_console.specs.declared.method.Edition.TheVariants.{First, Second};
+ghost use Rattle.teco_console.specs.declared.method.Method.TheVariants.{Best};
 
 use crate::claims::verified_by_claims;
 use std::alloc::{AllocError, Global};
@@ -53,7 +57,9 @@ impl<'l> Accepted<'l> {
     }
 
     /// The edition of the rules that accepts it.
-    pub fn edition(&self) -> Edition {
+    pub fn edition(&self) -> Edition
+        ensures { result ≡ edition_of self.now }
+    {
         match self {
             Accepted::Table(_) => Edition::First,
             Accepted::Claims(_) => Edition::Second,
@@ -83,10 +89,14 @@ impl<'l> Accepted<'l> {
 
 // A macro of a library, by a table.
 fn by_table<'l>(alloc: Global, library: &'l Library, entry: Reg) -> Result<Accepted<'l>, Refusal>
-    ensures { IfOk result (IsOf library.now entry) }
+    ensures is { IfOk result (IsOf library.now entry) }
+    ensures edition { IfOk result (λ accepted. edition_of accepted ≡ First) }
+    ensures refused { IfErr result (IsRefusal library.now entry) }
 {
-    let verified = verify(alloc, library, entry)?;
-    Ok(Accepted::Table(verified))
+    match verify(alloc, library, entry) {
+        Ok(verified) => Ok(Accepted::Table(verified)),
+        Err(refusal) => Err(refusal),
+    }
 }
 
 // Verified by claims.
@@ -95,26 +105,29 @@ fn by_claims<'l, S: ClaimSearch>(
     library: &'l Library,
     entry: Reg,
 ) -> Result<Accepted<'l>, Refusal>
-    ensures { IfOk result (IsOf library.now entry) }
+    ensures is { IfOk result (IsOf library.now entry) }
+    ensures edition { IfOk result (λ accepted. edition_of accepted ≡ Second) }
 {
     let claimed = verified_by_claims::<S>(alloc, library, entry)?;
     Ok(Accepted::Claims(claimed))
 }
 
 // Verified by claims, or by a table where there are none. Where both editions refuse it, the second
-// says why.
+// says why. Want of memory is no refusal.
 fn by_either<'l, S: ClaimSearch>(
     alloc: Global,
     library: &'l Library,
     entry: Reg,
 ) -> Result<Accepted<'l>, Refusal>
-    ensures { IfOk result (IsOf library.now entry) }
+    ensures is { IfOk result (IsOf library.now entry) }
+    ensures refused { IfErr result (IsRefusedBy Best library.now entry) }
 {
     match by_claims::<S>(alloc, library, entry) {
         Ok(accepted) => Ok(accepted),
         Err(refusal) => match by_table(alloc, library, entry) {
             Ok(accepted) => Ok(accepted),
-            Err(_) => Err(refusal),
+            Err(Refusal::No { .. }) => Err(refusal),
+            Err(Refusal::Memory) => Err(Refusal::Memory),
         },
     }
 }
@@ -126,7 +139,9 @@ pub fn verified_by<'l, S: ClaimSearch>(
     entry: Reg,
     method: Method,
 ) -> Result<Accepted<'l>, Refusal>
-    ensures { IfOk result (IsOf library.now entry) }
+    ensures is { IfOk result (IsOf library.now entry) }
+    ensures among { IfOk result (λ accepted. IsAmong method (edition_of accepted)) }
+    ensures refused { IfErr result (IsRefusedBy method library.now entry) }
 {
     match method {
         Method::Only(Edition::First) => by_table(alloc, library, entry),

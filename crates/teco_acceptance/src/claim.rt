@@ -1,11 +1,12 @@
 //! Certificates in files.
-ghost use Rattle.std.specs.Prelude.{◌≡◌, ◌≤◌, IfOk, IfSome, vec_len};
+ghost use Rattle.std.specs.Prelude.{◌≡◌, ◌≤◌, IfOk, IfSome, length, vec_len};
+ghost use Rattle.std.specs.List.{after_first, before_first, position_or_len};
 ghost use Rattle.std.specs.Result.{IfErr};
 ghost use Rattle.teco_base.specs.declared.TheConstants.{LIMIT};
 ghost use Rattle.teco_certificate.specs.Text.{certificate_text};
 ghost use Rattle.teco_acceptance.specs.Refused.{IsDeniedBy};
 ghost use Rattle.teco_acceptance.specs.Accepted.{IsOf, certificate_of};
-ghost use Rattle.teco_acceptance.specs.Accepted.{IsAmong};
+ghost use Rattle.teco_acceptance.specs.Editions as named;
 ghost use Rattle.teco_verify.specs.Certified.{TakesDeclared};
 ghost use Rattle.teco_verify.specs.Refusing.{IsOfCertificate};
 
@@ -19,23 +20,45 @@ use teco_library::Library;
 use teco_paths::search::ClaimSearch;
 use teco_verify::{Refusal, Verified, check_certificate};
 
+// How long the first line of a text is.
+fn line_length(text: &[u8]) -> usize
+    ensures value { result ≡ position_or_len named.is_end text.now }
+    ensures within { result ≤ length text.now }
+{
+    text.iter().take_while(|byte| **byte != LF).count()
+}
+
 /// The first line of a text, and what comes behind its end.
-pub fn split_line(text: &[u8]) -> (&[u8], &[u8]) {
-    match text.iter().position(|byte| *byte == LF) {
-        Some(at) if at < text.len() => (&text[..at], &text[at + 1..]),
-        _ => (text, &[]),
+pub fn split_line(text: &[u8]) -> (&[u8], &[u8])
+    ensures line { result.0.now ≡ before_first named.is_end text.now }
+    ensures behind { result.1.now ≡ after_first named.is_end text.now }
+{
+    let length = line_length(text);
+    if length < text.len() {
+        (&text[..length], &text[length + 1..])
+    } else {
+        (text, &[])
     }
 }
 
 // How many lines of a certificate stand before those of its needs, at most.
 const HEAD_LINES: usize = 4;
 
+// Is this the line by which a certificate says that it is of the second edition?
+fn names_second(line: &[u8]) -> bool
+    ensures { result ≡ named.names_second line.now }
+{
+    line == b"rules 3".as_slice()
+}
+
 /// The edition of the rules that a certificate says it is of.
-pub fn edition_of(text: &[u8]) -> Edition {
+pub fn edition_of(text: &[u8]) -> Edition
+    ensures { result ≡ named.edition_of text.now }
+{
     let mut rest = text;
     for _ in 0..HEAD_LINES {
         let (line, behind) = split_line(rest);
-        if line == b"rules 3".as_slice() {
+        if names_second(line) {
             return Edition::Second;
         }
         rest = behind;
@@ -69,7 +92,7 @@ impl<'a> ClaimedCertificate<'a> {
 
     /// The edition by which it is checked: where each is tried, the one that it says it is of.
     pub fn edition_by(&self, method: Method) -> Edition
-        ensures { IsAmong method result }
+        ensures { result ≡ named.edition_by method self.now.bytes.items }
     {
         match method {
             Method::Only(edition) => edition,

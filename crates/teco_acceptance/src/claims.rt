@@ -1,5 +1,7 @@
 //! Macros that are accepted by claims, and why others are refused by them.
 ghost use Rattle.std.specs.Prelude.{◌≡◌, IfOk};
+ghost use Rattle.std.specs.Result.{IfErr};
+ghost use Rattle.teco_acceptance.specs.Refused.{IsUnclaimedFor, told_of};
 ghost use Rattle.teco_claimed.specs.Claimed.{TakesDeclared};
 ghost use Rattle.teco_claimed.specs.Text.{linear_text};
 ghost use Rattle.teco_verify.specs.Refusing.{IsOfCertificate};
@@ -122,7 +124,8 @@ pub fn refusal_of(
 
 /// The refusal of a certificate by claims.
 pub fn refusal_of_text(refused: &LinearRefusal) -> Refusal
-    ensures { IsOfCertificate result }
+    ensures value { result ≡ told_of refused.now }
+    ensures certificate { IsOfCertificate result }
 {
     match refused {
         LinearRefusal::Memory => Refusal::Memory,
@@ -157,6 +160,7 @@ pub fn accepted_by_claims<'l>(
     ensures declared { IfOk result (λ claimed. TakesDeclared library.now claimed.certificate) }
     ensures entry { IfOk result (λ claimed. claimed.certificate.entry ≡ entry) }
     ensures text { IfOk result (λ claimed. linear_text claimed.certificate ≡ text.now) }
+    ensures refused { IfErr result (IsUnclaimedFor text.now library.now entry) }
 {
     let claimed = check_linear(library, text, alloc)?;
     if claimed.entry().index() == entry.index() {

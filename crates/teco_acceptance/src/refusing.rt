@@ -4,6 +4,7 @@ ghost use Rattle.teco_acceptance.specs.Refused.{Refuses};
 ghost use Rattle.teco_console.specs.declared.outcome.Outcome.TheVariants.{Refused};
 
 use crate::claim::{ClaimedCertificate, edition_of, split_line};
+use crate::damage::{Damage, MENDING};
 use crate::known::words_of;
 use crate::library::explained;
 use crate::reasoning::{RefusedMacro, reason_of};
@@ -254,6 +255,22 @@ fn tell_why<O: Write + Drop, E: Write + Drop>(
     }
 }
 
+// Is a file no certificate of the macro at all? What is wrong with it is said then.
+fn tells_damage<O: Write + Drop, E: Write + Drop>(
+    console: &mut Console<O, E>,
+    entry: Reg,
+    claim: &ClaimedCertificate<'_>,
+) -> bool
+    ensures { console.new.out ≡ console.old.out }
+{
+    let Some(damage) = Damage::of(&claim.bytes, entry) else {
+        return false;
+    };
+    let name = Shown(claim.name.as_bytes());
+    console.say(format_args!("{name}:{damage}\n{MENDING}"));
+    true
+}
+
 /// Prints why a certificate is refused, and says in which line it is another.
 #[tactic(auto, using(teco_console::proofs::Fronts::nothing, teco_console::proofs::Fronts::whole_front))]
 pub fn refuse_claim<O: Write + Drop, E: Write + Drop>(
@@ -271,6 +288,9 @@ pub fn refuse_claim<O: Write + Drop, E: Write + Drop>(
         return Err(AnswerFault::Memory);
     };
     console.answer(format_args!("{verdict}\n"))?;
+    if tells_damage(console, entry, claim) {
+        return Ok(Outcome::Refused);
+    }
     match (
         other_edition(&claim.bytes, sourced.method),
         claim.edition_by(sourced.method),

@@ -3,7 +3,10 @@ ghost use Rattle.std.specs.Prelude.{◌≡◌};
 ghost use Rattle.teco_applied.specs.InPlace.{EditsIfAny, EditsSubject, EditsTask};
 ghost use Rattle.teco_console.specs.declared.outcome.Outcome.TheVariants.{Refused};
 
-use crate::subject::{Subject, read_subject, refuse_empty, refuse_subject, say_findings};
+use crate::subject::{
+    Subject, heard, read_subject, refuse_empty, say_all, say_findings, say_refused,
+    say_unless_quiet,
+};
 use std::alloc::Global;
 use std::io::{Input, Write};
 use teco_acceptance::{Accepted, tell_promise};
@@ -79,6 +82,7 @@ where
 }
 
 // Edits files by the macro that a task is about, if it is accepted.
+#[tactic(auto, using(crate::proofs::InPlace::no_line))]
 fn edit_by_subject<S: ClaimSearch, R, O, E>(
     rt: &R,
     console: &mut Console<O, E>,
@@ -101,7 +105,7 @@ where
             };
             edit_by_accepted(rt, console, task, given, found)
         }
-        Err(refusal) => refuse_subject::<S, _, _>(console, subject, task.entry, refusal),
+        Err(refusal) => say_refused::<S, _, _>(console, subject, task.entry, refusal),
     }
 }
 
@@ -131,7 +135,8 @@ fn check_keeping<R: System>(
 /// Accepts a macro of a library once, and edits each file by it in place, with a new machine for
 /// each. Nothing is touched where the macro is refused, or where a file would be kept under the
 /// name of another that is edited; a file that fails is left as it was, named, and the others go
-/// on. A file that would stay as it is isn't replaced.
+/// on. A file that would stay as it is isn't replaced. A refusal is said, and not printed.
+#[tactic(auto, using(crate::proofs::InPlace::nothing, crate::proofs::InPlace::no_line, crate::proofs::InPlace::failed))]
 pub fn edit_files<S: ClaimSearch, R, O, E>(
     rt: &R,
     console: &mut Console<O, E>,
@@ -146,8 +151,15 @@ where
         (O.contents console.old.out) (O.contents console.new.out) result }
 {
     check_keeping(rt, console.alloc, given)?;
-    match read_subject::<S, _, _, _>(rt, console, task)? {
-        Some(subject) => edit_by_subject::<S, _, _, _>(rt, console, task, given, &subject),
-        None => Ok(Outcome::Refused),
+    let mut apart = heard(console.alloc);
+    match read_subject::<S, _, _, _>(rt, &mut apart, task)? {
+        Some(subject) => {
+            say_unless_quiet(&mut console.voice, apart);
+            edit_by_subject::<S, _, _, _>(rt, console, task, given, &subject)
+        }
+        None => {
+            say_all(&mut console.voice, apart);
+            Ok(Outcome::Refused)
+        }
     }
 }

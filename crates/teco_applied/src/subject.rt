@@ -7,15 +7,18 @@ ghost use Rattle.teco_console.specs.declared.outcome.Outcome.TheVariants.{Refuse
 use std::alloc::Global;
 use std::io::{Input, Write};
 use std::rt::Files;
+use std::{fmt, str};
 use teco_acceptance::{
-    Accepted, ClaimedCertificate, Setup, accepted, read_claim, read_library_for, refuse_claim,
-    refuse_macro, tell_no_text, warn_no_text,
+    Accepted, ClaimedCertificate, MENDING, Setup, accepted, accepted_by_claims, is_whole,
+    other_edition, read_claim, read_library_for, refuse_claim, refuse_macro, tell_no_text,
+    warn_no_text,
 };
 use teco_base::Reg;
-use teco_console::{AnswerFault, Console, Outcome, Sourced, Voice, lint};
+use teco_console::{AnswerFault, Console, Edition, Outcome, Sourced, Voice, lint};
 use teco_jobs::Task;
 use teco_options::LetterCase;
 use teco_paths::search::ClaimSearch;
+use teco_source::Shown;
 use teco_tools::ToolFault;
 use teco_verify::Refusal;
 
@@ -64,6 +67,37 @@ fn say_apart<E: Write + Drop>(voice: &mut Voice<E>, apart: Console<Vec<u8>, Vec<
     voice.repeat(&messages);
 }
 
+/// A console that keeps what is printed and said there, and is never quiet: a refusal is told with its
+/// reasons in any case.
+pub fn heard(alloc: Global) -> Console<Vec<u8>, Vec<u8>> {
+    Console::new(alloc, Vec::new(alloc), Vec::new(alloc))
+}
+
+/// Says what was printed and said on a console apart, and prints nothing.
+pub fn say_all<E: Write + Drop>(voice: &mut Voice<E>, apart: Console<Vec<u8>, Vec<u8>>) {
+    let (out, messages) = apart.into_parts();
+    voice.repeat(&out);
+    voice.repeat(&messages);
+}
+
+/// Says what was said on a console apart, unless the voice is to be quiet.
+pub fn say_unless_quiet<E: Write + Drop>(voice: &mut Voice<E>, apart: Console<Vec<u8>, Vec<u8>>) {
+    let (_, messages) = apart.into_parts();
+    if let Some(messages) = messages.strip_suffix(b"\n") {
+        voice.say(Said(messages));
+    }
+}
+
+// Messages that were made to be said.
+#[derive(Clone, Copy)]
+struct Said<'a>(&'a [u8]);
+
+impl fmt::Display for Said<'_> {
+    fn fmt<W: fmt::Write>(&self, f: &mut fmt::Formatter<W>) -> fmt::Result {
+        f.write_str(str::from_utf8(self.0).unwrap_or(""))
+    }
+}
+
 // Prints what was printed on a console apart, and says what was said there.
 fn repeat<O: Write + Drop, E: Write + Drop>(
     console: &mut Console<O, E>,
@@ -87,10 +121,10 @@ pub fn read_subject<'a, S: ClaimSearch, R: Files + Input, O: Write + Drop, E: Wr
     ensures { ReadsSubject (O.contents console.old.out) (O.contents console.new.out) result }
 {
     let claim = read_claim(rt, console.alloc, task.certificate)?;
-    let mut apart = console.apart();
+    let mut apart = heard(console.alloc);
     match read_library_for::<S, _, _, _>(rt, &mut apart, task.library, setup_of(task)) {
         Ok(Some(sourced)) => {
-            say_apart(&mut console.voice, apart);
+            say_unless_quiet(&mut console.voice, apart);
             Ok(Some(Subject { sourced, claim }))
         }
         Ok(None) => {
@@ -110,7 +144,7 @@ pub fn refuse_empty<O: Write + Drop, E: Write + Drop>(
     ensures printed { console.new.out ≡ console.old.out }
     ensures outcome { IfOk result (λ outcome. outcome ≡ Refused) }
 {
-    let mut apart = console.apart();
+    let mut apart = heard(console.alloc);
     let outcome = tell_no_text(&mut apart, sourced, accepted)?;
     say_apart(&mut console.voice, apart);
     Ok(outcome)
@@ -161,7 +195,7 @@ fn refuse_by_claim<S: ClaimSearch, O: Write + Drop, E: Write + Drop>(
     }
 }
 
-/// Says why a macro is refused, by its certificate if there is one.
+/// Says why a macro is refused, by its certificate if there is one, also where the voice was to be quiet.
 pub fn refuse_subject<S: ClaimSearch, O: Write + Drop, E: Write + Drop>(
     console: &mut Console<O, E>,
     subject: &Subject<'_>,
@@ -170,8 +204,48 @@ pub fn refuse_subject<S: ClaimSearch, O: Write + Drop, E: Write + Drop>(
 ) -> Result<Outcome, ToolFault>
     ensures { Refuses (O.contents console.old.out) (O.contents console.new.out) result }
 {
+    console.voice.speak();
     match refuse_by_claim::<S, _, _>(console, subject, entry, refusal) {
-        Ok(outcome) => Ok(outcome),
+        Ok(outcome) => {
+            tell_claim(&mut console.voice, subject, entry);
+            Ok(outcome)
+        }
         Err(fault) => Err(ToolFault::Answer(fault)),
     }
+}
+
+// Says which claim of a certificate does not hold, if it is one by claims.
+fn tell_claim<E: Write + Drop>(voice: &mut Voice<E>, subject: &Subject<'_>, entry: Reg) {
+    let Some(claim) = &subject.claim else {
+        return;
+    };
+    let Sourced {
+        library,
+        method,
+        ..
+    } = &subject.sourced;
+    let is_by_claims = claim.edition_by(*method) == Edition::Second;
+    if !is_by_claims || !is_whole(claim, entry) || other_edition(&claim.bytes, *method).is_some() {
+        return;
+    }
+    if let Err(refused) = accepted_by_claims(voice.alloc(), library, entry, &claim.bytes) {
+        let name = Shown(claim.name.as_bytes());
+        voice.say(format_args!("{name}: refused X18: {refused}\n{MENDING}"));
+    }
+}
+
+/// Says why a macro is refused, with the line of the refusal, and prints nothing.
+pub fn say_refused<S: ClaimSearch, O: Write + Drop, E: Write + Drop>(
+    console: &mut Console<O, E>,
+    subject: &Subject<'_>,
+    entry: Reg,
+    refusal: Refusal,
+) -> Result<Outcome, ToolFault>
+    ensures printed { console.new.out ≡ console.old.out }
+    ensures outcome { IfOk result (λ outcome. outcome ≡ Refused) }
+{
+    let mut apart = heard(console.alloc);
+    let outcome = refuse_subject::<S, _, _>(&mut apart, subject, entry, refusal)?;
+    say_all(&mut console.voice, apart);
+    Ok(outcome)
 }

@@ -8,7 +8,7 @@ use Rattle.teco_apply.proofs.Prelude.{Holdings, Joined}
 use Rattle.std.proofs.Common.{ℤ, pos, negsuc, get_or}
 use Rattle.std.specs.List.{sum_by}
 use Rattle.std.proofs.lemmas.List.Sums.{sum_by-cons}
-use Rattle.teco_apply.specs.Sure.{GrowsWithin, IsTaken, IsThere, Runs, TypesWithin}
+use Rattle.teco_apply.specs.Sure.{GrowsWithin, IsTaken, IsThere, KeepsUnnamed, Runs, TypesWithin}
 use Rattle.teco_base.specs.Register.{register_name}
 use Rattle.teco_law_runs.specs.Given.{call_given}
 use Rattle.teco_model.specs.Macros.{IsAsked, Needs}
@@ -21,10 +21,11 @@ use Rattle.teco_hosts.specs.Held.{HoldsBytes, input_of}
 use Rattle.teco_hosts.proofs.Bytes.{files_whole}
 use Rattle.teco_law_runs.specs.Ready.{IsEntry, AreOpen, n_of}
 use Rattle.teco_model.specs.Paging.{unread_of}
+use Rattle.teco_law_runs.specs.Framing.{LeavesFramed}
 use Rattle.teco_law_runs.specs.Keeping.{LeavesOpen, RunsLeaveOpen}
 use Rattle.teco_law_runs.specs.Sure.{ComesTo, RunsAreSure, RunsEndOnce}
 use Rattle.teco_law_runs.specs.Ready as beginning
-use Rattle.teco_promise.specs.Promise.{EachRunEnds, EndsInBounds, IsWithin, held_of, most_with}
+use Rattle.teco_promise.specs.Promise.{EachRunEnds, EndsInBounds, IsWithin, Promise, held_of, most_with}
 
 -- ---- N
 -- one of some pairs holds no more than all
@@ -95,6 +96,16 @@ grown_at held n end (stop.Ended m) new within comes =
     subst (λ (w : World). IsWithin held (held_of w)) (sym comes.1) within
 grown_at held n end answer new within comes = tt
 
+-- and leaves what the macro does not name
+unnamed_at : (promise : Promise) (sound : EachRunEnds promise) (n : ℕ) (old end : World) (answer : Stop) (new : World)
+    → LeavesFramed sound.nodes old.kept end.kept → ComesTo n end answer new → KeepsUnnamed promise answer old new
+unnamed_at promise sound n old end (stop.Ended m) new framed comes = record {
+  nodes = sound.nodes;
+  expanded = sound.expanded;
+  framed = subst (λ (w : World). LeavesFramed sound.nodes old.kept w.kept) (sym comes.1) framed;
+}
+unnamed_at promise sound n old end answer new framed comes = tt
+
 module _ (laws : Laws) (call : PromisedCall) (kept : Kept) (held : Held) (is : IsCalled call kept held)
     (files : HostFiles)
     (bytes : AreOfBytes files) (same : IsSameOutput held files)
@@ -118,13 +129,14 @@ module _ (laws : Laws) (call : PromisedCall) (kept : Kept) (held : Held) (is : I
 
   -- with an argument that is asked for
   ends : (given : Option ℕ) → IsAsked call.promise.argument given
-      → EndsInBounds (start (call_given call.promise.entry given) now) (value call.promise.commands (n_of now))
+      → EndsInBounds is.sound.nodes (start (call_given call.promise.entry given) now)
+      (value call.promise.commands (n_of now))
       (most_with call.promise.grows (n_of now) (held_of now))
       (most_with call.promise.types (n_of now) (length kept.typed))
-  ends given asked = is.sound given now asked entered opened_there
+  ends given asked = is.sound.runs given now asked entered opened_there
 
   pub ends_with : (given : Option ℤ) → IsTaken call.promise.argument given
-      → EndsInBounds (start (call_text call.promise.entry given) (world kept held files))
+      → EndsInBounds is.sound.nodes (start (call_text call.promise.entry given) (world kept held files))
       (value call.promise.commands (n_of (world kept held files)))
       (most_with call.promise.grows (n_of (world kept held files)) (held_of (world kept held files)))
       (most_with call.promise.types (n_of (world kept held files)) (length kept.typed))
@@ -167,6 +179,15 @@ module _ (laws : Laws) (call : PromisedCall) (kept : Kept) (held : Held) (is : I
       (laws.once (start (call_text call.promise.entry call.given) (world kept held files)) found.ends.steps MOST
       found.ends.new answer new found.ends.ends (omega (arith, found.ends.few, ready.counts)) stops)
 
+  pub is_unnamed : (answer : Stop) (new : World)
+      → Stops (start (call_text call.promise.entry call.given) (world kept held files)) MOST answer new
+      → KeepsUnnamed call.promise answer (world kept held files) new
+  is_unnamed answer new stops =
+      let found = ends_with call.given is.taken in
+      unnamed_at call.promise is.sound found.ends.steps (world kept held files) found.ends.new answer new found.framed
+      (laws.once (start (call_text call.promise.entry call.given) (world kept held files)) found.ends.steps MOST
+      found.ends.new answer new found.ends.ends (omega (arith, found.ends.few, ready.counts)) stops)
+
 surely : Laws → (call : PromisedCall) (kept : Kept) (held : Held) → IsCalled call kept held → (files : HostFiles)
     → AreOfBytes files → (answer : Stop) (new : World) → IsSameOutput held files
     → Stops (start (call_text call.promise.entry call.given) (world kept held files)) MOST answer new
@@ -178,6 +199,7 @@ surely laws call kept held is files bytes answer new same stops = record {
   keeps = λ ready. is_left_open laws call kept held is files bytes same ready answer new stops;
   grows = λ ready. is_grown laws call kept held is files bytes same ready answer new stops;
   types = λ ready. is_typed laws call kept held is files bytes same ready answer new stops;
+  unnamed = λ ready. is_unnamed laws call kept held is files bytes same ready answer new stops;
 }
 
 pub calls : Laws → (call : PromisedCall) (answer : Stop) (a b : Holdings) (f g : Telling) → IsCalled call a.kept a.held

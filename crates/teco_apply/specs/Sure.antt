@@ -9,11 +9,14 @@ use Rattle.teco_model.specs.Run.{Stops, IsSure}
 use Rattle.teco_model.specs.State.{Kept, World, start}
 use Rattle.teco_model.specs.declared.stop.Stop.TheVariants as stop
 use Rattle.teco_model.specs.declared.stop.Stop.{Stop}
+use Rattle.teco_law_runs.specs.Framing.{LeavesFramed}
 use Rattle.teco_law_runs.specs.Keeping.{LeavesOpen}
 use Rattle.teco_law_runs.specs.Ready.{n_of}
 use Rattle.teco_hosts.specs.Held.{Held}
 use Rattle.teco_poly.specs.Polynomial.{value}
 use Rattle.teco_promise.specs.Promise.{IsWithin, Promise, held_of, most_with}
+use Rattle.teco_verifier.specs.expansion.Expansion.{expansion}
+use Rattle.teco_verifier.specs.expansion.Node.{Node}
 use Rattle.teco_apply.specs.declared.ready.NotReady.{NotReady}
 use Rattle.teco_apply.specs.declared.ready.NotReady.TheVariants.{NoInput, NoOutput, Argument, Memory}
 
@@ -62,9 +65,19 @@ abbrev pub GrowsWithin : Option ℕ → Stop → World → Type 0
 GrowsWithin held (stop.Ended n) new = IsWithin held (held_of new)
 GrowsWithin held answer new = ⊤
 
+-- what no element of the macro names is left as it was
+pub record LeavesUnnamed (promise : Promise) (old new : Kept) : Type 0 where
+  pub nodes : List Node
+  pub expanded : expansion promise.library promise.entry ≡ Ok nodes
+  pub framed : LeavesFramed nodes old new
+
+abbrev pub KeepsUnnamed : Promise → Stop → World → World → Type 0
+KeepsUnnamed promise (stop.Ended n) old new = LeavesUnnamed promise old.kept new.kept
+KeepsUnnamed promise answer old new = ⊤
+
 -- The macro is called as the command machine does it, with an argument that it takes. Where it is ready, it is sure to
 -- end within the printed number of commands, and at its end the files are as open as they were, no more is unread, the
--- text has got no longer, and no more bytes are typed, than is told.
+-- text has got no longer, and no more bytes are typed, than is told, and what no element of it names is as it was.
 pub record Calls (call : PromisedCall) (answer : Stop) (old new : World) : Type 0 where
   pub taken : TakesArgument call
   pub stops : Stops (start (call_text call.promise.entry call.given) old) MOST answer new
@@ -75,6 +88,7 @@ pub record Calls (call : PromisedCall) (answer : Stop) (old new : World) : Type 
   pub types :
       IsReady call.promise old
       → TypesWithin (most_with call.promise.types (n_of old) (length old.kept.typed)) answer new
+  pub unnamed : IsReady call.promise old → KeepsUnnamed call.promise answer old new
 
 -- the macro is called where the library is loaded first
 abbrev pub Runs : PromisedCall → Stop → World → World → Type 0

@@ -13,12 +13,16 @@ use Rattle.teco_promise.specs.Promise.{EachRunEnds}
 
 pub checked_ends : ExpansionsAreLinked → CertainEnd → (found : LinearFinding)
     → IsChecked found.library found.certificate → EachRunEnds (promise_of found)
-checked_ends linked ends found checked given world asked ready opened =
-    let texts = found.library.texts in
-    let certificate = found.certificate in
-    ends checked.nodes (lengths_of texts) certificate.argument certificate.needs (bounds_in certificate.claims)
-    checked.certain texts certificate.entry given world refl
-    (linked texts certificate.entry checked.nodes checked.expanded) asked ready opened
+checked_ends linked ends found checked = record {
+  nodes = checked.nodes;
+  expanded = checked.expanded;
+  runs = λ given world asked ready opened.
+      let texts = found.library.texts in
+      let certificate = found.certificate in
+      ends checked.nodes (lengths_of texts) certificate.argument certificate.needs (bounds_in certificate.claims)
+      checked.certain.cuts checked.certain.certain texts certificate.entry given world refl
+      (linked texts certificate.entry checked.nodes checked.expanded) asked ready opened;
+}
 
 -- what has its parts is its promise
 pub same_promise : (found : LinearFinding) {library : Library} {entry : ℕ} {argument : Option ArgumentRange}

@@ -4,7 +4,7 @@ use Rattle.teco_claimed.specs.Reads.{IsWellFormed}
 use Rattle.teco_claimed.specs.declared.certificate.LinearCertificate.{LinearCertificate}
 use Rattle.teco_library.specs.Library.{LibraryFile, argument_of}
 use Rattle.teco_model.specs.Macros.{Library}
-use Rattle.teco_paths.specs.Sure.{IsCertain, bounds_in}
+use Rattle.teco_paths.specs.Sure.{AreCertain}
 use Rattle.teco_promise.specs.Promise.{EachRunEnds, Promise}
 use Rattle.teco_verifier.specs.expansion.Expansion.{expansion}
 use Rattle.teco_verifier.specs.expansion.Node.{Node}
@@ -30,7 +30,7 @@ pub record IsChecked (library : LibraryFile) (certificate : LinearCertificate) :
   pub nodes : List Node
   pub expanded : expansion library.texts certificate.entry ≡ Ok nodes
   pub certain :
-      IsCertain nodes (lengths_of library.texts) certificate.argument certificate.needs (bounds_in certificate.claims)
+      AreCertain nodes (lengths_of library.texts) certificate.argument certificate.needs certificate.claims
 
 -- what the certificate says, but not what it claims on the way
 abbrev pub promise_of : LinearFinding → Promise

@@ -27,6 +27,7 @@ number_told (path.Condition number) = Some number
 number_told (path.Size number) = Some number
 number_told (path.Commands number) = Some number
 number_told (path.Claims number) = Some number
+number_told (path.Unreached number) = Some number
 number_told (path.Unread number) = Some number
 number_told path.TooLong = None
 number_told path.Types = None

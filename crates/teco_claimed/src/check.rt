@@ -5,7 +5,7 @@ ghost use Rattle.std.specs.Result.{IfErr};
 ghost use Rattle.teco_claimed.specs.Claimed.{TakesDeclared};
 ghost use Rattle.teco_claimed.specs.Reads.{IsTextOf, IsWellFormed};
 ghost use Rattle.teco_claimed.specs.Refused.{IsOfClaims, IsRefused, IsRefusedFor};
-ghost use Rattle.teco_paths.specs.Sure.{AreLengths, IsCertain, bounds_in};
+ghost use Rattle.teco_paths.specs.Sure.{AreCertain, AreLengths};
 
 use crate::certificate::LinearCertificate;
 use crate::claimed::Claimed;
@@ -56,8 +56,8 @@ fn follow(
     certificate: &LinearCertificate,
     alloc: Global,
 ) -> Result<(), LinearRefusal>
-    ensures certain { OnOk result (IsCertain nodes.now lengths.now certificate.now.argument
-        certificate.now.needs (bounds_in certificate.now.claims)) }
+    ensures certain { OnOk result (AreCertain nodes.now lengths.now certificate.now.argument
+        certificate.now.needs certificate.now.claims) }
     ensures refused { IfErr result (IsOfClaims nodes.now) }
 {
     let called = Called {

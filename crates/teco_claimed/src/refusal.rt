@@ -113,6 +113,7 @@ fn number_in(fault: PathFault) -> Option<usize>
         | PathFault::Size(number)
         | PathFault::Commands(number)
         | PathFault::Claims(number)
+        | PathFault::Unreached(number)
         | PathFault::Unread(number) => Some(number),
         PathFault::TooLong | PathFault::Types | PathFault::Unknown | PathFault::Memory => None,
     }

@@ -42,6 +42,11 @@ impl<E: Write + Drop> Voice<E> {
         self.is_quiet = true;
     }
 
+    /// From now on all is said again, as a refusal that ends the work is.
+    pub fn speak(&mut self) {
+        self.is_quiet = false;
+    }
+
     // Writes a message in one piece. A message that can't be written is lost.
     fn write<D: fmt::Display + Drop>(&mut self, message: D) {
         self.clear();

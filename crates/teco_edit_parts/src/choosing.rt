@@ -1,4 +1,7 @@
 //! Which files are edited: those of words, of a list and of folders.
+ghost use Rattle.std.specs.Prelude.{◌≡◌, ◌++◌, ◌∷◌, [], None, false, IfOk, OnOk};
+ghost use Rattle.teco_edit_parts.specs.Choices.{named_by, names_of};
+
 use crate::pattern::matches;
 use std::alloc::{AllocError, Global};
 use std::fs::Files;
@@ -56,6 +59,8 @@ enum PathKind {
     Folder,
     File,
     Other,
+    // the system does not say
+    Untold,
 }
 
 // The names in a folder, but hidden ones, in the order of their bytes.
@@ -94,10 +99,14 @@ fn push_names(alloc: Global, listed: &[u8], names: &mut Vec<Vec<u8>>) -> Result<
     Ok(())
 }
 
-// The path of what has a name in a folder.
-fn path_in(alloc: Global, folder: &str, name: &str) -> Result<String, AllocError> {
-    let slash = if folder.ends_with('/') { "" } else { "/" };
-    format!(in alloc; "{folder}{slash}{name}")
+// The path of what has a name in a folder. The name may be no text.
+fn path_in(alloc: Global, folder: &str, name: &[u8]) -> Result<Vec<u8>, AllocError> {
+    let mut path = folder.as_bytes().to_vec(alloc)?;
+    if !folder.ends_with('/') {
+        path.push(b'/')?;
+    }
+    path.extend_from_slice(name)?;
+    Ok(path)
 }
 
 // Notes a folder, to be looked through.
@@ -106,12 +115,31 @@ fn note_folder(folders: &mut Vec<String>, folder: String) -> Result<(), AllocErr
     Ok(())
 }
 
+// Adds a file to others.
+#[tactic(auto, using(crate::proofs::Choices::names_of_more))]
+fn push_file(files: &mut Vec<ChosenFile>, name: &[u8], is_found: bool) -> Result<(), AllocError>
+    ensures { OnOk result (names_of files.new.items ≡ names_of files.old.items ++ name.now ∷ []) }
+{
+    let name = name.to_vec(*files.allocator())?;
+    files.push(ChosenFile { name, is_found })?;
+    Ok(())
+}
+
+// The files that words name, where no folder is looked through.
+fn named(alloc: Global, names: &[&[u8]]) -> Result<Vec<ChosenFile>, AllocError>
+    ensures { IfOk result (λ files. names_of files.items ≡ named_by names.now) }
+{
+    let mut files = Vec::new(alloc);
+    for name in names {
+        push_file(&mut files, *name, false)?;
+    }
+    Ok(files)
+}
+
 impl<R: Files, E: io::Write + Drop> Choosing<'_, '_, '_, '_, R, E> {
     // One more file.
     fn push(&mut self, name: &[u8], is_found: bool) -> Result<(), AllocError> {
-        let name = name.to_vec(self.alloc)?;
-        self.chosen.push(ChosenFile { name, is_found })?;
-        Ok(())
+        push_file(&mut self.chosen, name, is_found)
     }
 
     // What a path leads to. Links that stand in folders are not followed.
@@ -124,7 +152,8 @@ impl<R: Files, E: io::Write + Drop> Choosing<'_, '_, '_, '_, R, E> {
         match found {
             Ok(found) if found.is_dir() => PathKind::Folder,
             Ok(found) if found.is_file() => PathKind::File,
-            _ => PathKind::Other,
+            Ok(_) => PathKind::Other,
+            Err(_) => PathKind::Untold,
         }
     }
 
@@ -135,13 +164,14 @@ impl<R: Files, E: io::Write + Drop> Choosing<'_, '_, '_, '_, R, E> {
             .complain(format_args!("cannot look through {path}: {reason}"));
     }
 
-    // The files of a folder, and the folders in it. A folder that can't be read is told.
+    // The files of a folder, and the folders in it. A folder that can't be read is told, and stands
+    // among the files: as such it fails, and is counted.
     fn look_through(&mut self, folder: &str, folders: &mut Vec<String>) -> Result<(), AllocError> {
         match names_in(self.rt, self.alloc, folder) {
             Ok(names) => self.look_at_all(folder, &names, folders),
             Err(error) => {
                 self.tell_unread(folder.as_bytes(), error);
-                Ok(())
+                self.push(folder.as_bytes(), true)
             }
         }
     }
@@ -163,7 +193,8 @@ impl<R: Files, E: io::Write + Drop> Choosing<'_, '_, '_, '_, R, E> {
         Ok(())
     }
 
-    // Takes a file of a folder, or notes a folder in it.
+    // Takes a file of a folder, or notes a folder in it. What can't be looked at, be it for its name,
+    // is taken too: its edit fails, which is told with its path, and counted.
     fn look_at(
         &mut self,
         folder: &str,
@@ -173,26 +204,25 @@ impl<R: Files, E: io::Write + Drop> Choosing<'_, '_, '_, '_, R, E> {
         if is_of(self.choice.excluded, name) {
             return Ok(());
         }
-        match str::from_utf8(name) {
-            Ok(text) => self.look_at_path(path_in(self.alloc, folder, text)?, name, folders),
-            Err(_) => {
-                self.tell_unread(name, "its name is no UTF-8 text");
-                Ok(())
-            }
+        let path = path_in(self.alloc, folder, name)?;
+        match str::from_utf8(&path) {
+            Ok(text) => self.look_at_path(text, name, folders),
+            Err(_) => self.push(&path, true),
         }
     }
 
     // Takes a file of this path and this name, or notes a folder.
     fn look_at_path(
         &mut self,
-        path: String,
+        path: &str,
         name: &[u8],
         folders: &mut Vec<String>,
     ) -> Result<(), AllocError> {
-        match self.kind_of(&path, false) {
-            PathKind::Folder => note_folder(folders, path),
-            PathKind::File if takes(self.choice, name) => self.push(path.as_bytes(), true),
-            _ => Ok(()),
+        match self.kind_of(path, false) {
+            PathKind::Folder => note_folder(folders, String::from_str(self.alloc, path)?),
+            PathKind::File if !takes(self.choice, name) => Ok(()),
+            PathKind::File | PathKind::Untold => self.push(path.as_bytes(), true),
+            PathKind::Other => Ok(()),
         }
     }
 
@@ -223,27 +253,65 @@ impl<R: Files, E: io::Write + Drop> Choosing<'_, '_, '_, '_, R, E> {
         }
     }
 
-    // Takes the files of a list.
-    fn take_list(&mut self, list: &[u8]) -> Result<(), AllocError> {
+    // Takes what each word names, and says which patterns fit none of it.
+    fn take_words(&mut self) -> Result<(), AllocError> {
+        let choice = self.choice;
+        for name in choice.names {
+            self.take(*name)?;
+        }
+        for pattern in choice.included {
+            self.tell_unfit(*pattern);
+        }
+        Ok(())
+    }
+
+    // Says that a pattern fits no file that was found, if none is.
+    fn tell_unfit(&mut self, pattern: &str) {
+        let fits = self.chosen.iter().any(|file| file.is_found
+            && matches(pattern.as_bytes(), last_part(&file.name)));
+        if !fits {
+            let shown = Shown(pattern.as_bytes());
+            self.voice.complain(format_args!(
+                "--include {shown} fits no file of the folders; in a pattern * is any text and ? any \
+                    byte, and all else stands for itself"
+            ));
+        }
+    }
+
+    // Takes the files of a list. One that names none is told.
+    fn take_list(&mut self, name: &str, list: &[u8]) -> Result<(), AllocError> {
         let end = if self.choice.ends_by_nul { 0 } else { b'\n' };
+        let known = self.chosen.len();
         for name in list.split(|byte| *byte == end) {
             if !name.is_empty() {
                 self.push(name, true)?;
             }
+        }
+        if self.chosen.len() == known {
+            let shown = Shown(name.as_bytes());
+            self.voice.complain(format_args!("--files-from {shown}: the list names no file"));
         }
         Ok(())
     }
 }
 
 /// The files that are edited, in order: those of words, each folder's at its place, and then those of
-/// a list. Hidden files and folders are left out, and links in folders; a folder that can't be read is
-/// told.
+/// a list. Hidden files and folders are left out, and links, devices and the like in folders. What can't
+/// be looked at stands among them, so that its edit fails. A folder that can't be read is told, and a
+/// list that names no file, and a pattern that fits none.
 pub fn choose<R: Files + Input, E: io::Write + Drop>(
     rt: &R,
     voice: &mut Voice<E>,
     choice: &FileChoice<'_>,
-) -> Result<Vec<ChosenFile>, AnswerFault> {
+) -> Result<Vec<ChosenFile>, AnswerFault>
+    ensures words { choice.now.is_recursive ≡ false → choice.now.list ≡ None
+        → IfOk result (λ files. names_of files.items ≡ named_by choice.now.names.now) }
+{
     let alloc = voice.alloc();
+    match choice.list {
+        None if !choice.is_recursive => return Ok(named(alloc, choice.names)?),
+        _ => {}
+    }
     let mut choosing = Choosing {
         rt,
         alloc,
@@ -251,11 +319,9 @@ pub fn choose<R: Files + Input, E: io::Write + Drop>(
         choice,
         chosen: Vec::new(alloc),
     };
-    for name in choice.names {
-        choosing.take(*name)?;
-    }
+    choosing.take_words()?;
     if let Some(list) = choice.list {
-        choosing.take_list(&read_file(rt, alloc, list)?)?;
+        choosing.take_list(list, &read_file(rt, alloc, list)?)?;
     }
     Ok(choosing.chosen)
 }

@@ -5,7 +5,7 @@ use std::fs::Files;
 use std::io::Write;
 use std::str;
 use teco_console::Voice;
-use teco_files::{ProcessFacts, folder_of, remove_strays, sync_folder};
+use teco_files::{FolderFiles, ProcessFacts, folder_of, remove_strays, sync_folder};
 use teco_source::Shown;
 
 /// The folders of the files that are edited: those that were looked through for what killed runs
@@ -24,6 +24,14 @@ fn add(folders: &mut BTreeSet<String>, alloc: Global, folder: &str) -> Result<bo
     }
     folders.insert(String::from_str(alloc, folder)?)?;
     Ok(true)
+}
+
+// Says how many unfinished files were removed in a folder, if any.
+fn tell_removed<E: Write + Drop>(voice: &mut Voice<E>, folder: &str, count: usize) {
+    if count > 0 {
+        let folder = Shown(folder.as_bytes());
+        voice.say(format_args!("{folder}: unfinished files of killed runs were removed: {count}"));
+    }
 }
 
 impl Folders {
@@ -52,14 +60,9 @@ impl Folders {
         if !add(&mut self.seen, self.alloc, folder)? {
             return Ok(());
         }
-        match remove_strays(rt, self.alloc, folder, facts) {
-            Ok(count) if count > 0 => {
-                let folder = Shown(folder.as_bytes());
-                voice.say(format_args!(
-                    "{folder}: unfinished files of killed runs were removed: {count}"
-                ));
-            }
-            _ => {}
+        if let Ok(mut files) = FolderFiles::open(rt, self.alloc, folder, facts) {
+            let removed = remove_strays(self.alloc, &mut files);
+            tell_removed(voice, folder, removed.unwrap_or(0));
         }
         Ok(())
     }

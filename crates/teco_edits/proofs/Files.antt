@@ -1,12 +1,59 @@
 -- Files that are edited one after another.
 use Rattle.std.proofs.Common.{◌≡◌, ◌∙◌, ◌+◌, ◌<◌, ◌≤◌, sym, subst, ap, ℕ, List, [], ◌∷◌, ◌++◌, length, take, drop}
-use Rattle.std.proofs.Common.{get_or, Option, take-append-drop}
+use Rattle.std.proofs.Common.{get_or, Bool, Option, take-append-drop}
 use Rattle.std.proofs.lemmas.List.{take_all, take_more, drop_more}
+use Rattle.std.proofs.Common.{Result, Some, Ok}
+use Rattle.std.specs.Io.KnownBytes.{Appends}
+use Rattle.teco_console.specs.declared.outcome.Outcome.{Outcome}
+use Rattle.teco_edit_parts.specs.Typed.{without_code}
+use Rattle.teco_edits.specs.declared.editing.EditEnd.{EditEnd}
+use Rattle.teco_edits.specs.Files.{EditsNamed, TellsDifference, is_coded, shown_typed}
+use Rattle.teco_hosts.specs.HostFiles.{Telling}
+use Rattle.teco_jobs.specs.Edits.{RewritesBy, call_of}
+use Rattle.teco_pages.specs.Texts.{noted_texts}
+use Rattle.teco_tools.specs.declared.fault.ToolFault.{ToolFault}
 use Rattle.teco_jobs.specs.declared.jobs.Job.{Job}
+use Rattle.teco_pages.specs.Policies.{IsMet}
+use Rattle.teco_policy.specs.declared.policy.Policy.{Policy}
 use Rattle.teco_edits.specs.Files.{BreaksOff, EditsEach, EditsNext, one_more}
 use Rattle.teco_edit_parts.specs.declared.choosing.ChosenFile.{ChosenFile}
 use Rattle.teco_edits.specs.declared.editing.InPlaceEdits.{InPlaceEdits}
 use Rattle.teco_edits.specs.declared.editing.EditTally.{EditTally}
+
+-- terms that are met, by what closes outputs
+pub met_by : (policies : List Policy) (closes replaces : Bool) (noted : Telling) → closes ≡ replaces
+    → IsMet policies closes noted → IsMet policies replaces noted
+met_by policies closes replaces noted is met = subst (λ (it : Bool). IsMet policies it noted) is met
+
+-- a file was edited as a host noted it, on terms that were met
+pub named_by : (given : InPlaceEdits) (job work_job : Job) (name work_name : List ℕ) (replaces closes : Bool)
+    (old new : Option (List ℕ)) (ended : EditEnd) (outcome : Outcome) (noted : Telling) (failures : ℕ)
+    (before typed : List ℕ) (result : Result Outcome ToolFault)
+    → RewritesBy work_job.task.now (call_of work_job) work_name replaces noted failures (Some before) (Some typed)
+    result → work_job ≡ job → work_name ≡ name → before ≡ [] → result ≡ Ok outcome → ended.outcome ≡ outcome
+    → closes ≡ replaces → IsMet given.policies.now closes noted → TellsDifference (noted_texts noted) ended
+    → Appends old new (shown_typed given name (without_code typed (is_coded ended.outcome)))
+    → EditsNamed given job name replaces old new ended
+named_by given job work_job name work_name replaces closes old new ended outcome noted failures before typed result
+    edit job_is name_is none ok same is met differs written = record {
+      noted = noted;
+      failures = failures;
+      typed = typed;
+      edit =
+          subst (λ outcome. RewritesBy job.task.now (call_of job) name replaces noted failures (Some []) (Some typed)
+          (Ok outcome)) (sym same)
+          (subst (λ result. RewritesBy job.task.now (call_of job) name replaces noted failures (Some []) (Some typed)
+          result) ok
+          (subst (λ was. RewritesBy job.task.now (call_of job) name replaces noted failures (Some was) (Some typed)
+          result) none
+          (subst (λ name. RewritesBy job.task.now (call_of job) name replaces noted failures (Some before) (Some typed)
+          result) name_is
+          (subst (λ (job : Job). RewritesBy job.task.now (call_of job) work_name replaces noted failures (Some before)
+          (Some typed) result) job_is edit))));
+      met = met_by given.policies.now closes replaces noted is met;
+      differs = differs;
+      written = written;
+    }
 
 -- one file more
 pub each_more : (given : InPlaceEdits) (job : Job) (old mid new : Option (List ℕ)) (files : List ChosenFile) (i : ℕ)

@@ -1,6 +1,6 @@
 -- What the edits of files in place do, one after another, and what is printed of them.
 use Rattle.std.specs.Prelude.{ℕ, ◌≡◌, ◌≢◌, ◌<◌, ◌+◌, ◌-◌, ◌^◌, ◌⊎◌, min, List, [], ◌∷◌, ◌++◌, length, Bool, true}
-use Rattle.std.specs.Prelude.{false, not, ◌&&◌, nat_lt, if◌then◌else◌, Option, Some, None, Result, Ok, Err}
+use Rattle.std.specs.Prelude.{◌↔◌, IsTrue, false, not, ◌&&◌, nat_lt, if◌then◌else◌, Option, Some, None, Result, Ok, Err}
 use Rattle.std.specs.Io.KnownBytes.{Appends}
 use Rattle.std.specs.List.{Contains}
 use Rattle.teco_jobs.specs.Edits.{Prints, RewritesBy, call_of}
@@ -17,6 +17,8 @@ use Rattle.teco_options.specs.declared.editing.Change.TheVariants.{Made, Listed,
 use Rattle.teco_options.specs.declared.editing.Look.{Look}
 use Rattle.teco_options.specs.declared.editing.TheConstants.{NAME}
 use Rattle.teco_hosts.specs.HostFiles.{Telling}
+use Rattle.teco_pages.specs.Policies.{IsMet}
+use Rattle.teco_pages.specs.Texts.{Differ, EditTexts, noted_texts}
 use Rattle.teco_tools.specs.declared.fault.ToolFault.{ToolFault}
 use Rattle.teco_console.specs.declared.outcome.Outcome.{Outcome}
 use Rattle.teco_console.specs.declared.outcome.Outcome.TheVariants.{Done, Coded, Refused}
@@ -79,10 +81,9 @@ pub record IsFileName (name : List ℕ) : Type 0 where
   pub some : name ≢ []
   pub plain : ¬ Contains name ESC
 
--- a file that may be left as it is: it was found in a folder or a list, and files with a NUL are not taken
-pub record MayBeLeft (given : InPlaceEdits) (file : ChosenFile) : Type 0 where
-  pub found : file.is_found ≡ true
-  pub plain : given.takes_binary ≡ false
+-- a file may be left as it is: those with a NUL are not taken
+abbrev pub MayBeLeft : InPlaceEdits → Type 0
+MayBeLeft given = given.takes_binary ≡ false
 
 -- ---- what is printed of a file
 -- what was typed over it, with its name before each line where names stand there
@@ -125,8 +126,13 @@ is_made Made = true
 is_made Listed = false
 is_made Checked = false
 
--- A host that had made no call edits the file, as its crate promises it; what was typed over it is written, without
--- the line of a code.
+-- whether the texts differ is told
+abbrev pub TellsDifference : EditTexts → EditEnd → Type 0
+TellsDifference texts ended = IsTrue ended.differs ↔ Differ texts
+
+-- A host that had made no call and noted these edits the file, as its crate promises it. Its output takes the file's
+-- name only where that is asked for, and only where each policy is kept of the text that was read and the one that was
+-- written; whether these differ is told. What was typed over the file is written, without the line of a code.
 pub record EditsNamed (given : InPlaceEdits) (job : Job) (name : List ℕ) (replaces : Bool) (old new : Option (List ℕ))
     (ended : EditEnd) : Type 0 where
   pub noted : Telling
@@ -134,6 +140,8 @@ pub record EditsNamed (given : InPlaceEdits) (job : Job) (name : List ℕ) (repl
   pub typed : List ℕ
   pub edit :
       RewritesBy job.task.now (call_of job) name replaces noted failures (Some []) (Some typed) (Ok ended.outcome)
+  pub met : IsMet given.policies.now replaces noted
+  pub differs : TellsDifference (noted_texts noted) ended
   pub written : Appends old new (shown_typed given name (without_code typed (is_coded ended.outcome)))
 
 -- and behind that what differs, or its name
@@ -156,9 +164,8 @@ EditsOne given job name old new ended =
 
 -- ---- one after another
 -- a file is left as it is
-pub record LeavesFile (given : InPlaceEdits) (file : ChosenFile) (old new : Option (List ℕ)) (before after : EditTally)
-    : Type 0 where
-  pub may_be : MayBeLeft given file
+pub record LeavesFile (given : InPlaceEdits) (old new : Option (List ℕ)) (before after : EditTally) : Type 0 where
+  pub may_be : MayBeLeft given
   pub stays : new ≡ old
   pub uncounted : after ≡ before
 
@@ -172,7 +179,7 @@ pub record CountsFile (given : InPlaceEdits) (job : Job) (file : ChosenFile) (ol
 abbrev pub EditsNext : InPlaceEdits → Job → ChosenFile → Option (List ℕ) → Option (List ℕ) → EditTally → EditTally
     → Type 0
 EditsNext given job file old new before after =
-    LeavesFile given file old new before after ⊎ CountsFile given job file old new before after
+    LeavesFile given old new before after ⊎ CountsFile given job file old new before after
 
 -- Each file in turn was left or edited, and what was printed of each stands behind what was printed before.
 pub data EditsEach (given : InPlaceEdits) (job : Job) (old : Option (List ℕ)) : List ChosenFile → Option (List ℕ)

@@ -8,23 +8,25 @@ ghost use Rattle.teco_edits.specs.Files.{EditsOne, IsFileName, MayBeLeft, ShowsC
 ghost use Rattle.teco_edits.specs.Files.{ShowsEnded, is_change, is_done, is_made, listed, outcome_of, shown_typed};
 ghost use Rattle.teco_edits.specs.Files.{tally_with};
 ghost use Rattle.teco_edit_parts.specs.Typed as lines;
+ghost use Rattle.teco_edits.specs.Files.{TellsDifference};
 ghost use Rattle.teco_hosts.specs.HostFiles.{Notes};
+ghost use Rattle.teco_pages.specs.Texts.{noted_texts};
 
-use crate::preview::new_text;
+use crate::breaches::tell_broken;
 use std::alloc::{AllocError, Global};
 use std::io::Write;
 use teco_apply::{Drops, Ending, Replaces};
 use teco_base::bytes::{ESC, LF};
 use teco_console::{Console, Outcome, Voice};
 use teco_edit_parts::{
-    ChosenFile, EditProgress, FilesDone, Folders, TextChange, has_nul, named_lines, read_whole,
-    without_code, write_diff,
+    ChosenFile, EditProgress, FilesDone, Folders, has_nul, named_lines, without_code, write_diff,
 };
-use teco_files::{Backup, Closed, Closing, Handling, ProcessFacts, System};
+use teco_files::{Backup, Closing, Handling, ProcessFacts, System};
 use teco_hosts::Host;
 use teco_jobs::{Job, OneWork, Replaced, rewrite_by};
 use teco_options::{Change, Keeping, Look, NAME, Naming};
-use teco_pages::FileHost;
+use teco_pages::{EditTerms, FileHost, PolicyHost, Texts};
+use teco_policy::Policy;
 use teco_session::SessionFault;
 use teco_source::Shown;
 use teco_tools::ToolFault;
@@ -34,7 +36,9 @@ use teco_tools::ToolFault;
 pub struct InPlaceEdits<'a> {
     pub files: &'a [ChosenFile],
     pub change: Change,
-    /// Are files of folders and lists edited that have a NUL near their beginning?
+    /// What the edit of a file must not do; one that would leaves the file as it was.
+    pub policies: &'a [Policy],
+    /// Are files edited that have a NUL near their beginning?
     pub takes_binary: bool,
     /// How it is printed what differs, if it is.
     pub diff: Option<Look>,
@@ -130,19 +134,22 @@ fn tell_name<E: Write + Drop>(voice: &mut Voice<E>, name: &[u8]) {
     ));
 }
 
-// Says that a file is left as it is, since it has a NUL.
-fn tell_left<E: Write + Drop>(voice: &mut Voice<E>, name: &[u8]) {
-    let shown = Shown(name);
-    voice.say(format_args!(
-        "{shown} has a NUL near its beginning and is left as it is; --binary edits it too"
-    ));
+// Says that a file is left as it is, since it has a NUL: in any case, if a word names it.
+fn tell_left<E: Write + Drop>(voice: &mut Voice<E>, file: &ChosenFile) {
+    let shown = Shown(&file.name);
+    let told = "has a NUL near its beginning and is left as it is; --binary edits it too";
+    if file.is_found {
+        voice.say(format_args!("{shown} {told}"));
+    } else {
+        voice.complain(format_args!("{shown} {told}"));
+    }
 }
 
 // What came of the edit of a file.
 #[derive(Clone, Copy)]
 struct EditEnd {
     outcome: Outcome,
-    // does its host say that its new text is another?
+    // is its new text another?
     differs: bool,
 }
 
@@ -167,6 +174,13 @@ const FAILED: EditEnd = EditEnd {
     outcome: Outcome::Coded,
     differs: false,
 };
+
+// What came of the edit of a file, and its host.
+#[derive(Drop)]
+struct EditedFile<'f, R: System> {
+    ended: EditEnd,
+    host: PolicyHost<'f, R>,
+}
 
 // What runs on a file typed, and what came of them.
 #[derive(Drop)]
@@ -217,9 +231,9 @@ struct Editing<'r, 'j, 'g, 'f, R: System + Copy> {
     facts: ProcessFacts,
 }
 
-impl<R: System + Copy> Editing<'_, '_, '_, '_, R> {
+impl<'f, R: System + Copy> Editing<'_, '_, '_, 'f, R> {
     // A host for one file.
-    fn host(&self, alloc: Global) -> Result<FileHost<R>, AllocError>
+    fn file_host(&self, alloc: Global) -> Result<FileHost<R>, AllocError>
         ensures { IfOk result (λ host. ⟦<FileHost<R> as Host>⟧.files host ≡ Notes []) }
     {
         let backup = backup_of(alloc, self.given.keeping)?;
@@ -230,6 +244,13 @@ impl<R: System + Copy> Editing<'_, '_, '_, '_, R> {
             host.set_backup(backup);
         }
         Ok(host)
+    }
+
+    // A host for one file, on the terms of its edit.
+    fn host(&self, alloc: Global, terms: EditTerms<'f>) -> Result<PolicyHost<'f, R>, AllocError>
+        ensures { IfOk result (λ host. ⟦<PolicyHost<'f, R> as Host>⟧.files host ≡ Notes []) }
+    {
+        Ok(PolicyHost::new(self.file_host(alloc)?, terms))
     }
 
     // Writes what was typed over a file.
@@ -257,9 +278,10 @@ impl<R: System + Copy> Editing<'_, '_, '_, '_, R> {
         console: &mut Console<O, E>,
         folders: &mut Folders,
         runs: FileRuns<'_>,
-        host: &FileHost<R>,
+        host: &PolicyHost<'f, R>,
     ) -> Result<EditEnd, ToolFault>
         ensures outcome { IfOk result (λ ended. ended.outcome ≡ runs.entry.outcome) }
+        ensures differs { IfOk result (TellsDifference (noted_texts (⟦<PolicyHost<'f, R> as Host>⟧.files host.now))) }
         ensures written { IfOk result (λ ended.
             Appends (O.contents console.old.out) (O.contents console.new.out)
             (shown_typed self.now.given.now runs.entry.name.now
@@ -271,42 +293,51 @@ impl<R: System + Copy> Editing<'_, '_, '_, '_, R> {
             outcome,
         } = runs;
         console.voice.clear();
+        let Some(differs) = host.has_changed() else {
+            return Err(AllocError.into());
+        };
         let typed = without_code(typed, is_coded(outcome));
         self.write_typed(console.alloc, &mut console.out, name, typed)?;
-        folders.note_changed(host.changed_folder())?;
-        Ok(EditEnd {
-            outcome,
-            differs: matches!(host.closed(), Some(Closed::Changed)),
-        })
+        folders.note_changed(host.host().changed_folder())?;
+        Ok(EditEnd { outcome, differs })
     }
 
     // Edits a file in place.
+    #[tactic(auto, using(crate::proofs::Files::met_by))]
     fn edit_at<O: Write + Drop, E: Write + Drop, K: Ending>(
         &self,
         console: &mut Console<O, E>,
         folders: &mut Folders,
         name: &[u8],
         ending: K,
-    ) -> Result<EditEnd, ToolFault>
+    ) -> Result<EditedFile<'f, R>, ToolFault>
         requires { length name.now < NAME }
-        ensures { IfOk result (EditsNamed self.now.given.now self.now.job name.now K.replaces
-            (O.contents console.old.out) (O.contents console.new.out)) }
+        ensures { IfOk result (λ edited. EditsNamed self.now.given.now self.now.job name.now K.replaces
+            (O.contents console.old.out) (O.contents console.new.out) edited.ended) }
     {
-        let host = self.host(console.alloc)?;
+        let terms = EditTerms {
+            policies: self.given.policies,
+            closes: K::replaces(),
+        };
+        let host = self.host(console.alloc, terms)?;
         let mut typed = Vec::new(console.alloc);
         let work = OneWork::new(self.job, name, ending);
         let Replaced { outcome, host } = rewrite_by(&mut typed, &mut console.voice, work, host);
-        match outcome {
-            Ok(outcome) => {
-                let runs = FileRuns {
-                    name,
-                    typed: &typed,
-                    outcome,
-                };
-                self.end_edit(console, folders, runs, &host)
-            }
-            Err(fault) => Err(of_memory(fault)),
+        let outcome = match outcome {
+            Ok(outcome) => outcome,
+            Err(fault) => return Err(of_memory(fault)),
+        };
+        // the run's contract does not say that its host has the terms still that it was given
+        if !host.has_met(terms) {
+            return Err(AllocError.into());
         }
+        let runs = FileRuns {
+            name,
+            typed: &typed,
+            outcome,
+        };
+        let ended = self.end_edit(console, folders, runs, &host)?;
+        Ok(EditedFile { ended, host })
     }
 
     // Edits a file of a name that it can be edited by, or tries to.
@@ -315,33 +346,16 @@ impl<R: System + Copy> Editing<'_, '_, '_, '_, R> {
         console: &mut Console<O, E>,
         folders: &mut Folders,
         name: &[u8],
-    ) -> Result<EditEnd, ToolFault>
+    ) -> Result<EditedFile<'f, R>, ToolFault>
         requires { length name.now < NAME }
-        ensures { IfOk result (EditsNamed self.now.given.now self.now.job name.now
+        ensures { IfOk result (λ edited. EditsNamed self.now.given.now self.now.job name.now
             (is_made self.now.given.now.change)
-            (O.contents console.old.out) (O.contents console.new.out)) }
+            (O.contents console.old.out) (O.contents console.new.out) edited.ended) }
     {
         match self.given.change {
             Change::Made => self.edit_at(console, folders, name, Replaces),
             Change::Listed | Change::Checked => self.edit_at(console, folders, name, Drops),
         }
-    }
-
-    // Edits a file in place, and says what became of it, with the texts that differ if they are printed.
-    fn edit_with<O: Write + Drop, E: Write + Drop>(
-        &self,
-        console: &mut Console<O, E>,
-        folders: &mut Folders,
-        name: &[u8],
-        texts: Option<&TextChange>,
-    ) -> Result<EditEnd, ToolFault>
-        requires { length name.now < NAME }
-        ensures { IfOk result (EditsFile self.now.given.now self.now.job name.now
-            (O.contents console.old.out) (O.contents console.new.out)) }
-    {
-        let ended = self.edit_named(console, folders, name)?;
-        self.tell_ended(console, name, ended, texts)?;
-        Ok(ended)
     }
 
     // Edits a file in place, and says what became of it.
@@ -355,8 +369,9 @@ impl<R: System + Copy> Editing<'_, '_, '_, '_, R> {
         ensures { IfOk result (EditsFile self.now.given.now self.now.job name.now
             (O.contents console.old.out) (O.contents console.new.out)) }
     {
-        let texts = self.texts(console.alloc, name)?;
-        self.edit_with(console, folders, name, texts.as_ref())
+        let EditedFile { ended, host } = self.edit_named(console, folders, name)?;
+        self.tell_ended(console, name, ended, &host)?;
+        Ok(ended)
     }
 
     // Edits a file in place.
@@ -379,29 +394,9 @@ impl<R: System + Copy> Editing<'_, '_, '_, '_, R> {
         self.edit_and_tell(console, folders, name)
     }
 
-    // The text of a file, if it can be opened.
-    fn old_text(&self, alloc: Global, name: &[u8]) -> Result<Option<Vec<u8>>, AllocError> {
-        read_whole(alloc, &mut self.host(alloc)?, name)
-    }
-
-    // The text of a file and what the macro makes of it, if it does and what differs is printed. Nothing
-    // is said or typed.
-    fn texts(&self, alloc: Global, name: &[u8]) -> Result<Option<TextChange>, ToolFault>
-        requires { length name.now < NAME }
-    {
-        if self.given.diff.is_none() {
-            return Ok(None);
-        }
-        let Some(old) = self.old_text(alloc, name)? else {
-            return Ok(None);
-        };
-        let new = new_text(alloc, self.host(alloc)?, self.job, name)?;
-        Ok(new.map(|new| TextChange { old, new }))
-    }
-
     // Has a file a NUL near its beginning?
     fn holds_nul(&self, alloc: Global, name: &[u8]) -> Result<bool, AllocError> {
-        has_nul(alloc, &mut self.host(alloc)?, name)
+        has_nul(alloc, &mut self.file_host(alloc)?, name)
     }
 
     // Is a file left as it is, since it is none that people read? That is said.
@@ -410,11 +405,11 @@ impl<R: System + Copy> Editing<'_, '_, '_, '_, R> {
         voice: &mut Voice<E>,
         file: &ChosenFile,
     ) -> Result<bool, ToolFault>
-        ensures { IfOk result (λ left. left ≡ true → MayBeLeft self.now.given.now file.now) }
+        ensures { IfOk result (λ left. left ≡ true → MayBeLeft self.now.given.now) }
     {
-        let may_be_left = file.is_found && !self.given.takes_binary;
+        let may_be_left = !self.given.takes_binary;
         if may_be_left && self.holds_nul(voice.alloc(), &file.name)? {
-            tell_left(voice, &file.name);
+            tell_left(voice, file);
             return Ok(true);
         }
         Ok(false)
@@ -440,13 +435,13 @@ impl<R: System + Copy> Editing<'_, '_, '_, '_, R> {
         alloc: Global,
         out: &mut O,
         name: &[u8],
-        texts: Option<&TextChange>,
+        texts: Option<&Texts>,
     ) -> Result<(), ToolFault>
         ensures { OnOk result (ShowsChange self.now.given.now name.now
             (O.contents out.old) (O.contents out.new)) }
     {
         match (self.given.diff, texts) {
-            (Some(look), Some(TextChange { old, new })) => {
+            (Some(look), Some(Texts { old, new })) => {
                 let mut text = Vec::new(alloc);
                 write_diff(alloc, &mut text, look, name, (old, new))?;
                 out.write_all(&text)?;
@@ -456,26 +451,42 @@ impl<R: System + Copy> Editing<'_, '_, '_, '_, R> {
         }
     }
 
+    // Says that a file is left as it was, and which policy its edit would break.
+    fn tell_failed<E: Write + Drop>(
+        &self,
+        voice: &mut Voice<E>,
+        name: &[u8],
+        host: &PolicyHost<'f, R>,
+    ) {
+        match (host.broken(), host.texts()) {
+            (Some(broken), Some(texts)) => {
+                tell_broken(voice, name, self.given.policies, broken, texts);
+            }
+            _ => {
+                let shown = Shown(name);
+                voice.complain(format_args!("{shown} is left as it was"));
+            }
+        }
+    }
+
     // Says what became of a file.
     fn tell_ended<O: Write + Drop, E: Write + Drop>(
         &self,
         console: &mut Console<O, E>,
         name: &[u8],
         ended: EditEnd,
-        texts: Option<&TextChange>,
+        host: &PolicyHost<'f, R>,
     ) -> Result<(), ToolFault>
         ensures { OnOk result (ShowsEnded self.now.given.now name.now ended
             (O.contents console.old.out) (O.contents console.new.out)) }
     {
         if ended.is_change() {
             console.voice.clear();
+            let texts = host.texts();
             return self.tell_change(console.alloc, &mut console.out, name, texts);
         }
         if !ended.is_done() {
-            let shown = Shown(name);
-            console
-                .voice
-                .complain(format_args!("{shown} is left as it was"));
+            self.tell_failed(&mut console.voice, name, host);
         }
         Ok(())
     }

@@ -1,7 +1,7 @@
 //! Edits of files in place, by what is promised of a macro.
 #![tactic(auto)]
 
+mod breaches;
 mod editing;
-mod preview;
 
 pub use editing::{InPlaceEdits, edit_by_job};

@@ -1,2 +1,3 @@
 -- The words that the contracts of this crate are written in.
 pub mod Buffers
+pub mod Strays

@@ -23,7 +23,7 @@ pub use identity::Identity;
 pub use likeness::Likeness;
 pub use process::ProcessFacts;
 pub use source::ReadFile;
-pub use strays::remove_strays;
+pub use strays::{FolderFiles, SweptFiles, remove_strays};
 pub use system::System;
 pub use target::folder_of;
 pub use trouble::{Purpose, Trouble, TroubleReason, name_to_tell};

@@ -1,9 +1,13 @@
 //! What the hosts of a process have in common.
+ghost use Rattle.std.specs.Prelude.{◌≡◌, ◌↔◌, IsTrue, true, IfOk};
+ghost use Rattle.teco_files.specs.Strays.{IsOutputName};
+
 use crate::size_limit::size_limit;
 use crate::system::System;
 use std::alloc::{AllocError, Global};
-use std::fs::Files;
+use std::fs::{Files, Metadata};
 use std::io::Read;
+use std::os::unix::fs::MetadataExt;
 use std::{fs, io, str};
 
 // What tells one run of a system from others.
@@ -12,14 +16,18 @@ const BOOT: &str = "/proc/sys/kernel/random/boot_id";
 // What tells which processes see each other's numbers.
 const SPACE: &str = "/proc/self/ns/pid";
 
-// Where the processes that run have their folders.
+// Where the processes that run have their folders, and what is there for this one and the first.
 const PROCESSES: &str = "/proc";
+
+const OWN: &str = "/proc/self";
+
+const FIRST: &str = "/proc/1";
 
 // More than the name of a run of the system takes.
 const ROOM: usize = 64;
 
 // What the names of unfinished outputs begin with.
-const FRONT: &str = ".somleut-";
+pub const FRONT: &str = ".somleut-";
 
 /// What the hosts of a process have in common. It is read once for all of them.
 #[derive(Clone, Copy)]
@@ -28,6 +36,8 @@ pub struct ProcessFacts {
     number: u32,
     // a number of the run of the system, and of the processes that see each other's numbers
     system: Option<u64>,
+    // the user that it runs as
+    user: Option<u32>,
     /// The most bytes that a file may have.
     pub size_limit: u64,
 }
@@ -38,6 +48,7 @@ impl ProcessFacts {
         ProcessFacts {
             number: rt.process_number(),
             system: system_number(rt, alloc),
+            user: user_of(rt),
             size_limit: size_limit(rt),
         }
     }
@@ -56,7 +67,12 @@ impl ProcessFacts {
 
     /// Is a name that of an unfinished output, and its process gone? What another run of the system
     /// left, or a process whose number says nothing here, can't be told from what is in use.
-    pub fn is_stray<R: Files>(self, rt: &R, alloc: Global, name: &str) -> Result<bool, AllocError> {
+    pub fn is_stray<R: Files>(self, rt: &R, alloc: Global, name: &str) -> Result<bool, AllocError>
+        ensures { IfOk result (λ is. is ≡ true → IsOutputName name.now) }
+    {
+        if !is_output_name(name) {
+            return Ok(false);
+        }
         let Some((number, system)) = owner_in(name) else {
             return Ok(false);
         };
@@ -65,6 +81,20 @@ impl ProcessFacts {
         }
         Ok(is_gone(rt, alloc, number)?)
     }
+
+    /// Is a file this user's own? What another left is not ours to remove.
+    pub fn owns(self, file: &Metadata) -> bool {
+        file.is_file() && self.user == Some(file.uid())
+    }
+}
+
+/// Does a name begin as those of unfinished outputs do?
+pub fn is_output_name(name: &str) -> bool
+    ensures { IsTrue result ↔ IsOutputName name.now }
+{
+    let front = FRONT.as_bytes();
+    let name = name.as_bytes();
+    name.len() >= front.len() && &name[..front.len()] == front
 }
 
 // The process and the system that the name of an unfinished output tells.
@@ -74,11 +104,22 @@ fn owner_in(name: &str) -> Option<(u32, u64)> {
     Some((number.parse().ok()?, u64::from_str_radix(system, 16).ok()?))
 }
 
-// Does no process of a number run?
+// Does no process of a number run? That is not known where those of others are hidden: then the first
+// one is too.
 fn is_gone<R: Files>(rt: &R, alloc: Global, number: u32) -> Result<bool, AllocError> {
     let folder = format!(in alloc; "{PROCESSES}/{number}")?;
-    let is_told = matches!(fs::exists(rt, "/proc/self"), Ok(true));
-    Ok(is_told && matches!(fs::exists(rt, &folder), Ok(false)))
+    let are_shown = is_there(rt, OWN) && is_there(rt, FIRST);
+    Ok(are_shown && matches!(fs::exists(rt, &folder), Ok(false)))
+}
+
+// Is something at a path, for sure?
+fn is_there<R: Files>(rt: &R, path: &str) -> bool {
+    matches!(fs::exists(rt, path), Ok(true))
+}
+
+// The user that this process runs as, if that is told.
+fn user_of<R: Files>(rt: &R) -> Option<u32> {
+    Some(fs::metadata(rt, OWN).ok()?.uid())
 }
 
 // A number that hardly any two texts have in common.

@@ -43,6 +43,9 @@ pub enum TroubleReason {
     /// The file was changed between its opening and its replacement.
     #[error("it was changed by somebody else while it was edited")]
     Changed,
+    /// The edit would do what it must not.
+    #[error("the edit would break a policy")]
+    Broken,
     /// A file has the name under which the old file was to be kept.
     #[error("the name of its backup is taken")]
     Kept,

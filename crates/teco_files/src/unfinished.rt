@@ -3,7 +3,7 @@ ghost use Rattle.std.specs.Prelude.{◌≡◌, ◌≤◌, ◌<◌, [], length, I
 ghost use Rattle.std.specs.Io.KnownBytes.{Keeps, WriteAppends};
 ghost use Rattle.teco_files.specs.Buffers.{unfinished_contents, unfinished_kept};
 
-use crate::backup::Backup;
+use crate::backup::{Backup, replace};
 use crate::comparing::is_same_file;
 use crate::descriptor::above_standard;
 use crate::identity::Identity;
@@ -14,7 +14,7 @@ use crate::target::{Target, folder_of};
 use crate::trouble::TroubleReason;
 use std::alloc::Global;
 use std::fs::{Files, OpenFile, OpenOptions, Permissions};
-use std::io::{BufWriter, Write};
+use std::io::{BufRead, BufReader, BufWriter, Write};
 use std::os::unix::fs::OpenOptionsExt;
 use std::time::{Clock, Duration};
 use std::{fs, io, str};
@@ -68,6 +68,8 @@ pub struct Finish<'a> {
     pub is_same: Option<bool>,
     /// How the file that it replaces is kept, if it is.
     pub backup: Option<&'a Backup>,
+    /// The bytes that the file that it replaces must have still, where they are known.
+    pub old: Option<&'a [u8]>,
 }
 
 /// An output that is not closed yet: a new file beside its target.
@@ -228,7 +230,7 @@ impl<F: OpenFile + Write + Drop> Unfinished<F> {
     }
 
     // Moves it over its target, which is kept first where that is asked for.
-    fn move_over<R: Files>(
+    fn move_over<R: System<File = F>>(
         &self,
         rt: &R,
         alloc: Global,
@@ -241,17 +243,8 @@ impl<F: OpenFile + Write + Drop> Unfinished<F> {
         if !self.is_in_place(rt) {
             return Err(TroubleReason::Taken);
         }
-        self.check_target(rt)?;
-        let kept = match how.backup {
-            Some(backup) => Some(backup.keep(rt, alloc, &self.target)?),
-            None => None,
-        };
-        if let Err(error) = fs::rename(rt, &self.beside, &self.target) {
-            if let Some(kept) = kept {
-                kept.undo(rt, &self.target);
-            }
-            return Err(TroubleReason::System(error));
-        }
+        self.check_target(rt, alloc, how.old)?;
+        replace(rt, alloc, how.backup, &self.beside, &self.target)?;
         if is_durable {
             // the name is there, and may only be lost with the power
             let _synced = sync_folder(rt, folder_of(&self.target));
@@ -259,14 +252,20 @@ impl<F: OpenFile + Write + Drop> Unfinished<F> {
         Ok(())
     }
 
-    // Is what it will replace still the file that it may replace, as it was?
-    fn check_target<R: Files>(&self, rt: &R) -> Result<(), TroubleReason> {
+    // Is what it will replace still the file that it may replace, as it was? A change through a mapping
+    // shows in its bytes alone.
+    fn check_target<R: Files>(
+        &self,
+        rt: &R,
+        alloc: Global,
+        old: Option<&[u8]>,
+    ) -> Result<(), TroubleReason> {
         let Some(only) = self.only else {
             return Ok(());
         };
         let found = Identity::of(&fs::symlink_metadata(rt, &self.target)?);
         if found == only {
-            Ok(())
+            check_bytes(rt, alloc, &self.target, old)
         } else if found.is_same_file(only) {
             Err(TroubleReason::Changed)
         } else {
@@ -318,6 +317,39 @@ pub struct Ended {
 enum Settled {
     Moved,
     Left(Closed),
+}
+
+// Refuses a file that has other bytes than those that it must have, where they are known.
+fn check_bytes<R: Files>(
+    rt: &R,
+    alloc: Global,
+    path: &str,
+    old: Option<&[u8]>,
+) -> Result<(), TroubleReason> {
+    let Some(mut rest) = old else {
+        return Ok(());
+    };
+    let mut file = BufReader::with_capacity(alloc, KEPT, fs::open(rt, path)?)?;
+    for _ in 0..u64::MAX {
+        let bytes = file.fill_buf()?;
+        let used = bytes.len();
+        match rest_behind(bytes, rest) {
+            Some(behind) if used > 0 => rest = behind,
+            Some(_) => return Ok(()),
+            None => break,
+        }
+        file.consume(used);
+    }
+    Err(TroubleReason::Changed)
+}
+
+// What is left of a text behind bytes that are its first, all of it where there are none and it is
+// at its end; none where they are others.
+fn rest_behind<'a>(bytes: &[u8], text: &'a [u8]) -> Option<&'a [u8]> {
+    if bytes.is_empty() {
+        return text.is_empty().then_some(text);
+    }
+    text.strip_prefix(bytes)
 }
 
 // Refuses a target that is not the one file that may be replaced.

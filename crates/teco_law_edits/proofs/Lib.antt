@@ -4,4 +4,3 @@ mod Running
 mod Pages
 mod Strict
 mod Bounds
-mod Frames

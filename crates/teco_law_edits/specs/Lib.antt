@@ -1,4 +1,3 @@
 pub mod Texts
 pub mod Strict
 pub mod Bounds
-pub mod Frames

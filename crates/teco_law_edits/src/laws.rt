@@ -1,11 +1,9 @@
 //! Laws of edits.
 ghost use Rattle.teco_law_edits.specs.Bounds.{StrictEditsAreBounded};
-ghost use Rattle.teco_law_edits.specs.Frames.{VerifiedRunsAreFramed};
 ghost use Rattle.teco_law_edits.specs.Strict.{StrictEditsCannotFail};
 ghost use Rattle.teco_law_edits.specs.Texts.{TextsEnd};
 
-use teco_law_runs::laws::{expansions_are_linked, runs_end_once};
-use teco_law_tables::laws::{runs_are_framed, runs_leave_below};
+use teco_law_runs::laws::runs_end_once;
 use teco_poly::laws::values_grow;
 
 /// Where each command string of an edit ends: those that turn pages, go to the start, and close.
@@ -28,14 +26,4 @@ pub fn strict_edits_are_bounded()
     ensures { StrictEditsAreBounded }
 {
     values_grow();
-}
-
-/// At the end of a verified run the registers that no element of its macro names are as they were,
-/// and so are the search mode and the push-down list below what it pushed.
-pub fn verified_runs_are_framed()
-    ensures { VerifiedRunsAreFramed }
-{
-    expansions_are_linked();
-    runs_are_framed();
-    runs_leave_below();
 }

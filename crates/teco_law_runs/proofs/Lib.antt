@@ -7,6 +7,7 @@ mod Visiting
 mod Linking
 mod Texts
 mod StayLoaded
+mod Shifting
 mod Iterations
 mod Leading
 pub mod Runs
@@ -23,3 +24,4 @@ pub mod Staying
 pub mod Sure
 pub mod Keeping
 pub mod Pending
+pub mod Framing

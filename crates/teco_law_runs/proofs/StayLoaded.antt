@@ -38,7 +38,7 @@ registers_keep k old = record {
       (keeps_number (named_by k) (written_by k) (sets_mode k) r (sym names) world.kept n);
   paired = λ world r pair names writes h. kept_on _ _ _ old world.kept _ h
       (keeps_other (named_by k) (written_by k) (sets_mode k) r (sym names) world.kept pair (sym writes));
-  stacked = λ world stack h. record { pairs = h.pairs; texts = h.texts; mode = h.mode };
+  stacked = λ world stack is h. record { pairs = h.pairs; texts = h.texts; mode = h.mode };
   moded = λ world mode sets h. record { pairs = h.pairs; texts = h.texts; mode = λ e. absurd (cc) };
   read = λ world h. h;
   written = λ world bytes h. h;

@@ -3,6 +3,7 @@ pub mod Turns
 pub mod Was
 pub mod Steps
 pub mod Loaded
+pub mod Framing
 pub mod Linked
 pub mod Iterations
 pub mod Places

@@ -1,6 +1,7 @@
 //! Laws of expansions, and of the runs along them.
 ghost use Rattle.teco_law_runs.specs.Alike.{ReadingsAreAlike, RunsAreAlike, StepsAreAlike};
 ghost use Rattle.teco_law_runs.specs.Ends.{IterationsEnd, LeftHaveEnded};
+ghost use Rattle.teco_law_runs.specs.Framing.{StepsShift};
 ghost use Rattle.teco_law_runs.specs.Given.{NumbersArePending};
 ghost use Rattle.teco_law_runs.specs.Iterations.{IterationsAreOpen};
 ghost use Rattle.teco_law_runs.specs.Keeping.{RunsLeaveOpen};
@@ -35,6 +36,11 @@ pub fn loading_loads()
 /// the search mode, unless it is set.
 pub fn steps_keep()
     ensures { StepsKeep }
+{}
+
+/// A step with `[` puts a pair on the push-down list, one with `]` takes one off, and any other keeps it.
+pub fn steps_shift()
+    ensures { StepsShift }
 {}
 
 /// A library stays loaded through each step that writes none of its registers.

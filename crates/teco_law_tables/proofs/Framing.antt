@@ -5,65 +5,17 @@ use Rattle.teco_law_tables.proofs.Prelude.{call_given, start_pending, AreOpen, s
 use Rattle.teco_law_tables.proofs.Prelude.{IsAsked, Reaches, run, Kept, Next, State, World, start, step}
 use Rattle.teco_law_tables.proofs.Prelude.{Node, numbered, position_of, position_of_frames, read_at, needs_in, CallLaws}
 use Rattle.teco_law_tables.proofs.Prelude.{other_next, one_step, reaches_later, reaches_none}
-use Rattle.std.proofs.Common.{◌≢◌}
-use Rattle.teco_law_runs.proofs.Runs.{last_step, over_reads}
-use Rattle.teco_law_runs.specs.Loaded.{KeepsBy, StepsKeep}
+use Rattle.teco_law_runs.proofs.Runs.{over_reads}
+use Rattle.teco_law_runs.specs.Loaded.{StepsKeep}
 use Rattle.teco_law_tables.proofs.Described as described
 use Rattle.teco_law_tables.proofs.Described.{at_first, ready_call}
 use Rattle.teco_law_tables.proofs.Ending as ending
 use Rattle.teco_law_tables.proofs.Ending.{ClosedCall, Course, course}
 use Rattle.teco_law_tables.proofs.Underway.{ElementsGo}
 use Rattle.teco_law_tables.proofs.Verifying as verifying
-use Rattle.teco_law_tables.specs.Framing.{IsFramed, NoneNames, NoneSetsMode, RunsAreFramed, named_in, sets_mode_in}
-
--- what is read is of a node, or nothing is
-data ReadsIn (nodes : List Node) (s : State) : Type 0 where
-  OfNode : (number : ℕ) (node : Node) → numbered nodes number ≡ Some node → read_at (position_of s) ≡ Ok node.element
-      → ReadsIn nodes s
-  OfNone : read_at (position_of s) ≡ Ok None → ReadsIn nodes s
-
--- ---- a step
-framed_by : (nodes : List Node) (read : Option Element) (old new : Kept)
-    → ((r : ℕ) → NoneNames nodes r → named_in read ≢ Some r) → (NoneSetsMode nodes → sets_mode_in read ≡ false)
-    → KeepsBy read old new → IsFramed nodes old new
-framed_by nodes None old new names sets keeps = record {
-  pairs = λ r none. keeps.pairs r (names r none);
-  mode = λ none. keeps.mode refl;
-}
-framed_by nodes (Some e) old new names sets keeps = record {
-  pairs = λ r none. keeps.pairs r (names r none);
-  mode = λ none. keeps.mode (sets none);
-}
-
-step_framed : StepsKeep → (nodes : List Node) (s t : State) → ReadsIn nodes s → step s ≡ Next t
-    → IsFramed nodes s.world.kept t.world.kept
-step_framed keep nodes s t (OfNode number node at reads) goes =
-    framed_by nodes node.element s.world.kept t.world.kept (λ r none. none number node at) (λ none. none number node at)
-    (keep s t node.element reads goes)
-step_framed keep nodes s t (OfNone reads) goes =
-    framed_by nodes None s.world.kept t.world.kept (λ r none e. absurd (cc)) (λ none. refl) (keep s t None reads goes)
-
--- ---- steps one after another
-unchanged : (nodes : List Node) (kept : Kept) → IsFramed nodes kept kept
-unchanged nodes kept = record { pairs = λ r none. refl; mode = λ none. refl }
-
-onward : (nodes : List Node) (a b c : Kept) → IsFramed nodes a b → IsFramed nodes b c → IsFramed nodes a c
-onward nodes a b c first next = record {
-  pairs = λ r none. next.pairs r none ∙ first.pairs r none;
-  mode = λ none. next.mode none ∙ first.mode none;
-}
-
-module _ (keep : StepsKeep) (nodes : List Node) (first : State)
-    (reads : (k : ℕ) (u : State) → Reaches k first u → ReadsIn nodes u) where
-  run_framed : (n : ℕ) (s : State) → Reaches n first s → IsFramed nodes first.world.kept s.world.kept
-  unfolding run
-  run_framed zero s came =
-      subst (λ (s : State). IsFramed nodes first.world.kept s.world.kept) (reaches_none first s came)
-      (unchanged nodes first.world.kept)
-  run_framed (suc n) s came =
-      let last = last_step (run n first) s came in
-      onward nodes first.world.kept last.last.world.kept s.world.kept (run_framed n last.last last.was)
-      (step_framed keep nodes last.last s (reads n last.last last.was) last.goes)
+use Rattle.teco_law_runs.proofs.Framing.{run_framed}
+use Rattle.teco_law_runs.specs.Framing.{IsFramed, OfNode, OfNone, ReadsIn}
+use Rattle.teco_law_tables.specs.Framing.{RunsAreFramed}
 
 -- ---- what is read on the way
 module _ (laws : ending.Laws) (c : Course)
@@ -96,7 +48,9 @@ module _ (laws : ending.Laws) (keep : StepsKeep) (call : ClosedCall)
 
     given_framed : (steps : ℕ) (s : State) → Reaches steps (start_given call.entry call.given call.world) s
         → IsFramed call.nodes call.world.kept s.world.kept
-    given_framed = run_framed keep call.nodes (start_given call.entry call.given call.world) reads_there
+    given_framed steps s =
+        run_framed keep call.nodes (start_given call.entry call.given call.world) steps s
+        (λ k u least. reads_there k u)
 
 -- ---- with the argument before the call
 module _ (calls : CallLaws) (nodes : List Node) (entry n : ℕ) (world : World) (named : entry < REGISTERS)
@@ -118,7 +72,7 @@ module _ (calls : CallLaws) (nodes : List Node) (entry n : ℕ) (world : World) 
   digits_framed : (steps : ℕ) (s : State) → Reaches steps first s → IsFramed nodes world.kept s.world.kept
   digits_framed zero s came =
       subst (λ (s : State). IsFramed nodes world.kept s.world.kept) (reaches_none first s came)
-      (unchanged nodes world.kept)
+      (record { pairs = λ r none. refl; mode = λ none. refl })
   digits_framed (suc k) s came =
       let later : suc k ≡ 1 + k = omega arith in
       behind_framed k s

@@ -36,7 +36,7 @@ pub use Rattle.teco_law_runs.specs.Was.{ElementWas, StepWas, Turns}
 pub use Rattle.teco_law_tables.specs.Ending.{ElementsPass, Passes, RunsEndInTime}
 pub use Rattle.teco_law_tables.specs.Following.{AreMore, AreOpened, IsDescribed, IsOpened, OpenTurn, begun_of, held_of}
 pub use Rattle.teco_law_tables.specs.Following.{loops_in, loops_of, open_loops, run_at, shown}
-pub use Rattle.teco_law_tables.specs.Framing.{LiesBelow}
+pub use Rattle.teco_law_runs.specs.Framing.{LiesBelow}
 pub use Rattle.teco_law_tables.specs.Laws.{TablesAreClosed}
 pub use Rattle.teco_law_tables.specs.Moving.{Again, Alone, Comes, ComesOn, IsLast, IsLong, MovesOn, On, Over, StepsMove}
 pub use Rattle.teco_law_tables.specs.Moving.{left_along, left_by_flow, left_by_kind, run_along, run_by_flow}

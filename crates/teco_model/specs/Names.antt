@@ -57,6 +57,11 @@ written_by (kind.Stack s) = written_by_stack s
 written_by (kind.Command c) = written_by_command c
 written_by k = None
 
+-- [ and ] alone push and pop
+abbrev pub is_of_stack : Kind → Bool
+is_of_stack (kind.Stack s) = true
+is_of_stack k = false
+
 -- ^X may set the search mode
 abbrev pub sets_mode : Kind → Bool
 sets_mode (kind.Query query.Mode) = true

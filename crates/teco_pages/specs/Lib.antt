@@ -1,2 +1,4 @@
 -- The words that the contracts of this crate are written in.
 pub mod Kept
+pub mod Policies
+pub mod Texts

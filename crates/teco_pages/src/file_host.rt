@@ -1,21 +1,25 @@
 //! A host of the files of the system.
-ghost use Rattle.std.specs.Prelude.{◌≡◌, ◌≤◌, ◌<◌, ◌+◌, [], suc, length, IfOk, IfSome, IsErr};
+ghost use Rattle.std.specs.Prelude.{◌≡◌, ◌≤◌, ◌<◌, ◌+◌, ◌∷◌, [], suc, length, IfOk, IfSome, IsErr};
 ghost use Rattle.teco_files.specs.Buffers.{source_told};
-ghost use Rattle.teco_hosts.specs.HostFiles.{Notes};
+ghost use Rattle.teco_hosts.specs.Events.{dropped};
+ghost use Rattle.teco_hosts.specs.HostFiles.{Becomes, Notes, after_dropping};
+ghost use Rattle.teco_hosts.specs.Noting.{NotesJust};
 ghost use Rattle.teco_pages.specs.Kept.{output_contents};
+ghost use Rattle.teco_pages.specs.Texts.{AreNoted, edit_texts, noted_texts};
 ghost use Rattle.teco_base.specs.declared.TheConstants.{LIMIT};
 ghost use Rattle.std.specs.Io.KnownBytes.{WriteAppends};
 
 mod calls;
 
 use self::calls::Calls;
+use crate::texts::{Texts, no_texts, open_input, open_output, read, write};
 use std::alloc::Global;
 use std::fs::{Files, OpenFile};
 use std::io::{Read, Write};
 use teco_base::LIMIT;
 use teco_files::{
-    Backup, Closed, Closing, Ended, Finish, Handling, Identity, Likeness, ProcessFacts, Purpose,
-    ReadFile, System, Trouble, TroubleReason, Unfinished, folder_of,
+    Backup, Closed, Closing, Ended, Finish, Handling, Identity, ProcessFacts, Purpose, ReadFile,
+    System, Trouble, TroubleReason, Unfinished, folder_of,
 };
 use teco_hosts::{Failed, Host};
 
@@ -44,6 +48,9 @@ const REPLACING: Handling = Handling {
 /// Where outputs are compared with their targets none is closed, and one that is dropped is compared
 /// first.
 ///
+/// Where what is read and written is kept, an output replaces no file that has other bytes by then than
+/// those that were read.
+///
 /// Where an output is dropped, and where the host is dropped with one open, the new file is
 /// removed; one that another file has taken the place of is neither moved nor removed. The name of
 /// a new file tells its process, so that what a killed one left can be told and removed. A write past
@@ -66,10 +73,12 @@ pub struct FileHost<R: System> {
     output: Option<Unfinished<R::File>>,
     handling: Handling,
     backup: Option<Backup>,
-    likeness: Likeness,
+    // what was read and written, where that is kept
+    texts: Option<Texts>,
     ended: Option<Ended>,
     calls: Calls,
     ghost within: { given ≤ LIMIT },
+    ghost noted: { AreNoted calls.history.events texts },
 }
 
 impl<R: System> FileHost<R> {
@@ -87,7 +96,7 @@ impl<R: System> FileHost<R> {
             output: None,
             handling: REPLACING,
             backup: None,
-            likeness: Likeness::new(alloc),
+            texts: None,
             ended: None,
             calls: Calls::new(alloc),
         }
@@ -121,6 +130,44 @@ impl<R: System> FileHost<R> {
         self.handling.closing = closing;
     }
 
+    /// From now on what is read and written is kept, as far as there is memory for it.
+    pub fn keep_texts(&mut self)
+        requires fresh { ⟦<FileHost<R> as Host>⟧.files self.old ≡ Notes [] }
+        ensures noted { ⟦<FileHost<R> as Host>⟧.files self.new ≡ Notes [] }
+        ensures failures { ⟦<FileHost<R> as Host>⟧.failures self.new ≡ ⟦<FileHost<R> as Host>⟧.failures self.old }
+    {
+        self.texts = no_texts(self.alloc);
+    }
+
+    /// What was read and written, where that is kept.
+    pub fn texts(&self) -> Option<&Texts>
+        ensures { IfSome result (λ texts. edit_texts texts.now ≡ noted_texts (⟦<FileHost<R> as Host>⟧.files self.now)) }
+    {
+        self.texts.as_ref()
+    }
+
+    /// Is an output open?
+    pub fn has_output(&self) -> bool {
+        self.output.is_some()
+    }
+
+    /// Drops the output, which can't be closed for this reason.
+    pub fn refuse_out(&mut self, reason: TroubleReason) -> Result<(), Failed>
+        ensures failed { IsErr result }
+        ensures noted { NotesJust (dropped ∷ []) (⟦<FileHost<R> as Host>⟧.files self.old)
+            (⟦<FileHost<R> as Host>⟧.files self.new) }
+        ensures files { Becomes after_dropping (⟦<FileHost<R> as Host>⟧.files self.old)
+            (⟦<FileHost<R> as Host>⟧.files self.new) }
+        ensures counted { ⟦<FileHost<R> as Host>⟧.failures self.new
+            ≡ suc (⟦<FileHost<R> as Host>⟧.failures self.old) }
+        ensures given { ⟦<FileHost<R> as Host>⟧.given self.new ≡ ⟦<FileHost<R> as Host>⟧.given self.old }
+    {
+        self.calls.history.dropped();
+        let output = self.output.take();
+        let _removed = abandon(&self.rt, output);
+        self.calls.cannot_use(Purpose::CloseOutput, reason)
+    }
+
     /// What became of the output that was closed last, or compared and dropped.
     pub fn closed(&self) -> Option<Closed> {
         Some(self.ended.as_ref()?.closed)
@@ -141,8 +188,9 @@ impl<R: System> FileHost<R> {
     fn finish(&self) -> Finish<'_> {
         Finish {
             handling: self.handling,
-            is_same: is_same(&self.likeness, &self.input, self.handling),
+            is_same: is_same(self.texts.as_ref(), self.input.as_ref()),
             backup: self.backup.as_ref(),
+            old: self.texts.as_ref().map(|texts| texts.old.as_slice()),
         }
     }
 
@@ -169,7 +217,7 @@ impl<R: System> Drop for FileHost<R> {
             output,
             handling: _,
             backup: _,
-            likeness: _,
+            texts: _,
             ended: _,
             calls: _,
         } = self;
@@ -189,7 +237,7 @@ impl<R: System> Host for FileHost<R> {
             Ok(file) => {
                 self.input = Some(file);
                 self.given = 0;
-                self.likeness = Likeness::new(self.alloc);
+                open_input(&mut self.texts, name);
                 self.calls.opened_input(name);
                 Ok(())
             }
@@ -201,7 +249,7 @@ impl<R: System> Host for FileHost<R> {
         match read_some(&mut self.input, self.given, buf) {
             Ok(n) => {
                 self.given += n;
-                note_given(&mut self.likeness, self.handling, buf, n);
+                read(&mut self.texts, buf, n);
                 self.calls.history.gave(buf, n);
                 Ok(n)
             }
@@ -219,7 +267,7 @@ impl<R: System> Host for FileHost<R> {
         };
         match begin_output(&self.rt, self.alloc, &mut self.output, begin) {
             Ok(()) => {
-                self.likeness.begin();
+                open_output(&mut self.texts, name);
                 self.calls.opened_output(name);
                 Ok(())
             }
@@ -230,7 +278,7 @@ impl<R: System> Host for FileHost<R> {
     fn write(&mut self, bytes: &[u8]) -> Result<usize, Failed> {
         match write_some(&mut self.output, bytes) {
             Ok(n) => {
-                note_written(&mut self.likeness, self.handling, bytes, n);
+                write(&mut self.texts, bytes, n);
                 self.calls.history.wrote(bytes, n);
                 Ok(n)
             }
@@ -296,29 +344,16 @@ fn only_of<F: OpenFile + Read + Drop>(
     }
 }
 
-// Notes bytes that were read, where files are edited in place.
-fn note_given(likeness: &mut Likeness, handling: Handling, buf: &[u8], n: usize) {
-    if handling.in_place {
-        likeness.gave(buf.get(..n).unwrap_or(&[]));
-    }
-}
-
-// Notes bytes that were written, where files are edited in place.
-fn note_written(likeness: &mut Likeness, handling: Handling, bytes: &[u8], n: usize) {
-    if handling.in_place {
-        likeness.wrote(bytes.get(..n).unwrap_or(&[]));
-    }
-}
-
 // Does an output have the bytes of the input that it replaces, if that can be told?
 fn is_same<F: OpenFile + Read + Drop>(
-    likeness: &Likeness,
-    input: &Option<ReadFile<F>>,
-    handling: Handling,
+    texts: Option<&Texts>,
+    input: Option<&ReadFile<F>>,
 ) -> Option<bool> {
-    match input {
-        Some(file) if handling.in_place => likeness.is_all_of(file.length()),
-        _ => None,
+    let Texts { old, new } = texts?;
+    if input?.length()? == old.len() as u64 {
+        Some(old.as_slice() == new.as_slice())
+    } else {
+        None
     }
 }
 

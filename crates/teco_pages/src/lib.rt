@@ -2,10 +2,14 @@
 #![tactic(auto)]
 
 mod file_host;
+mod policy_host;
+mod texts;
 
 pub use file_host::FileHost;
+pub use policy_host::{Broken, EditTerms, PolicyHost};
 pub use teco_files::{
-    Backup, Closed, Closing, Handling, ProcessFacts, Purpose, System, Trouble, TroubleReason,
-    folder_of, remove_strays, sync_folder,
+    Backup, Closed, Closing, FolderFiles, Handling, ProcessFacts, Purpose, System, Trouble,
+    TroubleReason, folder_of, remove_strays, sync_folder,
 };
 pub use teco_hosts::{Count, Failed, Fault, History, Host, HostCall, MemHost, Pages, TestHost};
+pub use texts::Texts;

@@ -3,8 +3,8 @@ use Rattle.teco_paths.proofs.Prelude.{◌≡◌, ℕ, zero, suc, ◌+◌, ◌≤
 use Rattle.teco_paths.proofs.Prelude.{Option, Some, None, option_map, List, [], ◌∷◌, map, All, option_map_or, REGISTERS}
 use Rattle.teco_paths.proofs.Prelude.{AreLinked, AreOpen, Library, ArgumentRange, IsAsked, IsLoaded, Needs, Reaches}
 use Rattle.teco_paths.proofs.Prelude.{State, Case, point_of, CutState, IsCaseOf, IsEntered, IsEntryCut, Course}
-use Rattle.teco_paths.proofs.Prelude.{IsFollowed, Leads, Ground, IsAt, EndsBy, held_in, IsCertain, numbers_of}
-use Rattle.teco_paths.proofs.Prelude.{Polynomial, IsHeldWithin, IsWithin, most_with, Node, steps_before}
+use Rattle.teco_paths.proofs.Prelude.{IsFollowed, Leads, Ground, IsAt, EndsBy, IsCertain, Point, Describes, numbers_of}
+use Rattle.teco_paths.proofs.Prelude.{IsWithin, most_with, Node, steps_before}
 use Rattle.std.specs.Prelude.{slice_index_or}
 use Rattle.teco_law_runs.specs.Given.{call_given, start_pending, BeginsPending, start_given}
 use Rattle.teco_law_runs.proofs.Pending.{CallLaws, argument_whole, ends_given, none_given, other_next}
@@ -17,8 +17,13 @@ use Rattle.teco_model.specs.State.{Kept, World, start}
 use Rattle.teco_flow_outcomes.specs.Law.{unread_in}
 use Rattle.teco_paths.specs.Entry.{HaveLengths}
 use Rattle.teco_paths.specs.Paths as paths
-use Rattle.teco_paths.specs.Sure.{AreLengths, CertainEnd, RunBounds, bounds_of}
-use Rattle.teco_promise.specs.Promise.{held_of}
+use Rattle.teco_law_runs.specs.Framing.{LeavesFramed, StepsShift}
+use Rattle.teco_law_runs.specs.Loaded.{StepsKeep}
+use Rattle.teco_law_runs.proofs.Framing.{run_leaves_framed}
+use Rattle.teco_paths.specs.Claims.{AreSaid, IsSaid}
+use Rattle.teco_paths.specs.Runs.{Limits}
+use Rattle.teco_paths.specs.Sure.{AreLengths, CertainEnd, RunBounds, bounds_of, ground_of, limits_in}
+use Rattle.teco_promise.specs.Promise.{EndsInBounds, held_of}
 use Rattle.teco_paths.proofs.Ending.{run_ends}
 use Rattle.teco_poly.specs.Polynomial.{value}
 use Rattle.teco_verifier.specs.expansion.Node.{beginning}
@@ -43,23 +48,13 @@ have_lengths library lengths kept are loaded r long h =
 
 module _ (course : Course) (argument : Option ArgumentRange) (cut : CutState) (case : Case)
     (is_case : IsCaseOf course.size cut case) (is_entry : IsEntryCut course.lengths argument cut)
-    (leads : Leads course 1 1 case)
+    (leads : Leads course 1 case) (said : AreSaid course.cuts 1 case)
     (followed : All (IsFollowed course) course.cuts) (library : Library) (entry : ℕ) (given : Option ℕ) (world : World)
     (long : AreLengths course.lengths library) (linked : AreLinked library entry course.nodes)
     (asked : IsAsked argument given) (ready : IsReady library entry course.size (n_of world) world)
     (opened : AreOpen course.needs world.files) where
   abbrev ground : Ground
-  ground = record {
-    library = library;
-    entry = entry;
-    n = n_of world;
-    origin = record {
-      pushes = length world.kept.registers.stack;
-      typed = length world.kept.typed;
-      held = held_of world;
-    };
-    needs = course.needs;
-  }
+  ground = ground_of library entry course.needs world
 
   abbrev first : State
   first = start_given entry given world
@@ -91,95 +86,143 @@ module _ (course : Course) (argument : Option ArgumentRange) (cut : CutState) (c
     all = ap (λ k. length world.kept.text + k) (sym (same_unread world.files.input));
   }
 
+  described : Describes (n_of world) case (point_of (steps_before argument) ground.origin first)
+  described = (
+    numbers_of (point_of (steps_before argument) ground.origin first),
+    is_case (n_of world) _ ready.whole.kept ready.small (is_entry (n_of world) given _ entered),
+  )
+
   pub pending_ends : paths.Ends course ground (steps_before argument) first
   pending_ends =
       run_ends course ground (record { linked = linked; needs = refl; room = ready.small }) followed 1
-      (steps_before argument) case first leads at (
-        numbers_of (point_of (steps_before argument) ground.origin first),
-        is_case (n_of world) _ ready.whole.kept ready.small (is_entry (n_of world) given _ entered),
-      )
+      (steps_before argument) case first leads at described
+      (said (n_of world) (point_of (steps_before argument) ground.origin first) described)
 
--- ---- the digits before the call
-module _ (laws : CallLaws) (entry n : ℕ) (world : World) (most size : ℕ) (grown typed : Option ℕ)
-    (named : entry < REGISTERS) (small : n < 2 ^ 31)
-    (ends : EndsBy most size grown typed 1 (start_pending entry n world)) where
+pub certain : (course : Course) (argument : Option ArgumentRange) (cut : CutState) (case : Case)
+    → IsCaseOf course.size cut case → IsEntryCut course.lengths argument cut
+    → Leads course 1 case → AreSaid course.cuts 1 case → All (IsFollowed course) course.cuts
+    → IsCertain course.nodes course.lengths argument course.needs (bounds_of course) course.cuts
+certain course argument cut case is_case is_entry leads said followed library entry given world long linked asked ready
+    opened =
+    pending_ends course argument cut case is_case is_entry leads said followed library entry given world long linked
+    asked ready opened
+
+-- ---- what that says of the whole run
+in_world : (grown : Option ℕ) (w : World) → IsWithin grown (length w.kept.text + unread_in w.files.input)
+    → IsWithin grown (held_of w)
+in_world grown w within =
+    subst (λ unread. IsWithin grown (length w.kept.text + unread)) (same_unread w.files.input) within
+
+-- the laws of runs that it stands on
+pub record Laws : Type 0 where
+  pub calls : CallLaws
+  pub keep : StepsKeep
+  pub shift : StepsShift
+
+module _ (laws : Laws) (nodes : List Node) (library : Library) (needs : Needs) (entry : ℕ) (world : World)
+    (limits : Limits) (Says : ℕ → Point → Type 0) (given : Option ℕ) (steps : ℕ)
+    (ends : EndsBy nodes (ground_of library entry needs world) limits Says steps (start_given entry given world)) where
+  abbrev pending : State
+  pending = start_given entry given world
+
+  abbrev Within : World → Type 0
+  Within w = IsWithin limits.grown (held_of w)
+
+  within_on : (k : ℕ) (t : State) → k ≤ ends.more → Reaches k pending t → Within t.world
+  within_on k t least r = in_world limits.grown t.world (ends.underway k t least r).held.grows
+
+  within_end : Within ends.last.world
+  within_end = within_on ends.more ends.last (omega arith) ends.comes
+
+  framed : LeavesFramed nodes world.kept ends.last.world.kept
+  framed =
+      run_leaves_framed laws.keep laws.shift nodes pending ends.more ends.last
+      (λ k u l r. (ends.underway k u l r).reads) (λ k u l r. (ends.underway k u l r).above) ends.comes
+
+  over : Ends pending ends.more ends.last.world
+  over = record { last = ends.last; steps = ends.comes; end = ends.ends }
+
+  -- no argument is given
+  pub none_before : steps ≡ 0 → EndsInBounds nodes pending limits.most limits.grown limits.typed
+  none_before none = record {
+    ends = record {
+      steps = ends.more;
+      new = ends.last.world;
+      few = omega (arith, none, ends.within);
+      none = ends.none;
+      ends = over;
+    };
+    on_the_way = within_on;
+    at_the_end = within_end;
+    types = ends.types;
+    framed = framed;
+  }
+
+-- the digits of the argument stand before the call
+module _ (laws : Laws) (nodes : List Node) (library : Library) (needs : Needs) (entry : ℕ) (world : World)
+    (limits : Limits) (Says : ℕ → Point → Type 0) (n : ℕ) (named : entry < REGISTERS) (small : n < 2 ^ 31)
+    (ends : EndsBy nodes (ground_of library entry needs world) limits Says 1 (start_pending entry n world)) where
   abbrev called : State
   called = start (call_given entry (Some n)) world
 
   digits : BeginsPending entry n world
-  digits = laws.pending entry n world named small
+  digits = laws.calls.pending entry n world named small
 
-  held_behind : (k : ℕ) (u : State) → k ≤ ends.more → Reaches k digits.behind u
-      → IsHeldWithin size grown (held_in u)
+  abbrev Pending : State → Type 0
+  Pending t = IsWithin limits.grown (held_of t.world)
+
+  pending_on : (k : ℕ) (t : State) → k ≤ ends.more → Reaches k (start_pending entry n world) t → Pending t
+  pending_on = within_on laws nodes library needs entry world limits Says (Some n) 1 ends
+
+  held_behind : (k : ℕ) (u : State) → k ≤ ends.more → Reaches k digits.behind u → Pending u
   held_behind k u least came =
-      let there = other_next _ _ u (laws.runs k digits.behind (start_pending entry n world) digits.alike) came in
-      subst (λ (w : World). IsHeldWithin size grown (length w.kept.text + unread_in w.files.input))
-      (sym there.alike.world)
-      (ends.small k there.state least there.is)
+      let there =
+      other_next _ _ u (laws.calls.runs k digits.behind (start_pending entry n world) digits.alike) came in
+      subst (λ (w : World). IsWithin limits.grown (held_of w)) (sym there.alike.world)
+      (pending_on k there.state least there.is)
 
-  held_on : (k : ℕ) (u : State) → k ≤ 1 + ends.more → Reaches k called u → IsHeldWithin size grown (held_in u)
+  held_on : (k : ℕ) (u : State) → k ≤ 1 + ends.more → Reaches k called u → Pending u
   held_on zero u least r =
-      subst (λ v. IsHeldWithin size grown (held_in v)) (reaches_none called u r)
-      (ends.small 0 (start_pending entry n world) (omega arith) (reaches_here (start_pending entry n world)))
+      subst Pending (reaches_none called u r)
+      (pending_on 0 (start_pending entry n world) (omega arith) (reaches_here (start_pending entry n world)))
   held_on (suc k) u least r =
       let e : suc k ≡ 1 + k = omega arith in
       held_behind k u (omega (arith, least))
       (reaches_later 1 k called digits.behind u (one_step called digits.behind digits.goes)
       (subst (λ k. Reaches k called u) e r))
 
-  pub digits_end : EndsBy most size grown typed 0 called
-  digits_end = record {
-    more = 1 + ends.more;
-    new = ends.new;
-    within = omega (arith, ends.within);
-    none = none_given laws entry n world named small ends.more ends.none;
-    small = held_on;
-    left_small = ends.left_small;
+  pub digits_before : EndsInBounds nodes called limits.most limits.grown limits.typed
+  digits_before = record {
+    ends = record {
+      steps = 1 + ends.more;
+      new = ends.last.world;
+      few = ends.within;
+      none = none_given laws.calls entry n world named small ends.more ends.none;
+      ends = ends_given laws.calls entry n world named small ends.more ends.last.world
+          (over laws nodes library needs entry world limits Says (Some n) 1 ends);
+    };
+    on_the_way = held_on;
+    at_the_end = within_end laws nodes library needs entry world limits Says (Some n) 1 ends;
     types = ends.types;
-    ends = ends_given laws entry n world named small ends.more ends.new ends.ends;
+    framed = framed laws nodes library needs entry world limits Says (Some n) 1 ends;
   }
 
-in_all : (laws : CallLaws) (entry : ℕ) (argument : Option ArgumentRange) (given : Option ℕ) (world : World)
-    (most size : ℕ) (grown typed : Option ℕ)
+in_all : (laws : Laws) (nodes : List Node) (library : Library) (needs : Needs) (entry : ℕ) (world : World)
+    (limits : Limits) (Says : ℕ → Point → Type 0) (argument : Option ArgumentRange) (given : Option ℕ)
     → entry < REGISTERS → IsAsked argument given
-    → EndsBy most size grown typed (steps_before argument) (start_given entry given world)
-    → EndsBy most size grown typed 0 (start (call_given entry given) world)
-in_all laws entry None None world most size grown typed named asked ends = ends
-in_all laws entry (Some range) (Some n) world most size grown typed named asked ends =
-    digits_end laws entry n world most size grown typed named asked.small ends
-in_all laws entry argument given world most size grown typed named asked ends = absurd (grind arith)
+    → EndsBy nodes (ground_of library entry needs world) limits Says (steps_before argument)
+    (start_given entry given world)
+    → EndsInBounds nodes (start (call_given entry given) world) limits.most limits.grown limits.typed
+in_all laws nodes library needs entry world limits Says None None named asked ends =
+    none_before laws nodes library needs entry world limits Says None 0 ends refl
+in_all laws nodes library needs entry world limits Says (Some range) (Some n) named asked ends =
+    digits_before laws nodes library needs entry world limits Says n named asked.small ends
+in_all laws nodes library needs entry world limits Says argument given named asked ends = absurd (grind arith)
 
-pub certain : CallLaws → (course : Course) (argument : Option ArgumentRange) (cut : CutState) (case : Case)
-    → IsCaseOf course.size cut case → IsEntryCut course.lengths argument cut → Leads course 1 1 case
-    → All (IsFollowed course) course.cuts
-    → IsCertain course.nodes course.lengths argument course.needs (bounds_of course)
-certain laws course argument cut case is_case is_entry leads followed library entry given world long linked asked ready
-    opened =
-    in_all laws entry argument given world _ _ _ _ ready.named asked
-    (pending_ends course argument cut case is_case is_entry leads followed library entry given world long linked asked
-    ready opened)
-
-in_world : (grown : Option ℕ) (w : World) → IsWithin grown (length w.kept.text + unread_in w.files.input)
-    → IsWithin grown (held_of w)
-in_world grown w within =
-    subst (λ unread. IsWithin grown (length w.kept.text + unread)) (same_unread w.files.input) within
-
-pub certain_end : CertainEnd
-certain_end nodes lengths argument needs bounds is library entry given world long linked asked ready opened =
-    let ends = is library entry given world long linked asked ready opened in
-    let grown = most_with bounds.grows (n_of world) (held_of world) in
-    record {
-      ends = record {
-        steps = ends.more;
-        new = ends.new;
-        few = omega (arith, ends.within);
-        none = ends.none;
-        ends = ends.ends;
-      };
-      on_the_way = λ k t least r. in_world grown t.world (ends.small k t least r).grows;
-      at_the_end = in_world grown ends.new ends.left_small.grows;
-      types = ends.types;
-    }
+pub certain_end : Laws → CertainEnd
+certain_end laws nodes lengths argument needs bounds cuts is library entry given world long linked asked ready opened =
+    in_all laws nodes library needs entry world (limits_in bounds world) (IsSaid cuts (n_of world)) argument given
+    ready.named asked (is library entry given world long linked asked ready opened)
 
 -- bounds that have the same values
 pub record AreSameBounds (one other : RunBounds) : Type 0 where
@@ -188,27 +231,29 @@ pub record AreSameBounds (one other : RunBounds) : Type 0 where
   pub grows : (n before : ℕ) → most_with one.grows n before ≡ most_with other.grows n before
   pub types : (n before : ℕ) → most_with one.types n before ≡ most_with other.types n before
 
+same_limits : (one other : RunBounds) (world : World) → AreSameBounds one other
+    → limits_in one world ≡ limits_in other world
+same_limits one other world same =
+    let n = n_of world in
+    rw (
+      same.commands n,
+      same.size n,
+      same.grows n (held_of world),
+      same.types n (length world.kept.typed),
+    ) refl
+
 pub certain_as : (nodes : List Node) (lengths : List (Option ℕ)) (argument : Option ArgumentRange) (needs : Needs)
-    (one other : RunBounds) → AreSameBounds one other
-    → IsCertain nodes lengths argument needs one → IsCertain nodes lengths argument needs other
-certain_as nodes lengths argument needs one other same is library entry given world long linked asked ready opened =
-    let ends = is library entry given world long linked asked (record {
+    (one other : RunBounds) (cuts : List CutState) → AreSameBounds one other
+    → IsCertain nodes lengths argument needs one cuts → IsCertain nodes lengths argument needs other cuts
+certain_as nodes lengths argument needs one other cuts same is library entry given world long linked asked ready
+    opened =
+    subst (λ limits. EndsBy nodes (ground_of library entry needs world) limits (IsSaid cuts (n_of world))
+    (steps_before argument) (start_given entry given world)) (same_limits one other world same)
+    (is library entry given world long linked asked (record {
       named = ready.named;
       loaded = ready.loaded;
       whole = ready.whole;
       call = ready.call;
       begins = ready.begins;
       small = omega (arith, same.size (n_of world), ready.small);
-    }) opened in
-    let n = n_of world in
-    let first = start (call_given entry given) world in
-    let held = held_of world in
-    let typed = length world.kept.typed in
-    subst (λ m. EndsBy m (value other.size n) (most_with other.grows n held) (most_with other.types n typed) 0 first)
-    (same.commands n)
-    (subst (λ m. EndsBy (value one.commands n) m (most_with other.grows n held) (most_with other.types n typed) 0 first)
-    (same.size n)
-    (subst (λ m. EndsBy (value one.commands n) (value one.size n) m (most_with other.types n typed) 0 first)
-    (same.grows n held)
-    (subst (λ m. EndsBy (value one.commands n) (value one.size n) (most_with one.grows n held) m 0 first)
-    (same.types n typed) ends)))
+    }) opened)

@@ -1,8 +1,10 @@
 -- Runs end from cut points.
 use Rattle.teco_paths.proofs.Prelude.{◌≡◌, ◌⊎◌, inl, inr, ℕ, zero, suc, ◌+◌, ◌-◌, ◌<◌, ◌≤◌, Option, sym, subst, arith}
-use Rattle.teco_paths.proofs.Prelude.{cases_order, All, Any, NoFileCommands, Reaches, State, step, Case, point_of}
-use Rattle.teco_paths.proofs.Prelude.{Describes, Course, Ends, IsFollowed, Leads, Ground, IsAt, EndsBy, held_in}
-use Rattle.teco_paths.proofs.Prelude.{IsHeldWithin, IsWithin, None, Some, length}
+use Rattle.teco_paths.proofs.Prelude.{cases_order, All, Any, NoFileCommands, Reaches, State, step, point_of}
+use Rattle.teco_paths.proofs.Prelude.{Describes, Course, Ends, IsFollowed, Leads, Case, Ground, IsAt, EndsBy, Point}
+use Rattle.teco_paths.proofs.Prelude.{IsHeldWithin, IsWithin, List, None, Some, Node, length, refl}
+use Rattle.teco_paths.specs.Claims.{IsSaid}
+use Rattle.teco_paths.specs.Runs.{IsUnderway, Limits}
 use Rattle.teco_law_runs.proofs.Walking.{none_on, none_yet, reaches_here, reaches_later, reaches_none, reaches_on}
 use Rattle.teco_model.specs.State.{End}
 use Rattle.teco_paths.specs.Paths.{IsAtCut, IsOf, CutsEnd}
@@ -20,58 +22,59 @@ held_down size grown more less l w = record {
   grows = within_down grown more less l w.grows;
 }
 
--- at the end
-small_at : (size : ℕ) (grown : Option ℕ) (s t : State) (k : ℕ) → k ≤ 0 → Reaches k s t
-    → IsHeldWithin size grown (held_in s) → IsHeldWithin size grown (held_in t)
-small_at size grown s t zero least r small =
-    subst (λ u. IsHeldWithin size grown (held_in u)) (reaches_none s t r) small
-small_at size grown s t (suc k) least r small = absurd (omega (arith, least))
+module _ (nodes : List Node) (ground : Ground) (limits : Limits) (Says : ℕ → Point → Type 0) where
+  abbrev Underway : ℕ → State → Type 0
+  Underway = IsUnderway nodes ground limits Says
 
-pub ends_here : (most size : ℕ) (grown typed : Option ℕ) (steps : ℕ) (s : State) → step s ≡ End s.world
-    → steps ≤ most → IsHeldWithin size grown (held_in s) → IsWithin typed (length s.world.kept.typed)
-    → EndsBy most size grown typed steps s
-ends_here most size grown typed steps s over within small types = record {
-  more = 0;
-  new = s.world;
-  within = omega (arith, within);
-  none = none_yet s;
-  small = λ k t least r. small_at size grown s t k least r small;
-  left_small = small;
-  types = types;
-  ends = record { last = s; steps = reaches_here s; end = over };
-}
+  -- at the end
+  here_alone : (steps : ℕ) (s t : State) (k : ℕ) → k ≤ 0 → Reaches k s t → Underway steps s → Underway (steps + k) t
+  here_alone steps s t zero least r here =
+      let e : steps ≡ steps + 0 = omega arith in
+      subst (λ k. Underway k t) e (subst (Underway steps) (reaches_none s t r) here)
+  here_alone steps s t (suc k) least r here = absurd (omega (arith, least))
 
--- some steps before it
-module _ (most size : ℕ) (grown typed : Option ℕ) (steps j : ℕ) (s t : State) (came : Reaches j s t)
-    (small : (k : ℕ) (u : State) → k < j → Reaches k s u → IsHeldWithin size grown (held_in u))
-    (later : EndsBy most size grown typed (steps + j) t)
-  where
-    small_on : (k : ℕ) (u : State) → k ≤ j + later.more → Reaches k s u → IsHeldWithin size grown (held_in u)
-    small_on k u least r = by (cases_order k j)
+  pub ends_here : (steps : ℕ) (s : State) → step s ≡ End s.world → steps ≤ limits.most → Underway steps s
+      → IsWithin limits.typed (length s.world.kept.typed) → EndsBy nodes ground limits Says steps s
+  ends_here steps s over within here types = record {
+    more = 0;
+    last = s;
+    within = omega (arith, within);
+    none = none_yet s;
+    underway = λ k t least r. here_alone steps s t k least r here;
+    types = types;
+    comes = reaches_here s;
+    ends = over;
+  }
+
+  -- some steps before it
+  module _ (steps j : ℕ) (s t : State) (came : Reaches j s t)
+      (before : (k : ℕ) (u : State) → k < j → Reaches k s u → Underway (steps + k) u)
+      (later : EndsBy nodes ground limits Says (steps + j) t) where
+    underway_on : (k : ℕ) (u : State) → k ≤ j + later.more → Reaches k s u → Underway (steps + k) u
+    underway_on k u least r = by (cases_order k j)
       where
-        behind : (i : ℕ) → k ≡ j + i → IsHeldWithin size grown (held_in u)
+        behind : (i : ℕ) → k ≡ j + i → Underway (steps + k) u
         behind i e =
-            later.small i u (omega (arith, least, e)) (reaches_later j i s t u came (subst (λ k. Reaches k s u) e r))
+            let z : (steps + j) + i ≡ steps + k = omega (arith, e) in
+            subst (λ k. Underway k u) z
+            (later.underway i u (omega (arith, least, e))
+            (reaches_later j i s t u came (subst (λ k. Reaches k s u) e r)))
 
-        by : (k ≡ j) ⊎ ((k < j) ⊎ (j < k)) → IsHeldWithin size grown (held_in u)
+        by : (k ≡ j) ⊎ ((k < j) ⊎ (j < k)) → Underway (steps + k) u
         by (inl e) = behind 0 (omega (arith, e))
-        by (inr (inl less)) = small k u less r
+        by (inr (inl less)) = before k u less r
         by (inr (inr more)) = behind (k - j) (omega (arith, more))
 
-    pub ends_on : NoFileCommands s j → EndsBy most size grown typed steps s
+    pub ends_on : NoFileCommands s j → EndsBy nodes ground limits Says steps s
     ends_on none = record {
       more = j + later.more;
-      new = later.new;
+      last = later.last;
       within = omega (arith, later.within);
       none = none_on j later.more s t none came later.none;
-      small = small_on;
-      left_small = later.left_small;
+      underway = underway_on;
       types = later.types;
-      ends = record {
-        last = later.ends.last;
-        steps = reaches_on j later.more s t later.ends.last came later.ends.steps;
-        end = later.ends.end;
-      };
+      comes = reaches_on j later.more s t later.last came later.comes;
+      ends = later.ends;
     }
 
 -- the cut points that a run comes to later
@@ -101,7 +104,8 @@ module _ (course : Course) (ground : Ground) (of : IsOf course ground)
   from_cut : (steps : ℕ) (s : State) (any : Any (IsAtCut course ground steps s) course.cuts)
       → CutsEnd course ground 1 steps s → Ends course ground steps s
   from_cut steps s any cuts =
-      subst (IsFollowed course) any.3 (followed any.0 any.1 any.2) ground steps s of any.4 cuts
+      subst (IsFollowed course) any.3 (followed any.0 any.1 any.2) ground steps s of any.4
+      (λ some. (any.0, any.1, any.2, any.3, (refl, any.4.claimed))) cuts
 
   pub cuts_end : (left steps : ℕ) (s : State) → value course.commands ground.n ≤ steps + left
       → Any (IsAtCut course ground steps s) course.cuts → Ends course ground steps s
@@ -110,9 +114,9 @@ module _ (course : Course) (ground : Ground) (of : IsOf course ground)
   cuts_end (suc left) steps s few any =
       from_cut steps s any (λ k t least r other. cuts_end left (steps + k) t (omega (arith, few, least)) other)
 
-  pub run_ends : (number steps : ℕ) (case : Case) (s : State) → Leads course 1 number case
+  pub run_ends : (number steps : ℕ) (case : Case) (s : State) → Leads course number case
       → IsAt course.nodes ground number s → Describes ground.n case (point_of steps ground.origin s)
-      → Ends course ground steps s
-  run_ends number steps case s leads at described =
-      leads ground steps s of at described
+      → IsSaid course.cuts ground.n number (point_of steps ground.origin s) → Ends course ground steps s
+  run_ends number steps case s leads at described said =
+      leads ground steps s of at described said
       (λ k t least r any. cuts_end (value course.commands ground.n) (steps + k) t (omega arith) any)

@@ -20,3 +20,4 @@ pub mod Halving
 pub mod Always
 pub mod Beginning
 pub mod Certain
+pub mod Meant

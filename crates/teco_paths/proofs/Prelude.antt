@@ -39,8 +39,10 @@ pub use Rattle.teco_paths.specs.Entry.{AreThere, IsEntered, IsEntryClaim, IsEntr
 pub use Rattle.teco_paths.specs.Facts.{IsFact}
 pub use Rattle.teco_paths.specs.Paths.{Arrives, Course, Ends, IsFollowed, Leads, LeadsOn}
 pub use Rattle.teco_paths.specs.Runs.{EndsBy, Ground, IsAt, IsHeldWithin, StandsBy, held_in}
-pub use Rattle.teco_paths.specs.Steps.{AreLeft, AreMet, ArePossible, AreSifted, AreSpots, GoOn, GoesBy, IsImpossible}
-pub use Rattle.teco_paths.specs.Steps.{GrowsNoMore, IsInTime, IsKept, IsMet, IsPlain, IsRead, IsSharper, IsSmall}
+pub use Rattle.teco_paths.specs.Steps.{AreLeft, ArePossible, AreSifted, AreSpots, GoOn, GoesBy}
+pub use Rattle.teco_implied.specs.Implied.{AreMet, IsImpossible}
+pub use Rattle.teco_paths.specs.Steps.{GrowsNoMore, IsInTime, IsMet, IsPlain, IsRead, IsSharper, IsSmall}
+pub use Rattle.teco_implied.specs.Implied.{IsKept}
 pub use Rattle.teco_paths.specs.Steps.{IsTarget, IsThere}
 pub use Rattle.teco_paths.specs.Steps.{IsTold, IsWith, LawAt, Passes, Steps, TypesNoMore, cases_by}
 pub use Rattle.teco_paths.specs.Sure.{IsCertain}

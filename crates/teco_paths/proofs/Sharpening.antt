@@ -1,5 +1,5 @@
 -- What is known of a case besides.
-use Rattle.teco_paths.proofs.Prelude.{◌≡◌, ◌⊎◌, inl, inr, ℕ, ◌+◌, ◌<◌, ◌≤◌, arith, List, length, ℤ, pos, ◌-ℤ◌}
+use Rattle.teco_paths.proofs.Prelude.{◌≡◌, ◌⊎◌, inl, inr, ℕ, ◌+◌, ◌<◌, ◌≤◌, arith, List, length, pos, ◌-ℤ◌}
 use Rattle.teco_paths.proofs.Prelude.{◌≤ℤ◌, cases_order, ints, Term, Valuation, value, Implies, Case, Pointer, Size}
 use Rattle.teco_paths.proofs.Prelude.{LineEnd, Point, IsTrueOf, single, line_end, IsSharper, IsWith}
 use Rattle.teco_base.specs.Lines.{line_place}

@@ -5,9 +5,11 @@ use Rattle.teco_paths.proofs.Prelude.{None, Ok, All, Any, option_map_or, AreLink
 use Rattle.teco_paths.proofs.Prelude.{AreOpen, IsLeftAt, NoFileCommands, Term, Valuation, Holds, Implies, Loop, Kind}
 use Rattle.teco_paths.proofs.Prelude.{Element, element_at, IsLoaded, Library, Needs, Reaches, Frame, Frames, State}
 use Rattle.teco_paths.proofs.Prelude.{Next, step, text_in, Case, Guarded, Outcomes, turned, Goes, StepsTo, loops_in}
-use Rattle.teco_paths.proofs.Prelude.{point_of, Describes, IsTrueOf, NodeCase, Comes, Ground, IsAt, held_in, AreSpots}
+use Rattle.teco_paths.proofs.Prelude.{point_of, Describes, IsTrueOf, NodeCase, Comes, Ground, IsAt, StandsBy, AreSpots}
 use Rattle.teco_paths.proofs.Prelude.{GoOn, GoesBy, AreMet, IsKept, IsPlain, IsRead, IsTold, LawAt, Passes, cases_by}
 use Rattle.teco_paths.proofs.Prelude.{Node, Stand, numbered, Position, start_of, spot_of, ways_at}
+use Rattle.std.specs.Option.{is_some}
+use Rattle.teco_law_runs.specs.Framing.{OfNode}
 use Rattle.teco_law_runs.specs.Linked.{Lead}
 use Rattle.teco_law_runs.specs.Loaded.{StaysLoaded}
 use Rattle.teco_law_runs.specs.Wholeness.{IsWholeState, IsWholeOutcome, WholeIsKept}
@@ -29,7 +31,7 @@ use Rattle.teco_model.specs.Run.{run}
 use Rattle.teco_model.specs.State.{Outcome}
 use Rattle.teco_rows.specs.Foretold.{Begins, IsGuarded}
 use Rattle.teco_search_outcomes.specs.PageSearches.{IsStill}
-use Rattle.teco_paths.specs.Steps.{GoesByFrames, GoesOn, IsCall, IsDuring, IsEndOrCall, IsTextEnd}
+use Rattle.teco_paths.specs.Steps.{GoesByFrames, GoesOn, IsAmid, IsCall, IsDuring, IsEndOrCall, IsTextEnd}
 use Rattle.teco_paths.proofs.Standing.{left_behind, position_here, linked_here, reads_here, reads_there}
 use Rattle.teco_verifier.specs.expansion.Names.{named_by, written_by, names_macro, writes_macro}
 use Rattle.teco_verifier.specs.expansion.Position.{position_of_frames}
@@ -88,7 +90,7 @@ record IsMidway (nodes : List Node) (ground : Ground) (number : ℕ) (s : State)
   pub frames : u.frames ≡ s.frames
   pub reached : Reaches k s u
   pub none : NoFileCommands s k
-  pub small : (j : ℕ) (t : State) → j ≤ k → Reaches j s t → held_in t ≤ held_in s
+  pub amid : (j : ℕ) (t : State) → j ≤ k → Reaches j s t → IsAmid nodes s j t
 
 conditions_hold : (case : Case) (targets : List (List Term)) (n : ℕ) (v : Valuation)
     → All (Implies case.constraints.items) targets
@@ -116,11 +118,16 @@ module _ (laws : Laws) (nodes : List Node) (number : ℕ) (case : Case) (all : O
   abbrev Midway : ℕ → State → Type 0
   Midway k u = IsMidway nodes ground number s k u
 
-  small_first : (j : ℕ) (t : State) → j ≤ 0 → Reaches j s t → held_in t ≤ held_in s
-  small_first j t l r =
+  amid_first : (j : ℕ) (t : State) → j ≤ 0 → Reaches j s t → IsAmid nodes s j t
+  amid_first j t l r =
       let z : j ≡ 0 = omega (arith, l) in
       let same : s ≡ t = reaches_none s t (subst (λ j. Reaches j s t) z r) in
-      subst (λ u. held_in u ≤ held_in s) same (omega arith)
+      subst (IsAmid nodes s j) same (record {
+        held = omega arith;
+        reads = OfNode number node is (reads_there nodes ground number s node linked is at.stands);
+        registers = refl;
+        begins = λ none. z;
+      })
 
   first : Midway 0 s
   first = record {
@@ -134,7 +141,7 @@ module _ (laws : Laws) (nodes : List Node) (number : ℕ) (case : Case) (all : O
     frames = refl;
     reached = reaches_here s;
     none = none_yet s;
-    small = small_first;
+    amid = amid_first;
   }
 
   module _ (k : ℕ) (u : State) (mid : Midway k u) where
@@ -166,25 +173,36 @@ module _ (laws : Laws) (nodes : List Node) (number : ℕ) (case : Case) (all : O
             left_behind nodes ground number u other linked h mid.during.stands laws.along (mid.during.left other h)
             mid.during.loaded t goes
 
-        small_there : (j : ℕ) (w : State) → j ≤ suc k → Reaches j s w → held_in w ≤ held_in s
-        small_there j w l r = by (cases_order j (suc k))
+        stands_here : StandsBy nodes ground number t
+        stands_here = record {
+          stand = mid.during.stands.stand;
+          at = mid.during.stands.at;
+          position = mid.during.stands.position ∙ ap position_of_frames (mid.frames ∙ sym still.frames);
+        }
+
+        amid_here : (j : ℕ) → IsAmid nodes s j t
+        amid_here j = record {
+          held = still.held;
+          reads = OfNode number node is (reads_there nodes ground number t node linked is stands_here);
+          registers = still.registers;
+          begins = λ none. let z : is_some t.left ≡ false = ap is_some none in absurd (let y = still.left in cc);
+        }
+
+        amid_there : (j : ℕ) (w : State) → j ≤ suc k → Reaches j s w → IsAmid nodes s j w
+        amid_there j w l r = by (cases_order j (suc k))
           where
-            by : (j ≡ suc k) ⊎ ((j < suc k) ⊎ (suc k < j)) → held_in w ≤ held_in s
+            by : (j ≡ suc k) ⊎ ((j < suc k) ⊎ (suc k < j)) → IsAmid nodes s j w
             by (inl e) =
                 let z : k + 1 ≡ j = omega (arith, e) in
                 let same : t ≡ w = same_next t w (sym reaches_behind ∙ (ap (λ i. run i s) z ∙ r)) in
-                subst (λ x. held_in x ≤ held_in s) same still.held
-            by (inr (inl less)) = mid.small j w (omega (arith, less)) r
+                subst (IsAmid nodes s j) same (amid_here j)
+            by (inr (inl less)) = mid.amid j w (omega (arith, less)) r
             by (inr (inr more)) = absurd (omega (arith, l, more))
 
         midway_next : Midway (suc k) t
         midway_next = record {
           during = record {
-            stands = record {
-              stand = mid.during.stands.stand;
-              at = mid.during.stands.at;
-              position = mid.during.stands.position ∙ ap position_of_frames (mid.frames ∙ sym still.frames);
-            };
+            stands = stands_here;
             left = left_there;
             loaded = loaded_behind;
           };
@@ -193,7 +211,7 @@ module _ (laws : Laws) (nodes : List Node) (number : ℕ) (case : Case) (all : O
           frames = still.frames;
           reached = let z : k + 1 ≡ suc k = omega arith in subst (λ j. Reaches j s t) z reaches_behind;
           none = none_behind;
-          small = small_there;
+          amid = amid_there;
         }
 
       -- a step whose state is known
@@ -206,7 +224,7 @@ module _ (laws : Laws) (nodes : List Node) (number : ℕ) (case : Case) (all : O
         next = t;
         goes = reaches_behind;
         none = let z : suc k ≡ k + 1 = omega arith in subst (NoFileCommands s) z none_behind;
-        small = mid.small;
+        amid = mid.amid;
         begins = done;
         loaded = loaded_behind;
         whole = whole_next laws.whole u t mid.whole goes;

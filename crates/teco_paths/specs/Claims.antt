@@ -1,7 +1,7 @@
 -- What is claimed at a cut point.
-use Rattle.std.specs.Prelude.{◌≡◌, ℕ, ◌≤◌, List, [], Bool, false, is_some, Option, None, slice_index_or}
+use Rattle.std.specs.Prelude.{◌≡◌, ◌≢◌, ℕ, ◌≤◌, List, [], Bool, false, is_some, Option, None, slice_index_or}
 use Rattle.std.specs.Prelude.{Some, if◌then◌else◌}
-use Rattle.std.specs.List.{All}
+use Rattle.std.specs.List.{All, Any}
 use Rattle.teco_base.specs.declared.TheConstants.{LIMIT}
 use Rattle.teco_linear.specs.declared.term.Term.{Term}
 use Rattle.teco_linear.specs.Form.{Valuation, value}
@@ -11,7 +11,7 @@ use Rattle.teco_rows.specs.declared.case.Case.{Case}
 use Rattle.teco_rows.specs.declared.measure.Measure.{Measure}
 use Rattle.teco_rows.specs.Cases.{value_if}
 use Rattle.teco_rows.specs.Measures.{place}
-use Rattle.teco_rows.specs.States.{Point, IsShape, IsTrueOf, measures_of}
+use Rattle.teco_rows.specs.States.{Point, Describes, IsShape, IsTrueOf, measures_of}
 use Rattle.teco_paths.specs.declared.cut.CutState.{CutState}
 use Rattle.teco_paths.specs.Symbols.{numbers_of}
 use Rattle.teco_poly.specs.Polynomial as poly
@@ -30,6 +30,19 @@ pub record AreClaimed (n : ℕ) (cut : CutState) (s : Point) : Type 0 where
   pub shape : IsShape cut.shape s
   pub present : HasPresent cut.present.items s
   pub claims : All (ClaimHolds n s) cut.claims.items
+
+-- no cut point is at a node
+abbrev pub HasNoCut : List CutState → ℕ → Type 0
+HasNoCut cuts number = All (λ cut. cut.number ≢ number) cuts
+
+-- what is said of a state at a node: where cut points are there, it is as one of these says
+abbrev pub IsSaid : List CutState → ℕ → ℕ → Point → Type 0
+IsSaid cuts n number s =
+    Any (λ cut. cut.number ≡ number) cuts → Any (λ cut. (cut.number ≡ number) × AreClaimed n cut s) cuts
+
+-- so it is of each state that a case describes
+abbrev pub AreSaid : List CutState → ℕ → Case → Type 0
+AreSaid cuts number case = (n : ℕ) (s : Point) → Describes n case s → IsSaid cuts n number s
 
 -- in each place that is marked stands the symbol of its number, and in the others none
 abbrev pub AreSymbols : List Bool → List (Option (List Term)) → Type 0

@@ -6,4 +6,5 @@ pub mod Runs
 pub mod Paths
 pub mod Steps
 pub mod Entry
+pub mod Meaning
 pub mod Sure

@@ -1,12 +1,13 @@
 -- One step of a path.
 use Rattle.std.specs.Prelude.{◌≡◌, ◌≢◌, ℕ, ◌+◌, ◌≤◌, ◌<◌, List, length, Bool, true, false, Option, Some, None, ◌⊎◌, ⊤}
 use Rattle.std.specs.Prelude.{pos, ◌-ℤ◌}
-use Rattle.std.specs.List.{All, Any}
+use Rattle.std.specs.List.{Any}
 use Rattle.teco_law_runs.specs.Linked.{AreLinked}
 use Rattle.teco_linear.specs.declared.term.Term.{Term}
 use Rattle.teco_linear.specs.Form as linear
 use Rattle.teco_linear.specs.Form.{Valuation}
-use Rattle.teco_linear.specs.Implied.{Holds, Implies}
+use Rattle.teco_linear.specs.Implied.{Holds}
+use Rattle.teco_law_runs.specs.Framing.{ReadsIn}
 use Rattle.teco_law_runs.specs.Ready.{AreOpen}
 use Rattle.teco_law_runs.specs.Wholeness.{IsWholeState}
 use Rattle.teco_law_runs.specs.Steps.{IsLeftAt}
@@ -24,7 +25,6 @@ use Rattle.teco_model.specs.Run.{Reaches}
 use Rattle.teco_model.specs.State.{Frames, State, Next}
 use Rattle.teco_model.specs.Step.{step}
 use Rattle.teco_rows.specs.declared.case.Case.{Case}
-use Rattle.teco_rows.specs.declared.outcomes.Guarded.{Guarded}
 use Rattle.teco_rows.specs.declared.outcomes.Outcomes.{Outcomes}
 use Rattle.teco_flow_outcomes.specs.Flow.{turned}
 use Rattle.teco_rows.specs.Foretold.{Begins}
@@ -33,6 +33,7 @@ use Rattle.teco_search_outcomes.specs.PageSearches.{Comes}
 use Rattle.teco_rows.specs.States.{Point, IsShape, IsTrueOf, Describes}
 use Rattle.teco_paths.specs.declared.spot.NodeCase.{NodeCase}
 use Rattle.teco_paths.specs.Runs.{Ground, StandsBy, IsAt, IsHeldWithin, held_in}
+use Rattle.teco_implied.specs.Implied.{AreMet}
 use Rattle.teco_paths.specs.Paths.{Course}
 use Rattle.teco_poly.specs.Polynomial.{value}
 use Rattle.teco_promise.specs.Promise.{IsWithin, most_with}
@@ -143,15 +144,6 @@ AreKept nodes number away cases spots =
     → Any (λ case. Describes ground.n case (point_of steps ground.origin t)) cases
     → Any (IsThere nodes ground steps t) spots
 
--- the constraints of a guarded condition imply it
-abbrev pub IsKept : Guarded → Type 0
-IsKept guarded = Implies guarded.constraints.items guarded.wanted
-
--- A case implies the conditions, and each that is guarded is implied by its constraints.
-pub record AreMet (case : Case) (all : Outcomes) : Type 0 where
-  pub conditions : All (Implies case.constraints.items) all.conditions.items
-  pub guarded : All IsKept all.guarded.items
-
 -- such a law, and a case implies the conditions
 pub record IsAskedAt (nodes : List Node) (needs : Needs) (number : ℕ) (e : Element) (case : Case) (all : Outcomes) :
     Type 0 where
@@ -200,10 +192,6 @@ AreSpots nodes number outcomes spots =
     → Any (λ case. Describes ground.n case (point_of steps ground.origin t)) (cases_by away outcomes)
     → Any (IsThere nodes ground steps t) spots
 
--- no state is as a case says
-abbrev pub IsImpossible : Case → Type 0
-IsImpossible case = (n : ℕ) (s : Point) → Describes n case s → ⊥
-
 -- A step passes in which nothing changes but the text that is executed.
 abbrev pub Passes : Case → Outcomes → Type 0
 Passes case all =
@@ -235,14 +223,22 @@ pub record IsPlain (nodes : List Node) (number : ℕ) (k : Kind) : Type 0 where
   pub writes :
       (node : Node) → numbered nodes number ≡ Some node → written_by k ≡ None ⊎ (node.names_macro ≡ false)
 
+-- A state on the way at an element, so many steps after the first: what is read there is of a node, it has the
+-- registers of the first and holds no more, and the element begins at the first alone.
+pub record IsAmid (nodes : List Node) (s : State) (k : ℕ) (t : State) : Type 0 where
+  pub held : held_in t ≤ held_in s
+  pub reads : ReadsIn nodes t
+  pub registers : t.world.kept.registers ≡ s.world.kept.registers
+  pub begins : t.left ≡ None → k ≡ 0
+
 -- One step more than so many goes to a state that one of the spots describes, where it stands, by no command of files;
--- and no more is held before the last than at first.
+-- those before the last are on the way.
 pub record GoesOn (nodes : List Node) (ground : Ground) (steps : ℕ) (s : State) (spots : List NodeCase) : Type 0 where
   pub more : ℕ
   pub next : State
   pub goes : Reaches (more + 1) s next
   pub none : NoFileCommands s (more + 1)
-  pub small : (k : ℕ) (t : State) → k ≤ more → Reaches k s t → held_in t ≤ held_in s
+  pub amid : (k : ℕ) (t : State) → k ≤ more → Reaches k s t → IsAmid nodes s k t
   pub begins : next.left ≡ None
   pub loaded : IsLoaded ground.library next.world.kept
   pub whole : IsWholeState next

@@ -1,7 +1,7 @@
 //! The claims of a certificate.
 ghost use Rattle.std.specs.Prelude.{◌≡◌, ℕ, IfOk, OnOk, option_map};
 ghost use Rattle.teco_promise.specs.Promise.{most_with};
-ghost use Rattle.teco_paths.specs.Sure.{IsCertain, bounds_in};
+ghost use Rattle.teco_paths.specs.Sure.{AreCertain, IsCertain};
 ghost use Rattle.teco_poly.specs.Polynomial as poly;
 
 use crate::coefficients::coefficients;
@@ -88,6 +88,7 @@ fn stands(
 
 // What is prepared, with these cut points in place of none.
 fn with_cuts(prepared: Prepared, cuts: Vec<CutState>) -> Prepared
+    ensures cuts { result.cuts.items ≡ cuts.items }
     ensures commands { result.commands.items ≡ prepared.commands.items }
     ensures size { result.size.items ≡ prepared.size.items }
     ensures grows { result.grows ≡ prepared.grows }
@@ -145,7 +146,7 @@ fn check_prepared(called: &Called<'_>, prepared: &Prepared, alloc: Global) -> Re
           size = prepared.now.size.items;
           grows = option_map (λ t. t.items) prepared.now.grows;
           types = option_map (λ t. t.items) prepared.now.types;
-        })) }
+        }) prepared.now.cuts.items) }
 {
     let course = MacroGraph {
         nodes: called.nodes,
@@ -163,10 +164,11 @@ fn check_prepared(called: &Called<'_>, prepared: &Prepared, alloc: Global) -> Re
 
 /// Follows all paths of a macro by the claims of a certificate. Where nothing is refused, every run of
 /// it ends within the commands that the certificate says and holds no more than it says; its text gets
-/// no longer and it types no more bytes than it says, if it does.
+/// no longer and it types no more bytes than it says, if it does; and wherever a run stands at an element
+/// of which something is claimed, that is so.
 pub fn check_claimed(called: &Called<'_>, claimed: &Claims, alloc: Global) -> Result<(), PathFault>
-    ensures { OnOk result (IsCertain called.now.nodes.now called.now.lengths.now called.now.argument
-        called.now.needs (bounds_in claimed.now)) }
+    ensures { OnOk result (AreCertain called.now.nodes.now called.now.lengths.now called.now.argument
+        called.now.needs claimed.now) }
 {
     let first = bounds(called.nodes, claimed, alloc)?;
     let stands = stands(called, &first, alloc)?;

@@ -10,8 +10,8 @@ ghost use Rattle.teco_paths.specs.Claims.{filled_by};
 
 use crate::facts::facts;
 use crate::fault::PathFault;
-use crate::implied::is_so;
 use std::alloc::Global;
+use teco_implied::is_so;
 use teco_linear::Form;
 use teco_model::Operator;
 use teco_rows::applied::{copied_constraints, form_at};
@@ -205,7 +205,8 @@ fn is_claim_so(case: &Case, forms: &[Form], claim: &Form, alloc: Global) -> Resu
         → All (Holds n v) case.now.constraints.items → Holds n (values forms.now n v) claim.now)) }
 {
     let target = claim.substitute(forms, alloc)?;
-    is_so(case, &target, alloc)
+    let is_claimed = is_so(case, &target, alloc)?;
+    Ok(is_claimed)
 }
 
 // Whether it implies all claims.

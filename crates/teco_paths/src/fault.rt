@@ -3,9 +3,9 @@ ghost use Rattle.std.specs.Prelude.{◌≡◌};
 ghost use Rattle.teco_paths.specs.declared.fault.PathFault.TheVariants.{Memory, Unknown};
 
 use std::alloc::{AllocError, AllocFailed};
+use teco_implied::ImpliedFault;
 use teco_linear::LinearFault;
 use teco_rows::fault::RowFault;
-use teco_simplex::SimplexFault;
 use thiserror::Error;
 
 /// Why claims are not found to hang together.
@@ -35,6 +35,9 @@ pub enum PathFault {
     /// The claims at an element are not implied where a path comes to it.
     #[error("the claims at element {0} are not implied")]
     Claims(usize),
+    /// No run comes to an element of which something is claimed.
+    #[error("no run comes to element {0}, of which something is claimed")]
+    Unreached(usize),
     /// A claim at an element speaks of what a state has not there.
     #[error("a claim at element {0} speaks of what is not there")]
     Unread(usize),
@@ -65,6 +68,15 @@ impl<T: Drop> From<AllocFailed<T>> for PathFault {
     }
 }
 
+impl From<ImpliedFault> for PathFault {
+    fn from(refused: ImpliedFault) -> PathFault {
+        match refused {
+            ImpliedFault::TooGreat => PathFault::Unknown,
+            ImpliedFault::Memory => PathFault::Memory,
+        }
+    }
+}
+
 impl From<LinearFault> for PathFault {
     fn from(refused: LinearFault) -> PathFault {
         match refused {
@@ -78,15 +90,6 @@ impl From<RowFault> for PathFault {
     fn from(refused: RowFault) -> PathFault {
         match refused {
             RowFault::Linear(refused) => PathFault::from(refused),
-            _ => PathFault::Unknown,
-        }
-    }
-}
-
-impl From<SimplexFault> for PathFault {
-    fn from(refused: SimplexFault) -> PathFault {
-        match refused {
-            SimplexFault::Memory => PathFault::Memory,
             _ => PathFault::Unknown,
         }
     }

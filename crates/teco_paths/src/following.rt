@@ -2,6 +2,7 @@
 ghost use Rattle.std.specs.Prelude.{◌++◌, [], IfOk, OnOk};
 ghost use Rattle.std.specs.Bool.{OnTrue};
 ghost use Rattle.std.specs.List.{All};
+ghost use Rattle.teco_paths.specs.Claims.{AreSaid, HasNoCut};
 ghost use Rattle.teco_paths.specs.Paths.{Arrives, IsFollowed, Leads, LeadsOn};
 
 use crate::course::MacroGraph;
@@ -18,12 +19,27 @@ use teco_rows::case::Case;
 /// The most spots that paths may come to from a cut point.
 pub const MOST_SPOTS: usize = 20_000;
 
+// Whether no cut point is at a node.
+fn is_no_cut(course: &MacroGraph<'_>, number: usize) -> bool
+    ensures { OnTrue result (HasNoCut course.now.cuts number) }
+{
+    for cut in course.cuts {
+        if cut.number == number {
+            return false;
+        }
+    }
+    true
+}
+
 // Whether a path is at the end, in time.
 fn is_over(course: &MacroGraph<'_>, spot: &NodeCase, alloc: Global) -> Result<bool, PathFault>
     ensures { IfOk result (λ answer. OnTrue answer (LeadsOn course.now spot.now)) }
 {
     teco_law_runs::laws::runs_end();
     if spot.number == 0 || spot.number - 1 != course.nodes.len() {
+        return Ok(false);
+    }
+    if !is_no_cut(course, spot.number) {
         return Ok(false);
     }
     let is_timely = is_in_time(course, &spot.case, alloc)?;
@@ -46,7 +62,7 @@ fn not_over(
     }
 }
 
-// Whether it has come to a cut point, in time.
+// Whether it has come to a cut point behind the first element, in time.
 fn is_arrived(
     course: &MacroGraph<'_>,
     spot: &NodeCase,
@@ -55,7 +71,7 @@ fn is_arrived(
 ) -> Result<bool, PathFault>
     ensures { IfOk result (λ answer. OnTrue answer (Arrives course.now spot.now cut.now)) }
 {
-    if spot.number != cut.number {
+    if spot.number != cut.number || cut.number == 1 {
         return Ok(false);
     }
     let is_claimed = comes_to(&spot.case, cut, alloc)?;
@@ -76,11 +92,6 @@ fn is_at_cut(course: &MacroGraph<'_>, spot: &NodeCase, alloc: Global) -> Result<
         }
     }
     Ok(false)
-}
-
-// Whether a node has a cut point.
-fn has_cut(course: &MacroGraph<'_>, number: usize) -> bool {
-    course.cuts.iter().any(|cut| cut.number == number)
 }
 
 // The spots behind one at which a path is neither over nor at a cut point.
@@ -104,7 +115,7 @@ fn spots_ahead(
         let refused = not_over(course, spot, alloc)?;
         return Err(refused);
     }
-    if has_cut(course, spot.number) {
+    if !is_no_cut(course, spot.number) {
         return halves(spot, alloc);
     }
     behind(course, spot.number, &spot.case, alloc)
@@ -151,16 +162,36 @@ pub fn follow_case(
     case: &Case,
     alloc: Global,
 ) -> Result<(), PathFault>
-    ensures { OnOk result (Leads course.now 1 number case.now) }
+    ensures { OnOk result (Leads course.now number case.now) }
 {
     let spots = behind(course, number, case, alloc)?;
     follow(course, spots, alloc)
 }
 
-// Follows all paths from a cut point.
+/// Whether each state that a case describes is as is said at a node.
+pub fn is_said(
+    course: &MacroGraph<'_>,
+    number: usize,
+    case: &Case,
+    alloc: Global,
+) -> Result<bool, PathFault>
+    ensures { IfOk result (λ answer. OnTrue answer (AreSaid course.now.cuts number case.now)) }
+{
+    for cut in course.cuts {
+        if cut.number == number && comes_to(case, cut, alloc)? {
+            return Ok(true);
+        }
+    }
+    Ok(is_no_cut(course, number))
+}
+
+// Follows all paths from a cut point. From the first element they are followed from the entry.
 fn follow_cut(course: &MacroGraph<'_>, cut: &CutState, alloc: Global) -> Result<(), PathFault>
     ensures { OnOk result (IsFollowed course.now cut.now) }
 {
+    if cut.number == 1 {
+        return Ok(());
+    }
     let case = case_of(course.size, cut, alloc)?;
     follow_case(course, cut.number, &case, alloc)
 }

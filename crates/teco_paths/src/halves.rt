@@ -6,10 +6,10 @@ ghost use Rattle.teco_paths.specs.Steps.{AreHalves, IsWith};
 
 use crate::cut::copied_shape;
 use crate::fault::PathFault;
-use crate::implied::is_so_nearby;
 use crate::sharp::beyond;
 use crate::spot::NodeCase;
 use std::alloc::Global;
+use teco_implied::is_so_nearby;
 use teco_linear::Form;
 use teco_rows::applied::{copied_constraints, copied_forms};
 use teco_rows::case::Case;

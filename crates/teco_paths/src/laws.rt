@@ -1,8 +1,15 @@
 //! What is so of a macro whose claims hang together.
 ghost use Rattle.teco_paths.specs.Sure.{CertainEnd};
 
-/// Where every run of a macro ends in time, it ends within the number of commands, as a macro does
-/// whose table is closed.
+/// Where every run of a macro ends in time from where its argument is pending, it does so from the call,
+/// and leaves what the macro does not name.
 pub fn certain_ends()
     ensures { CertainEnd }
-{}
+{
+    teco_law_runs::laws::steps_are_alike();
+    teco_law_runs::laws::runs_are_alike();
+    teco_law_runs::laws::readings_are_alike();
+    teco_law_runs::laws::numbers_are_pending();
+    teco_law_runs::laws::steps_keep();
+    teco_law_runs::laws::steps_shift();
+}

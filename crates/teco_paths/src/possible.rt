@@ -3,8 +3,8 @@ ghost use Rattle.std.specs.Prelude.{IfOk};
 ghost use Rattle.teco_paths.specs.Steps.{ArePossible};
 
 use crate::fault::PathFault;
-use crate::implied::is_impossible;
 use std::alloc::Global;
+use teco_implied::is_impossible;
 use teco_rows::case::Case;
 
 /// The most cases that an element may have.

@@ -7,8 +7,8 @@ ghost use Rattle.teco_rows.specs.declared.measure.Single.TheVariants.{Pointer};
 ghost use Rattle.teco_rows.specs.States.{Point, IsTrueOf, single as measure};
 
 use crate::fault::PathFault;
-use crate::implied::is_so_nearby;
 use std::alloc::Global;
+use teco_implied::is_so_nearby;
 use teco_linear::Form;
 use teco_rows::case::Case;
 use teco_rows::forms::single;

@@ -12,13 +12,13 @@ ghost use Rattle.teco_paths.specs.Steps.{GrowsNoMore, IsSmall, IsTextEnd, TypesN
 
 use crate::course::{MacroGraph, form_of};
 use crate::fault::PathFault;
-use crate::implied::{are_met, is_so};
 use crate::outcomes::{outcomes_at, passing, wrapped_at};
 use crate::possible::{MOST_CASES, possible};
 use crate::spot::NodeCase;
 use crate::targets::target;
 use std::alloc::Global;
 use teco_expansion::Nodes;
+use teco_implied::{are_met, is_so};
 use teco_model::kind::{Command, Stack, Storage};
 use teco_model::{Element, Kind};
 use teco_rows::case::Case;
@@ -78,7 +78,8 @@ fn is_bounded(
 {
     let most = form_of(polynomial, alloc)?;
     let measured = single(case, which, alloc)?;
-    is_so(case, &most.sub(&measured, alloc)?, alloc)
+    let is_within = is_so(case, &most.sub(&measured, alloc)?, alloc)?;
+    Ok(is_within)
 }
 
 // Whether a case says that no more is held than at the entry, with a polynomial in N.
@@ -90,7 +91,8 @@ fn is_grown_within(polynomial: &[u64], case: &Case, alloc: Global) -> Result<boo
     let before = single(case, Single::EntryHeld, alloc)?;
     let most = before.add(&more, alloc)?;
     let held = single(case, Single::Held, alloc)?;
-    is_so(case, &most.sub(&held, alloc)?, alloc)
+    let is_within = is_so(case, &most.sub(&held, alloc)?, alloc)?;
+    Ok(is_within)
 }
 
 // Whether it says that the text has got no longer than is claimed, if that is.
@@ -278,7 +280,7 @@ fn behind_node(
 }
 
 /// The spots behind one, from which a run ends if it does so from them, and holds no more than it
-/// may.
+/// may, where all is as is said at the cut points there.
 pub fn behind(
     course: &MacroGraph<'_>,
     number: usize,
@@ -286,7 +288,7 @@ pub fn behind(
     alloc: Global,
 ) -> Result<Vec<NodeCase>, PathFault>
     ensures { IfOk result (λ spots.
-        All (LeadsOn course.now) spots.items → Leads course.now 1 number case.now) }
+        All (LeadsOn course.now) spots.items → Leads course.now number case.now) }
 {
     if number == 0 || number > course.nodes.len() {
         return Err(PathFault::NoElement(number));

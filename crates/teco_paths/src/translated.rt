@@ -1,5 +1,13 @@
 //! Claims as they are read, as cut points.
-ghost use Rattle.std.specs.Prelude.{◌<◌, ◌≤◌, length};
+ghost use Rattle.std.specs.Prelude.{◌≡◌, ◌<◌, ◌≤◌, ◌*◌, ℕ, length, Some, IfOk, IfSome};
+ghost use Rattle.std.specs.List.{All, Any};
+ghost use Rattle.teco_linear.specs.Form.{term_value, value};
+ghost use Rattle.teco_linear.specs.Implied.{Holds};
+ghost use Rattle.teco_paths.specs.Claims.{ClaimHolds};
+ghost use Rattle.teco_paths.specs.Meaning.{AreSo, IsMadeOf, IsSo, IsTimes, SayClaims, SpeaksOf, signed, single_meant};
+ghost use Rattle.teco_paths.specs.Symbols.{numbers_of};
+ghost use Rattle.teco_rows.specs.States.{Point, from_end};
+ghost use Rattle.teco_verifier.specs.expansion.Node.{Node, numbered};
 
 use crate::cut::{CutState, copied_shape};
 use crate::entry::both;
@@ -10,7 +18,9 @@ use teco_linear::{Form, Term};
 use teco_rows::measure::{Family, Measure, Single};
 
 // The measure that a state has once.
-fn single_of(single: teco_claims::ClaimSingle) -> Single {
+fn single_of(single: teco_claims::ClaimSingle) -> Single
+    ensures { result ≡ single_meant single }
+{
     match single {
         teco_claims::ClaimSingle::Steps => Single::Steps,
         teco_claims::ClaimSingle::Pointer => Single::Pointer,
@@ -28,11 +38,16 @@ fn single_of(single: teco_claims::ClaimSingle) -> Single {
 fn iteration_of(nodes: &Nodes<'_>, number: usize, begin: u32) -> Option<u32>
     requires one { 0 < number }
     requires last { number ≤ length nodes.now }
+    ensures { IfSome result (λ i. (node : Node) → numbered nodes.now number ≡ Some node
+        → from_end node.stand.iterations i ≡ Some begin) }
 {
     let open = nodes.open(number);
     for at in 0..open {
         if nodes.iteration(number, at) == Some(begin as usize) {
-            return u32::try_from(open - 1 - at).ok();
+            let Ok(place) = u32::try_from(open - 1 - at) else {
+                return None;
+            };
+            return Some(place);
         }
     }
     None
@@ -46,6 +61,7 @@ fn measure_of(
 ) -> Option<Measure>
     requires one { 0 < number }
     requires last { number ≤ length nodes.now }
+    ensures { IfSome result (λ m. (node : Node) → numbered nodes.now number ≡ Some node → SpeaksOf node measure m) }
 {
     match measure {
         teco_claims::ClaimMeasure::One(single) => Some(Measure::One(single_of(single))),
@@ -96,19 +112,20 @@ fn whole(claim: &teco_claims::Claim) -> Option<u128> {
     Some(least)
 }
 
-// The coefficient of a term that is taken so many times.
-fn coefficient_of(term: &teco_claims::ClaimTerm, times: u128) -> Option<i128> {
+// The coefficient of a term that is taken so many times, if that makes it whole.
+fn coefficient_of(term: &teco_claims::ClaimTerm, times: u128) -> Option<i128>
+    ensures { IfSome result (λ coefficient. (parts : ℕ) × (parts * term.now.coefficient.divisor ≡ times)
+        × (coefficient ≡ signed term.now.is_negative (parts * term.now.coefficient.numerator))) }
+{
     let divisor = term.coefficient.divisor;
-    if divisor == 0 {
+    if divisor == 0 || times % divisor != 0 {
         return None;
     }
     let factor = (times / divisor).checked_mul(term.coefficient.numerator)?;
-    let number = i128::try_from(factor).ok()?;
-    if term.is_negative {
-        number.checked_neg()
-    } else {
-        Some(number)
-    }
+    let Ok(number) = i128::try_from(factor) else {
+        return None;
+    };
+    Some(if term.is_negative { -number } else { number })
 }
 
 // A term as one of a form.
@@ -120,20 +137,29 @@ fn term_of(
 ) -> Option<Term>
     requires one { 0 < number }
     requires last { number ≤ length nodes.now }
+    ensures { IfSome result (λ made. (node : Node) → numbered nodes.now number ≡ Some node → (n : ℕ) (s : Point)
+        → IsTimes node n s times term.now (term_value made n (numbers_of s))) }
 {
     let coefficient = coefficient_of(term, times)?;
-    let symbol = match term.measure {
+    let power = term.power;
+    match term.measure {
+        None => Some(Term {
+            symbol: None,
+            power,
+            coefficient,
+        }),
         Some(measure) => {
-            let place = measure_of(nodes, number, measure)?.place();
-            Some(u32::try_from(place).ok()?)
+            let measure = measure_of(nodes, number, measure)?;
+            let Ok(symbol) = u32::try_from(measure.place()) else {
+                return None;
+            };
+            Some(Term {
+                symbol: Some(symbol),
+                power,
+                coefficient,
+            })
         }
-        None => None,
-    };
-    Some(Term {
-        symbol,
-        power: term.power,
-        coefficient,
-    })
+    }
 }
 
 // A term as a form of one term.
@@ -146,6 +172,8 @@ fn form_of_term(
 ) -> Result<Form, PathFault>
     requires one { 0 < number }
     requires last { number ≤ length nodes.now }
+    ensures { IfOk result (λ form. (node : Node) → numbered nodes.now number ≡ Some node → (n : ℕ) (s : Point)
+        → IsTimes node n s times term.now (value form n (numbers_of s))) }
 {
     match term_of(nodes, number, term, times) {
         Some(term) => Ok(Form::term(term, alloc)?),
@@ -162,10 +190,15 @@ fn form_of(
 ) -> Result<Form, PathFault>
     requires one { 0 < number }
     requires last { number ≤ length nodes.now }
+    ensures { IfOk result (λ form. (node : Node) → numbered nodes.now number ≡ Some node → (n : ℕ) (s : Point)
+        → Holds n (numbers_of s) form → IsSo node n s claim.now) }
 {
     let Some(times) = whole(claim) else {
         return Err(PathFault::Unknown);
     };
+    if times == 0 {
+        return Err(PathFault::Unknown);
+    }
     let mut form = Form::zero(alloc);
     for term in &claim.terms {
         let more = form_of_term(nodes, number, term, times, alloc)?;
@@ -179,7 +212,10 @@ fn forms_of(
     nodes: &Nodes<'_>,
     cut: &teco_claims::Cut,
     alloc: Global,
-) -> Result<Vec<Form>, PathFault> {
+) -> Result<Vec<Form>, PathFault>
+    ensures { IfOk result (λ forms. (n : ℕ) (s : Point)
+        → All (ClaimHolds n s) forms.items → AreSo nodes.now n s cut.now) }
+{
     let number = cut.point;
     if number == 0 || number > nodes.len() {
         return Err(PathFault::NoElement(number));
@@ -198,7 +234,9 @@ fn cut_of(
     stand: &CutState,
     used: &[bool],
     alloc: Global,
-) -> Result<CutState, PathFault> {
+) -> Result<CutState, PathFault>
+    ensures { IfOk result (IsMadeOf nodes.now cut.now) }
+{
     let claims = forms_of(nodes, cut, alloc)?;
     let present = Vec::from_slice(alloc, &stand.present)?;
     let told = both(&present, used, alloc)?;
@@ -212,38 +250,46 @@ fn cut_of(
     })
 }
 
-// The cut point of claims, with each of the shapes that were found at its node.
+// The cut point of claims, with each of the shapes that were found at its node. There is one at least.
 fn cuts_at(
     nodes: &Nodes<'_>,
     cut: &teco_claims::Cut,
     stands: &[CutState],
     used: &[bool],
     alloc: Global,
-) -> Result<Vec<CutState>, PathFault> {
+) -> Result<Vec<CutState>, PathFault>
+    ensures made { IfOk result (λ cuts. All (IsMadeOf nodes.now cut.now) cuts.items) }
+    ensures some { IfOk result (λ cuts. 0 < length cuts.items) }
+{
     let mut cuts = Vec::new(alloc);
     for stand in stands {
         if stand.number == cut.point {
             cuts.push(cut_of(nodes, cut, stand, used, alloc)?)?;
         }
     }
+    if cuts.is_empty() {
+        return Err(PathFault::Unreached(cut.point));
+    }
     Ok(cuts)
 }
 
-/// The cut points of claims, each with the shapes that were found at its node. Those at the first
-/// node are left out: what is known at the entry is known without them.
+/// The cut points of claims, each with the shapes that were found at its node.
+///
+/// # Errors
+/// A claim that can't be read, and claims at an element that no run comes to.
 pub fn cuts_of(
     nodes: &Nodes<'_>,
     claimed: &teco_claims::Claims,
     stands: &[CutState],
     used: &[bool],
     alloc: Global,
-) -> Result<Vec<CutState>, PathFault> {
+) -> Result<Vec<CutState>, PathFault>
+    ensures { IfOk result (λ cuts. SayClaims nodes.now claimed.now.cuts cuts.items) }
+{
     let mut cuts = Vec::new(alloc);
     for cut in &claimed.cuts {
-        if cut.point != 1 {
-            let mut more = cuts_at(nodes, cut, stands, used, alloc)?;
-            cuts.append(&mut more)?;
-        }
+        let mut more = cuts_at(nodes, cut, stands, used, alloc)?;
+        cuts.append(&mut more)?;
     }
     Ok(cuts)
 }

@@ -1,5 +1,6 @@
 -- What is promised of a macro, however it was found: each run of it ends in time, and without a code.
-use Rattle.std.specs.Prelude.{ℕ, ◌+◌, ◌≤◌, ⊤, length, Option, Some, None, option_map}
+use Rattle.std.specs.Prelude.{◌≡◌, ℕ, ◌+◌, ◌≤◌, ⊤, List, length, Option, Some, None, option_map, Ok}
+use Rattle.teco_law_runs.specs.Framing.{LeavesFramed}
 use Rattle.teco_law_runs.specs.Given.{call_given}
 use Rattle.teco_law_runs.specs.Ready.{AreOpen, IsReady, n_of}
 use Rattle.teco_law_runs.specs.Ending.{EndsWithin}
@@ -8,6 +9,8 @@ use Rattle.teco_model.specs.Paging.{unread_of}
 use Rattle.teco_model.specs.Run.{Reaches}
 use Rattle.teco_model.specs.State.{Kept, World, State, start}
 use Rattle.teco_poly.specs.Polynomial.{Polynomial, value}
+use Rattle.teco_verifier.specs.expansion.Expansion.{expansion}
+use Rattle.teco_verifier.specs.expansion.Node.{Node}
 
 -- The texts of a library, the register that is called, the argument that it takes, if any, the files that must be
 -- open, the most commands, the most that must fit, and, if bounds on them are known, how much longer the text gets and
@@ -36,21 +39,24 @@ IsWithin None number = ⊤
 IsWithin (Some most) number = number ≤ most
 
 -- A run comes to its end within so many steps; on its way and at its end no more is in the buffer and unread, and at
--- its end no more bytes were typed.
-pub record EndsInBounds (s : State) (most : ℕ) (held typed : Option ℕ) : Type 0 where
+-- its end no more bytes were typed, and what no node names is as it was.
+pub record EndsInBounds (nodes : List Node) (s : State) (most : ℕ) (held typed : Option ℕ) : Type 0 where
   pub ends : EndsWithin s most
   pub on_the_way : (k : ℕ) (t : State) → k ≤ ends.steps → Reaches k s t → IsWithin held (held_of t.world)
   pub at_the_end : IsWithin held (held_of ends.new)
   pub types : IsWithin typed (length ends.new.kept.typed)
+  pub framed : LeavesFramed nodes s.world.kept ends.new.kept
 
 -- Each call with an argument that is asked for, where the library is loaded, the size may be held and the files that it
 -- needs are open, comes to its end within the commands, without a code, by no command of files; its text gets no longer
--- on the way, and it types no more bytes, than is told.
-abbrev pub EachRunEnds : Promise → Type 0
-EachRunEnds promise =
-    (given : Option ℕ) (world : World)
-    → IsAsked promise.argument given → IsReady promise.library promise.entry promise.size (n_of world) world
-    → AreOpen promise.needs world.files
-    → EndsInBounds (start (call_given promise.entry given) world) (value promise.commands (n_of world))
-    (most_with promise.grows (n_of world) (held_of world))
-    (most_with promise.types (n_of world) (length world.kept.typed))
+-- on the way, and it types no more bytes, than is told; and it leaves what no element of the macro names.
+pub record EachRunEnds (promise : Promise) : Type 0 where
+  pub nodes : List Node
+  pub expanded : expansion promise.library promise.entry ≡ Ok nodes
+  pub runs :
+      (given : Option ℕ) (world : World)
+      → IsAsked promise.argument given → IsReady promise.library promise.entry promise.size (n_of world) world
+      → AreOpen promise.needs world.files
+      → EndsInBounds nodes (start (call_given promise.entry given) world) (value promise.commands (n_of world))
+      (most_with promise.grows (n_of world) (held_of world))
+      (most_with promise.types (n_of world) (length world.kept.typed))

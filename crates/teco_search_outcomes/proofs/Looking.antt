@@ -531,7 +531,12 @@ module _ (x : Search) (answering : Bool) (e : Element) (taken : TakenForms) (cas
         rest.1,
         omega (arith, rest.2),
         (
-          record { frames = refl; held = omega (arith, page_within U pages s e world o short some) },
+          record {
+            frames = refl;
+            left = refl;
+            registers = o.registers;
+            held = omega (arith, page_within U pages s e world o short some);
+          },
           rest.3,
         ),
       )

@@ -1,8 +1,8 @@
 -- What is asked of searches over pages, N and FN. Such a search takes a step for each page that it turns, at the same
 -- element, and one more that ends it. So its law is that of a search whose cases are met some steps later: where a
 -- state begins it and an output is open, none of the steps comes to a code; each but the last leads to a state at the
--- element in which no more is held than where it began; and one of the cases describes the state behind the last, with
--- all of them counted.
+-- element with pages left to turn, which has the registers of the first and holds no more; and one of the cases
+-- describes the state behind the last, with all of them counted.
 use Rattle.std.specs.Prelude.{◌≡◌, ℕ, zero, suc, ◌+◌, ◌≤◌, ℤ, pos, negsuc, ◌≤ℤ◌, List, [], ◌∷◌, ◌++◌, length, Bool}
 use Rattle.std.specs.Prelude.{true}
 use Rattle.std.specs.Prelude.{is_some, if◌then◌else◌, unwrap_or, Option, Some, None, Ok}
@@ -32,9 +32,11 @@ use Rattle.teco_search_outcomes.specs.declared.page_searches.PageMatches.{PageMa
 abbrev pub held_in : State → ℕ
 held_in s = length s.world.kept.text + unread_in s.world.files.input
 
--- a state is at the same element as another, and holds no more
+-- A state is at the same element as another, with pages left to turn; it has the same registers, and holds no more.
 pub record IsStill (s t : State) : Type 0 where
   pub frames : t.frames ≡ s.frames
+  pub left : is_some t.left ≡ true
+  pub registers : t.world.kept.registers ≡ s.world.kept.registers
   pub held : held_in t ≤ held_in s
 
 -- What a step comes to leads on for so many steps more, and the last of them to a state of a property.

@@ -4,7 +4,9 @@ use std::alloc::Global;
 use std::fs;
 use std::fs::{DirEntry, Permissions};
 use std::os::unix::fs::{PermissionsExt, symlink};
-use teco_pages::{Backup, Closed, Closing, FileHost, Handling, Host, ProcessFacts, remove_strays};
+use teco_pages::{
+    Backup, Closed, Closing, FileHost, FolderFiles, Handling, Host, ProcessFacts, remove_strays,
+};
 
 const FOLDER: &str = "somleut_test_outputs";
 
@@ -233,14 +235,20 @@ fn stray_of(alloc: Global, name: &str) -> Option<String> {
     format!(in alloc; "somleut_test_strays/.somleut-4194305-{behind}").ok()
 }
 
+// How many files that processes left are removed in a folder.
+fn swept(rt: &HostRuntime, folder: &str) -> Option<usize> {
+    let facts = ProcessFacts::read(rt, rt.alloc());
+    let mut files = FolderFiles::open(rt, rt.alloc(), folder, facts).ok()?;
+    remove_strays(rt.alloc(), &mut files).ok()
+}
+
 // Is a file removed that a process left which is gone, and no other?
 fn is_stray_removed(rt: &HostRuntime, folder: &str, stray: &str) -> bool {
-    let facts = ProcessFacts::read(rt, rt.alloc());
     fs::write(rt, stray, b"left").is_ok()
         && fs::write(rt, "somleut_test_strays/.somleut-1", b"no stray").is_ok()
-        && matches!(remove_strays(rt, rt.alloc(), folder, facts), Ok(1))
+        && swept(rt, folder) == Some(1)
         && is_missing(rt, stray)
-        && matches!(remove_strays(rt, rt.alloc(), folder, facts), Ok(0))
+        && swept(rt, folder) == Some(0)
 }
 
 // Is what a process left removed that is gone, and not what this one has open?

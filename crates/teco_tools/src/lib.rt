@@ -2,6 +2,7 @@
 //! of registers, and what is said of codes.
 #![tactic(auto)]
 
+mod escaping;
 mod fault;
 mod machines;
 mod messages;
@@ -12,6 +13,7 @@ mod setting;
 mod strings;
 mod telling;
 
+pub use escaping::Escaping;
 pub use fault::ToolFault;
 pub use machines::{machine_with, within_limit};
 pub use messages::tell_anyway;

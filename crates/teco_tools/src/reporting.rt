@@ -4,7 +4,7 @@ use std::io::{Read, Write};
 use teco_console::Voice;
 use teco_files::{System, Trouble};
 use teco_hosts::Host;
-use teco_pages::FileHost;
+use teco_pages::{FileHost, PolicyHost};
 use teco_streams::Streams;
 
 /// A host that says what is left of its input, and why its last call that failed did.
@@ -30,6 +30,20 @@ impl<R: System> Reporting for FileHost<R> {
 
     fn trouble(&self) -> Option<&Trouble> {
         FileHost::trouble(self)
+    }
+}
+
+impl<R: System> Reporting for PolicyHost<'_, R> {
+    fn bytes_left(&self) -> Option<u64> {
+        self.host().bytes_left()
+    }
+
+    fn input_length(&self) -> Option<u64> {
+        self.host().input_length()
+    }
+
+    fn trouble(&self) -> Option<&Trouble> {
+        self.host().trouble()
     }
 }
 

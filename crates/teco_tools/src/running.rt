@@ -16,6 +16,7 @@ use crate::strings::StringProgress;
 use crate::telling::{Scene, code_of, size_of, tell_macro};
 use std::alloc::{AllocError, Global};
 use std::io::{Read, Write};
+use teco_base::bytes::ESC;
 use teco_base::{Code, LIMIT};
 use teco_console::{
     Console, Escape, Outcome, Shelf, Voice, form_of, form_of_word, letters, read_file,
@@ -27,6 +28,9 @@ use teco_run::{Machine, Stop, Stopped};
 use teco_session::{Conduct, Done, Listener, SessionFault, session_heard};
 use teco_source::{LineAndByte, Shown, Source};
 use teco_text::{GapText, TextStore};
+
+/// What people type who look for help, or for the way out.
+const WORDS_FOR_HELP: [&str; 4] = ["help", "quit", "exit", "?"];
 
 /// What is run, and how.
 #[derive(Clone, Copy)]
@@ -78,7 +82,8 @@ impl<'a, E: Write + Drop> Teller<'a, E> {
     fn tell_in_stream(&mut self, place: usize, scene: Scene<'_>) {
         let name = scene.letters();
         let number = self.number;
-        self.voice.say(format_args!("?{name} in command string {number} at byte {place}: {scene}"));
+        let byte = place.saturating_add(1);
+        self.voice.say(format_args!("?{name} in command string {number} at byte {byte}: {scene}"));
     }
 
     // Says where in a source it stopped.
@@ -106,7 +111,10 @@ impl<'a, E: Write + Drop> Teller<'a, E> {
         }
         let scene = Scene::of(text, place, machine, code);
         match self.source {
-            None => self.tell_in_stream(place, scene),
+            None => {
+                self.tell_in_stream(place, scene);
+                tell_help(self.voice, text);
+            }
             Some(source) => self.tell_in_source(source, place, scene),
         }
     }
@@ -115,7 +123,8 @@ impl<'a, E: Write + Drop> Teller<'a, E> {
     fn tell_open_stream(&mut self, name: &str) {
         let number = self.number.saturating_add(1);
         self.voice.say(format_args!(
-            "?{name} in command string {number}: it has no end, which is two ESC"
+            "?{name} in command string {number}: it has no end, which is two ESC; $ is ESC with \
+                teco run --esc '$' - and in files named .tes"
         ));
     }
 
@@ -158,6 +167,28 @@ where
             None => self.tell_open_stream(name),
             Some(source) => self.tell_open_source(source, name),
         }
+    }
+}
+
+// Is a command string a call for help, or for the end, as in other programs?
+fn is_call_for_help(text: &[u8]) -> bool {
+    let end = text
+        .iter()
+        .position(|byte| *byte == ESC)
+        .unwrap_or(text.len());
+    let word = text.get(..end).unwrap_or(text).trim_ascii();
+    WORDS_FOR_HELP
+        .iter()
+        .any(|other| word.eq_ignore_ascii_case(other.as_bytes()))
+}
+
+// Says where help is, if a command string calls for it.
+fn tell_help<E: Write + Drop>(voice: &mut Voice<E>, text: &[u8]) {
+    if is_call_for_help(text) {
+        voice.say(
+            "  teco explain lists commands and codes, and teco explain FS says what FS does; EX and \
+                two ESC end the session",
+        );
     }
 }
 

@@ -1,4 +1,5 @@
 //! Where a path of the search has come to.
+use crate::fault::SearchStop;
 use crate::keys::copied_shape;
 use crate::notes::PathNotes;
 use teco_bounds::bounds::Bounds;
@@ -7,8 +8,9 @@ use teco_bounds::forms::form_in;
 use teco_bounds::measures::{CODE_BEFORE, CODE_HERE, LINE_END, POINTER, SIZE};
 use teco_bounds::reduced::{Bounded, UsedLimits, add_symbols};
 use teco_bounds::workspace::{Stop, Workspace};
+use teco_implied::{is_so, is_so_nearby};
 use teco_linear::{Difference, Form};
-use teco_paths::implied::{is_so, is_so_nearby};
+use teco_paths::fault::PathFault;
 use teco_rows::case::Case;
 
 // With more constraints than this they are made fewer.
@@ -56,7 +58,13 @@ impl Trail {
         } else {
             is_so(&self.case, form, alloc)
         };
-        notes.take(shown) == Some(true)
+        match shown {
+            Ok(is_shown) => is_shown,
+            Err(fault) => {
+                notes.stop(SearchStop::from(PathFault::from(fault)));
+                false
+            }
+        }
     }
 
     // The case with the constraints that bound differences, and no forms.

@@ -12,18 +12,20 @@ use Rattle.teco_verify.specs.Straight.{StraightIsChecked, StraightIsVerified}
 use Rattle.teco_verify.specs.declared.refusal.Refusal.{Refusal}
 use Rattle.teco_verify.specs.declared.refusal.Refusal.TheVariants.{No, Memory}
 use Rattle.teco_verify.specs.Refusing.{IsOfCertificate, PrintedIsFound, RefusedIsDerived, RefusedIsExpansions}
-use Rattle.teco_verify.specs.Refusing.{RefusedIsOverflow, RefusedIsUnclosed}
+use Rattle.teco_verify.specs.Refusing.{RefusedIsOverflow, RefusedIsUnclosed, refusal_of_certificate}
 use Rattle.std.specs.Result.{IfErr}
-use Rattle.teco_verdicts.specs.Answers.{Answer, Answers, AnswersIn, ChecksByTable, IsRefusal}
-use Rattle.teco_acceptance.specs.Refused.{IsDenied, IsDeniedBy}
+use Rattle.teco_verdicts.specs.Answers.{Answer, Answers, AnswersIn, ChecksByTable}
+use Rattle.teco_acceptance.specs.Refused.{IsDenied, IsDeniedBy, IsRefusal, IsRefusedByTable, IsUnclaimedFor, told_of}
 use Rattle.teco_verdicts.specs.Answers.{IsStraightVerdict, OfText, VerdictByTable}
 use Rattle.teco_acceptance.specs.Refused.{ReadsNone, Refuses}
 use Rattle.teco_verdicts.specs.Certificates.{IsCertificate}
-use Rattle.teco_verdicts.specs.Linear.{ChecksByClaims, RefusesCertificate, VerdictByClaims}
+use Rattle.teco_verdicts.specs.Linear.{ChecksByClaims, VerdictByClaims}
 use Rattle.teco_acceptance.specs.Lines.{refused_line}
 use Rattle.teco_console.specs.Output.{Writes}
-use Rattle.teco_verdicts.specs.Methods.{ChecksBy, ChecksIn, IsRefusedByTable, VerdictBy, VerdictIn}
-use Rattle.teco_acceptance.specs.Accepted.{IsAmong}
+use Rattle.teco_verdicts.specs.Methods.{ChecksBy, ChecksIn, VerdictBy, VerdictIn}
+use Rattle.teco_acceptance.specs.Editions.{edition_by}
+use Rattle.teco_claimed.specs.declared.refusal.LinearRefusal.{LinearRefusal}
+use Rattle.teco_claimed.specs.declared.refusal.LinearRefusal.TheVariants as linear
 use Rattle.teco_console.specs.declared.method.Edition.{Edition}
 use Rattle.teco_console.specs.declared.method.Edition.TheVariants.{Second}
 use Rattle.teco_console.specs.declared.method.Method.{Method}
@@ -196,13 +198,13 @@ refused_by_both library entry old new result refused p =
     answers_as (VerdictByClaims library entry) (VerdictBy Best library entry) old new result
     (λ outcome text answer. refused_too library entry outcome text refused answer) p
 
+-- the answers of the edition by which is checked
 pub checks_by : {E : Type 0} (method : Method) (edition : Edition) (bytes : List ℕ) (library : LibraryFile) (entry : ℕ)
-    (old new : Option (List ℕ)) (result : Result Outcome E) → IsAmong method edition
+    (old new : Option (List ℕ)) (result : Result Outcome E) → edition ≡ edition_by method bytes
     → Answers (ChecksIn edition bytes library entry) old new result
     → Answers (ChecksBy method bytes library entry) old new result
-checks_by method edition bytes library entry old new result among p =
-    answers_as (ChecksIn edition bytes library entry) (ChecksBy method bytes library entry) old new result
-    (λ outcome text answer. record { edition = edition; among = among; answer = answer }) p
+checks_by method edition bytes library entry old new result is p =
+    subst (λ (by : Edition). Answers (ChecksIn by bytes library entry) old new result) is p
 
 -- the answers by claims
 pub refused_by_claims : {E : Type 0} (library : LibraryFile) (entry : ℕ) (old new : Option (List ℕ))
@@ -211,17 +213,14 @@ pub refused_by_claims : {E : Type 0} (library : LibraryFile) (entry : ℕ) (old 
 refused_by_claims library entry old new refusal result refused p =
     of_refusal (VerdictByClaims library entry) old new refusal result (refusal, refl) refused p
 
-denied_as : {E : Type 0} (bytes : List ℕ) (library : LibraryFile) (entry : ℕ) (old new : Option (List ℕ))
-    (refusal : Refusal) (result : Result Outcome E) → IsOfCertificate refusal → IfOk result (λ o. o ≡ Refused)
-    → Refuses old new refusal result → Answers (ChecksByClaims bytes library entry) old new result
-denied_as bytes library entry old new (No reason register place) result spelled refused p =
-    of_refusal (ChecksByClaims bytes library entry) old new (No reason register place) result
-    (ap refused_line spelled) refused p
-denied_as bytes library entry old new Memory result spelled refused p =
-    of_none (ChecksByClaims bytes library entry) old new result p.0 p.1
-
 pub denied_by_claims : {E : Type 0} (bytes : List ℕ) (library : LibraryFile) (entry : ℕ) (old new : Option (List ℕ))
-    (result : Result Outcome E) → IfOk result (λ o. o ≡ Refused) → RefusesCertificate old new result
+    (refused : LinearRefusal) (result : Result Outcome E) → IsUnclaimedFor bytes library entry refused
+    → IfOk result (λ o. o ≡ Refused) → Refuses old new (told_of refused) result
     → Answers (ChecksByClaims bytes library entry) old new result
-denied_by_claims bytes library entry old new result refused p =
-    denied_as bytes library entry old new p.refusal result p.of_certificate refused p.line
+denied_by_claims bytes library entry old new linear.Memory result why done p =
+    of_none (ChecksByClaims bytes library entry) old new result p.0 p.1
+denied_by_claims bytes library entry old new refused result why done p =
+    of_refusal (ChecksByClaims bytes library entry) old new refusal_of_certificate result (
+      record { refused = refused; why = why; some = λ same. absurd (cc) },
+      refl,
+    ) done p

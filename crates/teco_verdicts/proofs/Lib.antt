@@ -2,3 +2,4 @@
 mod Answering
 mod Ending
 mod RoundTrip
+mod Stating

@@ -1,7 +1,7 @@
 -- What `verify` and `check` answer of an entry, and what is written of an answer.
 use Rattle.std.specs.Prelude.{ℕ, ◌≡◌, ◌≢◌, ◌⊎◌, ⊤, List, codes, Option, None, Result, Ok, Err, IsErr}
 use Rattle.std.specs.Io.KnownBytes.{Appends, Keeps}
-use Rattle.teco_acceptance.specs.Refused.{IsDenied, StraightIs}
+use Rattle.teco_acceptance.specs.Refused.{IsDenied, IsRefusal, StraightIs}
 use Rattle.teco_certificate.specs.Text.{certificate_text}
 use Rattle.teco_law_tables.specs.straight_text.Straight.{IsStraight}
 use Rattle.teco_library.specs.Library.{LibraryFile, argument_of}
@@ -11,8 +11,8 @@ use Rattle.teco_model.specs.Element.{Element}
 use Rattle.teco_verifier.specs.certificate.Fields.{Fields, Finding}
 use Rattle.teco_verifier.specs.declared.refusal.RefusalReason.TheVariants as why
 use Rattle.teco_verify.specs.Again.{AreMadeAgain}
-use Rattle.teco_verify.specs.Refusing.{IsJudged, RefusedIsExpansions, refusal_of_certificate}
-use Rattle.teco_verify.specs.Straight.{StraightIsVerified, straight_fields}
+use Rattle.teco_verify.specs.Refusing.{refusal_of_certificate}
+use Rattle.teco_verify.specs.Straight.{straight_fields}
 use Rattle.teco_verify.specs.declared.refusal.Refusal.{Refusal}
 use Rattle.teco_verify.specs.declared.refusal.Refusal.TheVariants.{No, Memory}
 use Rattle.teco_verdicts.specs.Certificates.{IsCertificate}
@@ -51,13 +51,7 @@ IsStraightVerdict library entry (Ok found) = StraightIs library entry (λ elemen
     found.fields ≡ straight_fields entry elements)
 IsStraightVerdict library entry (Err refusal) = ⊤
 
--- what the verifier promises of its refusal of an entry
-pub record IsRefusal (library : LibraryFile) (entry : ℕ) (refusal : Refusal) : Type 0 where
-  pub straight : StraightIsVerified library entry (Err refusal)
-  pub unexpanded : RefusedIsExpansions library entry (Err refusal)
-  pub judged : IsJudged library entry (Err refusal)
-
--- the line of such a refusal
+-- the line of a refusal by a table
 pub record IsRefusalLine (library : LibraryFile) (entry : ℕ) (text : List ℕ) : Type 0 where
   pub refusal : Refusal
   pub refused : IsRefusal library entry refusal
@@ -103,13 +97,18 @@ OfText In source Refused text = AnswersIn In source Refused text ⊎ IsNoLibrary
 
 -- the answer on the source that was read for a request
 pub record AnswersOn {E : Type 0} (holds : List ℕ → Option (List ℕ)) (request : Request)
-    (In : LibraryFile → Answer) (old new : Option (List ℕ)) (result : Result Outcome E) : Type 0 where
+    (Of : List ℕ → Answer) (old new : Option (List ℕ)) (result : Result Outcome E) : Type 0 where
   pub source : List ℕ
   pub read : IsReadFor holds request source
-  pub answers : Answers (OfText In source) old new result
+  pub answers : Answers (Of source) old new result
 
 -- that, or with a fault none was read and nothing written
+abbrev pub AnswersOf : {E : Type 0} → (List ℕ → Option (List ℕ)) → Request → (List ℕ → Answer)
+    → Option (List ℕ) → Option (List ℕ) → Result Outcome E → Type 0
+AnswersOf holds request Of old new result =
+    (IsErr result × Keeps old new) ⊎ AnswersOn holds request Of old new result
+
+-- that of a library, or the line for none
 abbrev pub AnswersFor : {E : Type 0} → (List ℕ → Option (List ℕ)) → Request → (LibraryFile → Answer)
     → Option (List ℕ) → Option (List ℕ) → Result Outcome E → Type 0
-AnswersFor holds request In old new result =
-    (IsErr result × Keeps old new) ⊎ AnswersOn holds request In old new result
+AnswersFor holds request In old new result = AnswersOf holds request (OfText In) old new result

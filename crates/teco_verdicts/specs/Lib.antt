@@ -5,3 +5,4 @@ pub mod Ending
 pub mod RoundTrip
 pub mod Linear
 pub mod Methods
+pub mod Json

@@ -1,15 +1,15 @@
 -- What `verify` and `check` answer by the linear rules.
-use Rattle.std.specs.Prelude.{ℕ, ◌≡◌, List, Option, Result, codes}
+use Rattle.std.specs.Prelude.{ℕ, ◌≡◌, List, codes}
 use Rattle.teco_claimed.specs.Claimed.{IsChecked}
 use Rattle.teco_claimed.specs.Text.{linear_text}
 use Rattle.teco_claimed.specs.declared.certificate.LinearCertificate.{LinearCertificate}
 use Rattle.teco_library.specs.Library.{LibraryFile}
 use Rattle.teco_verdicts.specs.Answers.{Answer}
-use Rattle.teco_acceptance.specs.Refused.{Refuses}
+use Rattle.teco_acceptance.specs.Refused.{IsUnclaimed}
 use Rattle.teco_acceptance.specs.Lines.{refused_line}
 use Rattle.teco_console.specs.declared.outcome.Outcome.{Outcome}
 use Rattle.teco_console.specs.declared.outcome.Outcome.TheVariants.{Done, Coded, Refused}
-use Rattle.teco_verify.specs.Refusing.{IsOfCertificate, refusal_of_certificate}
+use Rattle.teco_verify.specs.Refusing.{refusal_of_certificate}
 use Rattle.teco_verify.specs.declared.refusal.Refusal.{Refusal}
 
 -- The text of a certificate of an entry of a library whose claims hang together, with the argument that is declared.
@@ -29,10 +29,5 @@ VerdictByClaims library entry Refused text = (refusal : Refusal) × (text ≡ re
 abbrev pub ChecksByClaims : List ℕ → LibraryFile → ℕ → Answer
 ChecksByClaims bytes library entry Done text = IsLinear library entry bytes × (text ≡ codes "accepted\n")
 ChecksByClaims bytes library entry Coded text = ⊥
-ChecksByClaims bytes library entry Refused text = text ≡ refused_line refusal_of_certificate
-
--- The line of a refused certificate was written. For want of memory, which is a fault, nothing was.
-pub record RefusesCertificate {E : Type 0} (old new : Option (List ℕ)) (result : Result Outcome E) : Type 0 where
-  pub refusal : Refusal
-  pub of_certificate : IsOfCertificate refusal
-  pub line : Refuses old new refusal result
+ChecksByClaims bytes library entry Refused text =
+    IsUnclaimed bytes library entry × (text ≡ refused_line refusal_of_certificate)

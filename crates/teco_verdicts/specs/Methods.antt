@@ -2,8 +2,10 @@
 use Rattle.std.specs.Prelude.{ℕ, ◌≡◌, ◌⊎◌, ⊤, List, Option, Result, IsErr, IfSome}
 use Rattle.std.specs.Io.KnownBytes.{Keeps}
 use Rattle.teco_acceptance.specs.Accepted.{IsAmong}
+use Rattle.teco_acceptance.specs.Editions.{edition_by}
+use Rattle.teco_acceptance.specs.Refused.{IsRefusedByTable}
 use Rattle.teco_library.specs.Library.{LibraryFile}
-use Rattle.teco_verdicts.specs.Answers.{Answer, AnswersFor, ChecksByTable, IsRefusal, VerdictByTable}
+use Rattle.teco_verdicts.specs.Answers.{Answer, AnswersFor, ChecksByTable, VerdictByTable}
 use Rattle.teco_verdicts.specs.Linear.{ChecksByClaims, VerdictByClaims}
 use Rattle.teco_console.specs.declared.method.Edition.{Edition}
 use Rattle.teco_console.specs.declared.method.Edition.TheVariants.{First, Second}
@@ -12,20 +14,11 @@ use Rattle.teco_console.specs.declared.method.Method.TheVariants.{Only, Best}
 use Rattle.teco_console.specs.declared.outcome.Outcome.{Outcome}
 use Rattle.teco_console.specs.declared.outcome.Outcome.TheVariants.{Done, Coded, Refused}
 use Rattle.teco_console.specs.declared.request.Request.{Request}
-use Rattle.teco_verifier.specs.declared.refusal.RefusalReason.{RefusalReason}
-use Rattle.teco_verify.specs.declared.refusal.Refusal.TheVariants.{No}
 
 -- what `verify` answers of an entry by an edition
 abbrev pub VerdictIn : Edition → LibraryFile → ℕ → Answer
 VerdictIn First library entry = VerdictByTable library entry
 VerdictIn Second library entry = VerdictByClaims library entry
-
--- by a table the verifier refuses a macro, and not for want of memory
-pub record IsRefusedByTable (library : LibraryFile) (entry : ℕ) : Type 0 where
-  pub why : RefusalReason
-  pub register : Option ℕ
-  pub place : ℕ
-  pub refused : IsRefusal library entry (No why register place)
 
 -- where either edition may accept, what is refused is refused by a table, too
 abbrev pub RefusesByBoth : Method → LibraryFile → ℕ → Outcome → Type 0
@@ -47,12 +40,9 @@ abbrev pub ChecksIn : Edition → List ℕ → LibraryFile → ℕ → Answer
 ChecksIn First bytes library entry = ChecksByTable bytes library entry
 ChecksIn Second bytes library entry = ChecksByClaims bytes library entry
 
--- by a method: an answer of one of its editions
-pub record ChecksBy (method : Method) (bytes : List ℕ) (library : LibraryFile) (entry : ℕ) (outcome : Outcome)
-    (text : List ℕ) : Type 0 where
-  pub edition : Edition
-  pub among : IsAmong method edition
-  pub answer : ChecksIn edition bytes library entry outcome text
+-- by a method: the answer of the edition that is asked for, or else of the one that the bytes name
+abbrev pub ChecksBy : Method → List ℕ → LibraryFile → ℕ → Answer
+ChecksBy method bytes library entry = ChecksIn (edition_by method bytes) bytes library entry
 
 -- what `check` answers of the bytes that a file of a name has
 pub record ChecksOn {E : Type 0} (holds : List ℕ → Option (List ℕ)) (request : Request) (entry : ℕ)

@@ -7,6 +7,7 @@ mod json;
 pub mod laws;
 mod linear;
 mod listing;
+mod objects;
 mod verifying;
 
 pub use checking::check_macro;

@@ -3,15 +3,15 @@ ghost use Rattle.std.specs.Prelude.{◌≡◌, IfOk};
 ghost use Rattle.teco_claimed.specs.Claimed.{TakesDeclared};
 ghost use Rattle.teco_claimed.specs.Text.{linear_text};
 ghost use Rattle.teco_verdicts.specs.Answers.{Answers};
-ghost use Rattle.teco_acceptance.specs.Refused.{Refuses};
-ghost use Rattle.teco_verdicts.specs.Linear.{ChecksByClaims, RefusesCertificate, VerdictByClaims};
+ghost use Rattle.teco_acceptance.specs.Refused.{Refuses, told_of};
+ghost use Rattle.teco_verdicts.specs.Linear.{ChecksByClaims, VerdictByClaims};
 ghost use Rattle.teco_console.specs.Output.{Writes};
 ghost use Rattle.teco_console.specs.declared.outcome.Outcome.TheVariants.{Done, Refused};
 
 use std::io::Write;
 use teco_acceptance::{
-    ClaimedCertificate, RefusedMacro, accepted_by_claims, other_edition, reason_of, refusal_of,
-    refusal_of_text, refuse, tell_other_edition, tell_premise,
+    ClaimedCertificate, MENDING, RefusedMacro, accepted_by_claims, is_whole, other_edition,
+    reason_of, refusal_of, refusal_of_text, refuse, refuse_claim, tell_premise,
 };
 use teco_base::Reg;
 use teco_claimed::{Claimed, LinearRefusal, Unverified, verify_linear};
@@ -137,21 +137,19 @@ pub fn verify_claims<S: ClaimSearch, O: Write + Drop, E: Write + Drop>(
 fn refuse_linear<O: Write + Drop, E: Write + Drop>(
     console: &mut Console<O, E>,
     sourced: &Sourced,
+    entry: Reg,
     claim: &ClaimedCertificate<'_>,
     refused: &LinearRefusal,
 ) -> Result<Outcome, AnswerFault>
     ensures outcome { IfOk result (λ outcome. outcome ≡ Refused) }
-    ensures line { RefusesCertificate (O.contents console.old.out) (O.contents console.new.out)
-        result }
+    ensures line { Refuses (O.contents console.old.out) (O.contents console.new.out)
+        (told_of refused.now) result }
 {
     let refusal = refusal_of_text(refused);
-    let outcome = refuse(console, &sourced.source, refusal, Edition::Second)?;
-    match other_edition(&claim.bytes, sourced.method) {
-        Some(edition) => tell_other_edition(console, claim.name, edition),
-        None => {
-            let name = Shown(claim.name.as_bytes());
-            console.say(format_args!("{name}: {refused}"));
-        }
+    let outcome = refuse_claim(console, sourced, entry, claim, refusal)?;
+    if is_whole(claim, entry) && other_edition(&claim.bytes, sourced.method).is_none() {
+        let name = Shown(claim.name.as_bytes());
+        console.say(format_args!("{name}: refused X18: {refused}\n{MENDING}"));
     }
     Ok(outcome)
 }
@@ -179,6 +177,6 @@ pub fn check_claims<O: Write + Drop, E: Write + Drop>(
             )?;
             Ok(Outcome::Done)
         }
-        Err(refused) => refuse_linear(console, sourced, claim, &refused),
+        Err(refused) => refuse_linear(console, sourced, entry, claim, &refused),
     }
 }

@@ -11,7 +11,7 @@ use std::marker::Model;
 use teco_base::{REGISTERS, Reg};
 use teco_certificate::Certificate;
 use teco_law_runs::laws::expansions_are_linked;
-use teco_law_tables::laws::runs_are_verified;
+use teco_law_tables::laws::{runs_are_framed, runs_are_verified, runs_leave_below};
 use teco_library::Library;
 use teco_model::Needs;
 use teco_poly::Poly;
@@ -51,6 +51,8 @@ impl<'l> Verified<'l> {
     {
         expansions_are_linked();
         runs_are_verified();
+        runs_are_framed();
+        runs_leave_below();
         let certificate = &self.certificate;
         Promise::of(Statement {
             library: self.library,

@@ -8,6 +8,13 @@ use clap::{Arg, Command};
 use std::alloc::{AllocError, Global};
 use std::convert::AsStr;
 
+/// What the status says that the program ends with.
+const STATUSES: &str = "Status:\n\
+    \x20 0  done, or there was nothing to do\n\
+    \x20 1  a code; a file that edit could not edit, or that edit --check would change\n\
+    \x20 2  words, a library, a certificate or a stream that can't be used\n\
+    \x20 3  a refusal; a file outside the promise";
+
 /// A command of the program: what its help says, and its arguments.
 #[derive(Clone, Copy)]
 pub struct HelpPage {
@@ -187,6 +194,7 @@ fn add_all<S: AsStr>(commands: &mut Vec<Command<'_>>, words: &[S]) -> Result<(),
 fn program<'a>(alloc: Global) -> Command<'a> {
     Command::new(alloc, "teco")
         .about("TECO, the Text Editor and Corrector")
+        .after_help(STATUSES)
         .version("0.1.0")
         .subcommand_required(true)
 }

@@ -1,6 +1,11 @@
 //! Why words are not obeyed.
 use std::alloc::{AllocError, AllocFailed};
+use teco_policy::PolicyRefusal;
 use thiserror::Error;
+
+// The words that say what an edit must not do.
+const POLICY_WORDS: &str = "--keep takes text, size, lines or others=PATTERN; \
+    --add nothing or only=CHARACTERS; --take only=CHARACTERS; --most 10 or 5%";
 
 /// Why words are not obeyed.
 #[derive(Debug, Drop, Error)]
@@ -41,6 +46,15 @@ pub enum WordsFault {
     /// A pattern has a class of characters.
     #[error("in a pattern * is any text and ? any byte; there are no classes in brackets")]
     Pattern,
+    /// A stream is to be edited in place.
+    #[error("edit changes files; teco apply .. - - edits standard input, and ./- is a file of that name")]
+    EditStream,
+    /// Files of folders are chosen, and no folder is looked through.
+    #[error("--include and --exclude choose among the files of folders: give --recursive too")]
+    Unlooked,
+    /// The character for ESC is named, and command strings come from standard input as they are.
+    #[error("--esc is not for what is typed; with - as FILE it is for standard input: teco run --esc '$' -")]
+    EscapeStream,
     /// Neither a word nor a list names files.
     #[error("no file is named: give FILE or --files-from")]
     NoFile,
@@ -53,6 +67,9 @@ pub enum WordsFault {
     /// Standard input is to be a library and a list.
     #[error("LIB and the list of files cannot both be standard input")]
     ListStream,
+    /// What an edit must not do is said by other words than those for that.
+    #[error("{}: {}", .0, POLICY_WORDS)]
+    Policy(PolicyRefusal),
     /// Which pages are edited is none of the three words for that.
     #[error("--pages takes first, each or whole")]
     Pages,
@@ -71,6 +88,15 @@ pub enum WordsFault {
     /// A growth was refused.
     #[error("out of memory")]
     Memory,
+}
+
+impl From<PolicyRefusal> for WordsFault {
+    fn from(refusal: PolicyRefusal) -> WordsFault {
+        match refusal {
+            PolicyRefusal::Memory => WordsFault::Memory,
+            other => WordsFault::Policy(other),
+        }
+    }
 }
 
 impl From<AllocError> for WordsFault {

@@ -110,6 +110,10 @@ pub const EDIT_PAGE: HelpPage = HelpPage {
         DRY,
         CHECK,
         NUL,
+        KEEP,
+        ADD,
+        TAKE,
+        MOST,
         DIFF,
         COLOR,
         LISTED_FILES,
@@ -341,8 +345,8 @@ const STRICTLY: Parameter = Parameter {
 
 const QUIET: Parameter = Parameter {
     id: "quiet",
-    kind: ParameterKind::Flag,
-    help: "Say nothing but what fails, what is left undone and what --stats asks for",
+    kind: ParameterKind::Switch('q'),
+    help: "Say nothing but what fails or is refused, what is left undone and what --stats asks for",
 };
 
 const BACKUP: Parameter = Parameter {
@@ -356,6 +360,32 @@ const FILES: Parameter = Parameter {
     id: "FILE",
     kind: ParameterKind::Words,
     help: "The files that are edited, and with --recursive folders",
+};
+
+const KEEP: Parameter = Parameter {
+    id: "keep",
+    kind: ParameterKind::Texts("WHAT"),
+    help: "Leave a file as it was whose edit would take any text (text), change its length (size) or \
+        its line ends (lines), or change lines without a match of PATTERN (others=PATTERN)",
+};
+
+const ADD: Parameter = Parameter {
+    id: "add",
+    kind: ParameterKind::Texts("WHAT"),
+    help: "Leave a file as it was whose edit would add anything (nothing), or others than these \
+        (only=CHARACTERS)",
+};
+
+const TAKE: Parameter = Parameter {
+    id: "take",
+    kind: ParameterKind::Texts("WHAT"),
+    help: "Leave a file as it was whose edit would take others than these (only=CHARACTERS)",
+};
+
+const MOST: Parameter = Parameter {
+    id: "most",
+    kind: ParameterKind::Texts("LINES"),
+    help: "Leave a file as it was whose edit would change more lines: 10, or 5% of them",
 };
 
 const DIFF: Parameter = Parameter {
@@ -386,7 +416,8 @@ const RECURSIVE: Parameter = Parameter {
 const INCLUDED: Parameter = Parameter {
     id: "include",
     kind: ParameterKind::Texts("PATTERN"),
-    help: "Of folders, edit the files whose names are of this pattern alone, as *.txt",
+    help: "Of folders, edit the files whose names are of this pattern alone, as *.txt; * is any \
+        text and ? any byte",
 };
 
 const EXCLUDED: Parameter = Parameter {
@@ -398,7 +429,7 @@ const EXCLUDED: Parameter = Parameter {
 const BINARY: Parameter = Parameter {
     id: "binary",
     kind: ParameterKind::Flag,
-    help: "Of folders and lists, edit files too that have a NUL near their beginning",
+    help: "Edit files too that have a NUL near their beginning; they are left as they are without it",
 };
 
 const EDITED: Parameter = Parameter {

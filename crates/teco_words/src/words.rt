@@ -31,6 +31,17 @@ pub fn scripts<'a>(alloc: Global, words: &ArgMatches<'a>) -> Result<Vec<Script<'
     Ok(scripts)
 }
 
+/// Refuses a character for ESC where standard input is read as it comes.
+pub fn check_escape(escape: Escape, scripts: &[Script<'_>]) -> Result<(), WordsFault> {
+    let is_stream = scripts
+        .iter()
+        .any(|script| matches!(script, Script::Stream));
+    match escape {
+        Escape::Mark(mark) if mark != ESC && is_stream => Err(WordsFault::EscapeStream),
+        _ => Ok(()),
+    }
+}
+
 // The place of a number among places, behind all others where there is none.
 fn place_at(places: &[usize], number: usize) -> usize {
     places.get(number).copied().unwrap_or(usize::MAX)
@@ -310,6 +321,9 @@ pub fn choice<'m>(
     if names.is_empty() && list.is_none() {
         return Err(no_file(words));
     }
+    if names.iter().any(|name| *name == STREAM.as_bytes()) {
+        return Err(WordsFault::EditStream);
+    }
     if list == Some(STREAM) && named(words, "LIB", "library") == list {
         return Err(WordsFault::ListStream);
     }
@@ -318,11 +332,15 @@ pub fn choice<'m>(
     if has_class(included) || has_class(excluded) {
         return Err(WordsFault::Pattern);
     }
+    let is_recursive = words.get_flag("recursive");
+    if !is_recursive && !(included.is_empty() && excluded.is_empty()) {
+        return Err(WordsFault::Unlooked);
+    }
     Ok(FileChoice {
         names,
         list,
         ends_by_nul: words.get_flag("null"),
-        is_recursive: words.get_flag("recursive"),
+        is_recursive,
         included,
         excluded,
     })

@@ -1,5 +1,6 @@
 -- What is done with registers, the push-down list, the search mode and numbers is upheld; and so are all commands.
-use Rattle.teco_model.proofs.Prelude.{◌≡◌, ℕ, zero, suc, arith, ap, w32, ℤ, pos, ◌+ℤ◌, List, [], ◌∷◌, drop, length}
+use Rattle.teco_model.proofs.Prelude.{true, ◌≡◌, ℕ, zero, suc, arith, ap, w32, ℤ, pos, ◌+ℤ◌, List, [], ◌∷◌, drop}
+use Rattle.teco_model.proofs.Prelude.{length}
 use Rattle.teco_model.proofs.Prelude.{length-drop, Option, Some, None, ok_or, Ok, nat_le, AllByRecursion, unwrap_or}
 use Rattle.teco_model.proofs.Prelude.{ints, SFits-int_wrap, nat_tests, add, decimal, LIMIT, ◌>>=◌, Element, with_kept}
 use Rattle.teco_model.proofs.Prelude.{empty_pair, Kept, World, Taken, Command, Query, AreBytes, IsWhole, IsWholePair}
@@ -12,7 +13,7 @@ use Rattle.teco_model.proofs.upkeep.Edits.{Ground, Upheld, Leaves, Does, IsUphel
 use Rattle.teco_model.proofs.upkeep.Edits.{motion_does, part_found, deletion_does, inserted, insertion_does}
 use Rattle.teco_model.proofs.upkeep.Edits.{typing_does}
 use Rattle.teco_model.proofs.upkeep.Levels.{Fits, IsTaken, needed}
-use Rattle.teco_model.specs.Names.{named_by, written_by, sets_mode}
+use Rattle.teco_model.specs.Names.{named_by, written_by, is_of_stack, sets_mode}
 use Rattle.teco_model.specs.Query as query
 use Rattle.teco_model.specs.Registers.{Pair, pair_of, with_pair, registers_without_top}
 use Rattle.teco_model.specs.Step.{execution}
@@ -176,29 +177,30 @@ module _ (g : Ground) (world : World) (u : Upheld g world) where
       }
 
 -- ---- [ and ]
-stacked : (g : Ground) (world : World) → Upheld g world → (stack : List Pair)
+stacked : (g : Ground) (world : World) → Upheld g world → is_of_stack g.kind ≡ true → (stack : List Pair)
     → (g.assumed → AllByRecursion IsWholePair stack)
     → Upheld g (with_registers (record world.kept.registers { stack = stack }) world)
-stacked g world u stack s = record {
+stacked g world u is stack s = record {
   whole = λ h. record {
     kept = stacked_whole world.kept (u.whole h).kept stack (s h);
     files = (u.whole h).files;
   };
-  kept = g.upkeep.stacked world stack u.kept;
+  kept = g.upkeep.stacked world stack is u.kept;
 }
 
 module _ (g : Ground) (world : World) (u : Upheld g world) where
   popped : (r : ℕ) (pairs : List Pair) → named_by g.kind ≡ Some r → written_by g.kind ≡ Some r
-      → (g.assumed → AllByRecursion IsWholePair pairs)
+      → is_of_stack g.kind ≡ true → (g.assumed → AllByRecursion IsWholePair pairs)
       → Yields (Leaves g world) (ok_or (registers_without_top r pairs world.kept.registers) code.Pes
       >>= (λ registers. Ok (record world.kept { registers = registers })))
-  popped r [] is writes s = tt
-  popped r (pair ∷ rest) is writes s =
-      stacked g _ (paired g world u r pair is writes (λ h. (s h).0)) rest (λ h. (s h).1)
+  popped r [] is writes pops s = tt
+  popped r (pair ∷ rest) is writes pops s =
+      stacked g _ (paired g world u r pair is writes (λ h. (s h).0)) pops rest (λ h. (s h).1)
 
   pub stack_does : (s : Stack) → g.kind ≡ kind.Stack s
       → Yields (Leaves g world) (storage.stack s world.kept)
   stack_does (stack_kind.Push r) is =
-      stacked g world u _ (λ h. let w = (u.whole h).kept in (pair_whole world.kept w r, w.stack))
+      stacked g world u (ap is_of_stack is) _ (λ h. let w = (u.whole h).kept in (pair_whole world.kept w r, w.stack))
   stack_does (stack_kind.Pop r) is =
-      popped r world.kept.registers.stack (ap named_by is) (ap written_by is) (λ h. (u.whole h).kept.stack)
+      popped r world.kept.registers.stack (ap named_by is) (ap written_by is)
+      (ap is_of_stack is) (λ h. (u.whole h).kept.stack)

@@ -4,7 +4,7 @@ use Rattle.std.specs.Prelude.{◌≡◌, ℕ, ℤ, ⊤, List, true, Option, Some
 use Rattle.teco_base.specs.declared.code.Code.{Code}
 use Rattle.teco_model.specs.Element.{Element}
 use Rattle.teco_model.specs.Going.{with_kept}
-use Rattle.teco_model.specs.Names.{named_by, written_by, sets_mode, is_of_files}
+use Rattle.teco_model.specs.Names.{named_by, written_by, is_of_stack, sets_mode, is_of_files}
 use Rattle.teco_model.specs.Paging.{files_behind_page, world_after_writing}
 use Rattle.teco_model.specs.Registers.{Pair, Registers, with_pair}
 use Rattle.teco_model.specs.State.{World, Outcome, Next, End, Exit, Fail, Absent}
@@ -17,9 +17,9 @@ use Rattle.teco_model.specs.laws.Whole.{IsWholeWorld, IsWholeState}
 abbrev pub with_registers : Registers → World → World
 with_registers registers world = with_kept (record world.kept { registers = registers }) world
 
--- Any element may edit the buffer, the pointer, the search text and what is typed; push and pop; read a page, and
--- write. A register changes only by an element that names it, and its text by one that writes it; the search mode by
--- one that sets it; and what is open by one of files.
+-- Any element may edit the buffer, the pointer, the search text and what is typed; read a page, and write. A register
+-- changes only by an element that names it, and its text by one that writes it; the push-down list by [ and ]; the
+-- search mode by one that sets it; and what is open by one of files.
 pub record Upkeep (k : Kind) (P : World → Type 0) : Type 0 where
   pub edited :
       (old new : World) → new.kept.registers ≡ old.kept.registers → new.kept.mode ≡ old.kept.mode
@@ -31,7 +31,7 @@ pub record Upkeep (k : Kind) (P : World → Type 0) : Type 0 where
       (world : World) (r : ℕ) (pair : Pair) → named_by k ≡ Some r → written_by k ≡ Some r → P world
       → P (with_registers (with_pair r pair world.kept.registers) world)
   pub stacked :
-      (world : World) (stack : List Pair) → P world
+      (world : World) (stack : List Pair) → is_of_stack k ≡ true → P world
       → P (with_registers (record world.kept.registers { stack = stack }) world)
   pub moded :
       (world : World) (mode : ℤ) → sets_mode k ≡ true → P world

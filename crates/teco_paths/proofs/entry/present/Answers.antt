@@ -1,4 +1,3 @@
-use Rattle.teco_paths.proofs.Prelude.{arith}
 use Rattle.teco_paths.proofs.Beginning.{all_there}
 use Rattle.teco_paths.proofs.entry.present.Goals as goal
 

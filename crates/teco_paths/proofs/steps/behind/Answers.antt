@@ -9,7 +9,7 @@ returns c =
     subst (λ b. OnTrue b (IsSmall c.args.course.now c.args.case.now)) c.if-not-is_within.false c.in_ok-is_within.ensures
     in
     if_ok (λ spots. GoOn c.args.course.now.nodes c.args.course.now.needs c.args.number c.args.case.now spots.items)
-    (λ spots. All (LeadsOn c.args.course.now) spots.items → Leads c.args.course.now 1 c.args.number c.args.case.now)
+    (λ spots. All (LeadsOn c.args.course.now) spots.items → Leads c.args.course.now c.args.number c.args.case.now)
     c.behind_node.result
     (λ spots go all. leads_by c.args.course.now c.args.number c.args.case.now spots.items small
     go all)

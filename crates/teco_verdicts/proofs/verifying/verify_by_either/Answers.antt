@@ -5,7 +5,7 @@ use Rattle.teco_claimed.specs.Text.{linear_text}
 use Rattle.teco_console.specs.declared.method.Edition.TheVariants.{First, Second}
 use Rattle.teco_library.specs.Library.{LibraryFile}
 use Rattle.teco_verdicts.proofs.Answering.{accepted_by, by_table, refused_by_both}
-use Rattle.teco_verdicts.specs.Answers.{IsRefusal}
+use Rattle.teco_acceptance.specs.Refused.{IsRefusal}
 use Rattle.teco_verdicts.proofs.verifying.verify_by_either.Goals as goal
 
 pub returns-in-Ok : goal.returns-in-Ok

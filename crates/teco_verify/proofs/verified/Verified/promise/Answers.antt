@@ -5,6 +5,11 @@ use Rattle.teco_verify.proofs.verified.Verified.promise.Goals as goal
 pub of-requires : goal.of-requires
 of-requires c =
     let library = c.self.inside.library.now.texts in
-    certified_ends c.expansions_are_linked.ensures c.runs_are_verified.ensures
+    certified_ends (record {
+      linked = c.expansions_are_linked.ensures;
+      verified = c.runs_are_verified.ensures;
+      framed = c.runs_are_framed.ensures;
+      below = c.runs_leave_below.ensures;
+    })
     (record { library = library; fields = _ })
     (subst (λ (fields : Fields). IsCertified library fields) (sym c.certificate.view_is) c.self.invariant)

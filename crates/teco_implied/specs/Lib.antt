@@ -1,0 +1,2 @@
+-- What is implied.
+pub mod Implied

@@ -1,0 +1,3 @@
+-- Proofs of this crate.
+pub mod Following
+pub mod Policies

@@ -1,0 +1,23 @@
+use Rattle.teco_pages.proofs.Policies.{was_closed, was_dropped}
+use Rattle.teco_pages.proofs.policy_host.PolicyHostHost.close_out.Goals as goal
+
+pub invariant_of-self : goal.invariant_of-self
+invariant_of-self g c = record {
+  met = was_dropped c.args.self.now.terms.policies.now c.args.self.now.terms.closes
+      c.args.self.now.host.calls.history.events c.refuse_out.new.self.calls.history.events
+      c.args.self.now.met c.refuse_out.ensures.noted;
+}
+
+pub invariant_of-self-in-Ok : goal.invariant_of-self-in-Ok
+invariant_of-self-in-Ok g c = record {
+  met = was_closed c.args.self.now.terms.policies.now c.args.self.now.terms.closes
+      c.args.self.now.host.calls.history.events c.close_out.new.self.calls.history.events
+      c.close_out.result c.args.self.now.met c.in-Ok.ensures c.if-not-self.false c.close_out.ensures.noted;
+}
+
+pub invariant_of-self-in-Err : goal.invariant_of-self-in-Err
+invariant_of-self-in-Err g c = record {
+  met = was_dropped c.args.self.now.terms.policies.now c.args.self.now.terms.closes
+      c.args.self.now.host.calls.history.events c.refuse_out-in-Err.new.self.calls.history.events
+      c.args.self.now.met c.refuse_out-in-Err.ensures.noted;
+}

@@ -1,0 +1,8 @@
+mod Asking
+mod Deciding
+mod Differences
+mod Firsts
+mod Lasts
+mod LinesAlike
+mod Subsequences
+mod Walking

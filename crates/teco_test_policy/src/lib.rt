@@ -1,0 +1,7 @@
+//! Tests of policies.
+#![tactic(auto)]
+
+#[cfg(test)]
+mod breaches;
+#[cfg(test)]
+mod words;
