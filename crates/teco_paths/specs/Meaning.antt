@@ -51,7 +51,7 @@ abbrev pub signed : Bool → ℕ → ℤ
 signed false number = pos number
 signed true number = pos 0 -ℤ pos number
 
--- So many times a term, which is a whole number, since its divisor divides that.
+-- A term, taken so many times: a whole number, since its divisor divides that.
 pub record IsTimes (node : Node) (n : ℕ) (s : Point) (times : ℕ) (term : ClaimTerm) (value : ℤ) : Type 0 where
   pub parts : ℕ
   pub whole : parts * term.coefficient.divisor ≡ times

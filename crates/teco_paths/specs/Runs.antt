@@ -69,7 +69,7 @@ pub record IsUnderway (nodes : List Node) (ground : Ground) (limits : Limits) (S
   pub above : ground.origin.pushes ≤ length s.world.kept.registers.stack
   pub said : s.left ≡ None → IsAsSaid nodes ground Says steps s
 
--- So many steps after its entry a run comes to its end, in time, without a code and by no command of files; each state
+-- A run, so many steps after its entry, comes to its end in time, without a code and by no command of files; each state
 -- on the way is as it may be, and at the end no more bytes are typed than may be.
 pub record EndsBy (nodes : List Node) (ground : Ground) (limits : Limits) (Says : ℕ → Point → Type 0) (steps : ℕ)
     (s : State) : Type 0 where

@@ -31,7 +31,7 @@ pub enum Breach {
     Resized,
     /// The line of this number, from 1 on, is not as it must be, or is in one of the texts alone.
     Line(usize),
-    /// So many lines are changed.
+    /// This many lines are changed.
     Changed(usize),
 }
 

@@ -25,7 +25,7 @@ impl Model for Percent {
 }
 
 impl Percent {
-    /// So many hundredths; `None` where that is more than all.
+    /// A number of hundredths; `None` where that is more than all.
     pub fn new(value: usize) -> Option<Percent>
         ensures { MatchOption result (100 < value) (λ percent. percent ≡ value) }
     {
