@@ -3,8 +3,8 @@
 # BEGIN of the lists that tools/completions writes
 _teco_commands="run verify check apply edit trace test show explain help"
 _teco_general="-h --help -V --version"
-_teco_valued="--limit --memory --set --set-file --esc -e -f --library -r --register --rules --arg --pages --cert
-  --color --files-from --include --exclude --backup"
+_teco_valued="--limit --memory --set --set-file --esc -e -f --library -r --register --rules --arg --pages --cert --keep
+  --add --take --most --color --files-from --include --exclude --backup"
 _teco_words="ARG NAC NCA DIV POP DTB IIA ILL IQN ICE SRH TAG SNI BNI PES UTC UTM NFI NFO YCA OFO FUL LIM MEM FNF INP
   OUT X1 X2 X3 X4 X5 X6 X7 X8 X9 X10 X11 X12 X13 X14 X15 X16 X17 X18 ESC B Z H A C R J L I TAB D K T V ^A ^T Q U ^U X G
   M ^S ^Y S FS ^X O N FN Y P PW ER EW EC EF EK EX"
@@ -17,31 +17,30 @@ _teco_options() {
       echo "-e -f --library -r --register --json --rules --esc -h --help"
       ;;
     check)
-      echo "-e -f --library -r --register --rules --esc -h --help"
+      echo "-e -f --library -r --register --json --rules --esc -h --help"
       ;;
     apply)
       echo "-e -f --library -r --register --memory --arg --set --set-file --exact --any-case --rules --esc --pages
-        --strict --stats --cert -q --quiet -h --help"
+        --strict --stats --json --cert --keep --add --take --most -q --quiet -h --help"
       ;;
     edit)
       echo "-e -f --library -r --register --memory --arg --set --set-file --exact --any-case --rules --esc --pages
-        --strict --beyond-promise --stats --cert --tested --dry-run --check -0 --null --keep --add --take --most
-        --diff --color --files-from
-        --recursive --include --exclude --binary --backup --force-backup --durable --with-names --no-names -q
-        --quiet -h --help"
+        --strict --beyond-promise --stats --cert --tested --dry-run --check -0 --null --json --keep --add --take --most
+        --diff --color --files-from --recursive --include --exclude --binary --backup --force-backup --durable
+        --with-names --no-names -q --quiet -h --help"
       ;;
     trace)
       echo "-e -f --library -r --register --limit --memory --arg --set --set-file --exact --any-case --rules --esc
         --pages --beyond-promise -h --help"
       ;;
     test)
-      echo "-e -f --library -r --register --fuzz --exact --any-case --color --rules --esc -h --help"
+      echo "-e -f --library -r --register --fuzz --exact --any-case --color --json --rules --esc -h --help"
       ;;
     show)
       echo "--source --esc -h --help"
       ;;
     explain)
-      echo "-e -f --library -r --register --rules --esc -h --help"
+      echo "-e -f --library -r --register --json --rules --esc -h --help"
       ;;
   esac
 }

@@ -99,14 +99,21 @@ complete -c teco -n '__teco_of verify check apply edit trace test explain' -s r 
 complete -c teco -n '__teco_of verify' -l json -d 'Print each verdict as an object of JSON in a line'
 complete -c teco -n '__teco_of verify check apply edit trace test explain' -l rules -x -a '1 2' \
   -d 'The edition of the rules that macros are verified by: 1 or 2'
+complete -c teco -n '__teco_of check' -l json -d 'Print what the macro promises, or the refusal'
 complete -c teco -n '__teco_of apply edit trace' -l arg -x \
   -d 'The argument of the macro, where its library declares one'
 complete -c teco -n '__teco_of apply trace' -l pages -x -a 'first each whole' \
   -d 'The pages that are edited, which form feeds end: first'
 complete -c teco -n '__teco_of apply' -l strict -d 'Leave OUT as it was where the promise does not hold'
 complete -c teco -n '__teco_of apply edit' -l stats -d 'Say how many commands the runs took'
+complete -c teco -n '__teco_of apply' -l json -d 'Say what --stats says as an object of JSON'
 complete -c teco -n '__teco_of apply edit' -l cert -r -F -d 'Check this certificate in place of a search for one'
-complete -c teco -n '__teco_of apply edit' -s q -l quiet -d 'Say nothing but what fails'
+complete -c teco -n '__teco_of apply edit' -l keep -x -d 'Leave a file as it was whose edit would take any text (text)'
+complete -c teco -n '__teco_of apply edit' -l add -x -d 'Leave a file as it was whose edit would add anything (nothing)'
+complete -c teco -n '__teco_of apply edit' -l take -x \
+  -d 'Leave a file as it was whose edit would take others than these (only=CHARACTERS)'
+complete -c teco -n '__teco_of apply edit' -l most -x -d 'Leave a file as it was whose edit would change more lines'
+complete -c teco -n '__teco_of apply edit' -s q -l quiet -d 'Say nothing but what fails or is refused'
 complete -c teco -n '__teco_of edit' -l pages -x -a 'first each whole' \
   -d 'The pages that are edited, which form feeds end: whole'
 complete -c teco -n '__teco_of edit' -l strict -d 'Leave a file as it was where the promise does not hold for it'
@@ -115,10 +122,7 @@ complete -c teco -n '__teco_of edit' -l tested -d 'Try the examples of the libra
 complete -c teco -n '__teco_of edit' -l dry-run -d 'Print the names of the files that would change, one a line'
 complete -c teco -n '__teco_of edit' -l check -d 'As --dry-run, and end with status 1 if a file would change'
 complete -c teco -n '__teco_of edit' -s 0 -l null -d 'End each name that --dry-run or --check prints'
-complete -c teco -n '__teco_of edit' -l keep -x -a 'text size lines others=' -d 'What the edit of a file must keep'
-complete -c teco -n '__teco_of edit' -l add -x -a 'nothing only=' -d 'What it may add'
-complete -c teco -n '__teco_of edit' -l take -x -a 'only=' -d 'What it may take'
-complete -c teco -n '__teco_of edit' -l most -x -d 'How many lines it may change'
+complete -c teco -n '__teco_of edit' -l json -d 'Print an object of JSON for each file, in a line'
 complete -c teco -n '__teco_of edit' -l diff -d 'Print what changes, as diff -u does'
 complete -c teco -n '__teco_of edit test' -l color -x -a 'always never auto' \
   -d 'Colours of --diff: always, never, or auto'
@@ -127,7 +131,7 @@ complete -c teco -n '__teco_of edit' -l recursive -d 'Edit the files of folders 
 complete -c teco -n '__teco_of edit' -l include -x -d 'Of folders, edit the files whose names are of this pattern alone'
 complete -c teco -n '__teco_of edit' -l exclude -x \
   -d 'Of folders, leave out the files and folders whose names are of this pattern'
-complete -c teco -n '__teco_of edit' -l binary -d 'Of folders and lists'
+complete -c teco -n '__teco_of edit' -l binary -d 'Edit files too that have a NUL near their beginning'
 complete -c teco -n '__teco_of edit' -l backup -x -d 'Keep each file that changes as it was'
 complete -c teco -n '__teco_of edit' -l force-backup \
   -d 'Let --backup take the place of files that have the names of backups'
@@ -137,9 +141,10 @@ complete -c teco -n '__teco_of edit' -l with-names \
 complete -c teco -n '__teco_of edit' -l no-names -d 'Type lines without the names of files'
 complete -c teco -n '__teco_of trace' -l limit -x -d 'Steps that are listed at most'
 complete -c teco -n '__teco_of test' -l fuzz -d 'Run the macro on short texts of what it looks for'
+complete -c teco -n '__teco_of test explain' -l json -d 'Print an object of JSON in each line'
 complete -c teco -n '__teco_of show' -l source -d 'Print a source that reads as the same bytes: readable'
 set -g __teco_valued --limit --memory --set --set-file --esc -e -f --library -r --register --rules --arg --pages \
-  --cert --color --files-from --include --exclude --backup
+  --cert --keep --add --take --most --color --files-from --include --exclude --backup
 set -g __teco_words ARG NAC NCA DIV POP DTB IIA ILL IQN ICE SRH TAG SNI BNI PES UTC UTM NFI NFO YCA OFO FUL LIM MEM \
   FNF INP OUT X1 X2 X3 X4 X5 X6 X7 X8 X9 X10 X11 X12 X13 X14 X15 X16 X17 X18 ESC B Z H A C R J L I TAB D K T V '^A' \
   '^T' Q U '^U' X G M '^S' '^Y' S FS '^X' O N FN Y P PW ER EW EC EF EK EX

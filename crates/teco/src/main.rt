@@ -1,31 +1,39 @@
 //! The program: sessions on standard input, and verified macros.
 #![tactic(auto)]
 
+ghost use Rattle.std.specs.Prelude.{◌≡◌, ◌≤◌, [], length};
+ghost use Rattle.teco_hosts.specs.HostFiles.{Notes};
+ghost use Rattle.teco_options.specs.declared.editing.TheConstants.{NAME};
+
 mod fault;
 
 use crate::fault::ProgramFault;
 use clap::ArgMatches;
+use std::alloc::Global;
 use std::io::{Input, IsTerminal, Write};
 use std::process::ExitCode;
 use std::{env, io};
-use teco_applied::{apply_macro, edit_files, trace_macro};
+use teco_applied::{Errand, apply_macro, edit_files, trace_macro};
 use teco_console::{
-    Console, Outcome, Request, Setting, explain, explain_all, method_for, show, show_source,
+    Console, Outcome, Request, Setting, explain, explain_all, explain_as_json, method_for, show,
+    show_source,
 };
 use teco_edit_parts::{ChosenFile, choose};
-use teco_edits::InPlaceEdits;
+use teco_edits::{EditOutcome, InPlaceEdits};
 use teco_examples::{Tests, fuzz_macro, test_examples};
 use teco_files::Closing;
 use teco_hosts::Host;
 use teco_infer::Inference;
-use teco_jobs::{Listing, Names, Task};
+use teco_jobs::{CountsForm, Listing, Names, Task};
+use teco_judging::Judged;
 use teco_pages::FileHost;
+use teco_policy::Policy;
 use teco_tools::{
     Escaping, OUTPUT, Prompting, Reporting, Run, Start, Streams, ToolFault, run_scripts,
 };
 use teco_verdicts::{
-    check_macro, explain_macro, verify_library, verify_library_as_json, verify_macro,
-    verify_macro_as_json,
+    check_macro, check_macro_as_json, explain_macro, explain_macro_as_json, verify_library,
+    verify_library_as_json, verify_macro, verify_macro_as_json,
 };
 use teco_words::{CommandLine, WordsFault};
 
@@ -152,7 +160,25 @@ fn check<O: Write + Drop, E: Write + Drop>(
     let request = request(given, false)?;
     let entry = teco_words::entry(given)?;
     let certificate = teco_words::word(given, "CERT");
+    if given.get_flag("json") {
+        return Ok(check_macro_as_json::<Inference, _, _, _>(
+            rt,
+            console,
+            request,
+            entry,
+            certificate,
+        )?);
+    }
     Ok(check_macro(rt, console, request, entry, certificate)?)
+}
+
+// How it is said how many commands runs took, if it is: objects are asked for alone, too.
+fn counts(given: &ArgMatches<'_>) -> Option<CountsForm> {
+    if given.get_flag("json") {
+        Some(CountsForm::AsObject)
+    } else {
+        given.get_flag("stats").then_some(CountsForm::InWords)
+    }
 }
 
 // How a macro edits files.
@@ -171,25 +197,27 @@ fn task<'m, 's>(
         cap: teco_words::cap(given),
         is_strict: given.get_flag("strict"),
         wants_all: given.get_flag("strict"),
-        tells_counts: given.get_flag("stats"),
+        counts: counts(given),
         tells_promise: false,
     })
 }
 
 // Applies a macro, and tells on standard error what there is to tell.
-fn apply_aside<H: Host + Reporting>(
+fn apply_aside<'p, H: Host + Reporting + Drop>(
     rt: &HostRuntime,
     is_quiet: bool,
     task: &Task<'_, '_>,
-    names: Names<'_>,
-    host: &mut H,
-) -> Result<Outcome, ToolFault> {
+    errand: Errand<'_>,
+    host: &mut Judged<'p, H>,
+) -> Result<Outcome, ToolFault>
+    requires fresh { ⟦<Judged<'p, H> as Host>⟧.files host.old ≡ Notes [] }
+{
     let errors = rt.stderr();
     let mut aside = Console::new(rt.alloc(), io::writer(&errors), io::writer(&errors));
     if is_quiet {
         aside.voice.hush();
     }
-    apply_macro::<Inference, _, _, _, _>(rt, &mut aside, task, names, host)
+    apply_macro::<Inference, _, _, _, _>(rt, &mut aside, task, errand, host)
 }
 
 // Applies a macro to files of the system, or to its streams.
@@ -198,15 +226,53 @@ fn apply_over<O: Write + Drop, E: Write + Drop>(
     console: &mut Console<O, E>,
     is_quiet: bool,
     task: &Task<'_, '_>,
-    names: Names<'_>,
+    errand: Errand<'_>,
 ) -> Result<Outcome, ToolFault> {
     let mut files = FileHost::new(rt.alloc(), *rt);
     files.set_closing(Closing::ReplacesOther);
-    let mut host = Streams::new(rt.alloc(), files, rt.reader(), io::writer(rt));
-    if names.target == OUTPUT {
-        apply_aside(rt, is_quiet, task, names, &mut host)
+    let streams = Streams::new(rt.alloc(), files, rt.reader(), io::writer(rt));
+    let mut host = Judged::new(rt.alloc(), streams, errand.policies);
+    if errand.names.target == OUTPUT {
+        apply_aside(rt, is_quiet, task, errand, &mut host)
     } else {
-        apply_macro::<Inference, _, _, _, _>(rt, console, task, names, &mut host)
+        apply_macro::<Inference, _, _, _, _>(rt, console, task, errand, &mut host)
+    }
+}
+
+// The files that words name, and the policies that they ask for.
+#[derive(Drop)]
+struct NamedErrand {
+    source: Vec<u8>,
+    target: Vec<u8>,
+    policies: Vec<Policy>,
+    ghost short_source: { length source.items ≤ NAME },
+    ghost short_target: { length target.items ≤ NAME },
+}
+
+impl NamedErrand {
+    // What words say.
+    fn read<'a>(
+        alloc: Global,
+        given: &ArgMatches<'a>,
+        arguments: &'a CommandLine,
+    ) -> Result<NamedErrand, ProgramFault> {
+        Ok(NamedErrand {
+            source: teco_words::source_name(given, arguments)?.to_vec(alloc)?,
+            target: teco_words::target_name(given, arguments)?.to_vec(alloc)?,
+            policies: teco_words::policies_of(alloc, given)?,
+        })
+    }
+
+    // The errand.
+    fn errand(&self) -> Errand<'_> {
+        let names = Names {
+            source: &self.source,
+            target: &self.target,
+        };
+        Errand {
+            names,
+            policies: &self.policies,
+        }
     }
 }
 
@@ -217,18 +283,15 @@ fn apply<'a, O: Write + Drop, E: Write + Drop>(
     given: &ArgMatches<'a>,
     arguments: &'a CommandLine,
 ) -> Result<Outcome, ProgramFault> {
-    let is_quiet = given.get_flag("quiet");
-    if is_quiet {
+    if given.get_flag("quiet") {
         console.voice.hush();
     }
     let settings = settings(rt, given)?;
     let task = task(given, &settings, false)?;
     teco_words::check_streams(given, task.is_strict)?;
-    let names = Names {
-        source: teco_words::source_name(given, arguments)?,
-        target: teco_words::target_name(given, arguments)?,
-    };
-    Ok(apply_over(rt, console, is_quiet, &task, names)?)
+    let named = NamedErrand::read(rt.alloc(), given, arguments)?;
+    let is_quiet = given.get_flag("quiet");
+    Ok(apply_over(rt, console, is_quiet, &task, named.errand())?)
 }
 
 // Are colours shown where the words leave that open?
@@ -270,6 +333,7 @@ fn test<O: Write + Drop, E: Write + Drop>(
         entry,
         case: teco_words::case(given)?,
         look: teco_words::look(given, shows_colours(rt))?,
+        prints_objects: given.get_flag("json"),
     };
     Ok(test_examples::<Inference, _, _, _>(rt, console, request(given, true)?, tests)?)
 }
@@ -285,6 +349,7 @@ fn is_tested<O: Write + Drop, E: Write + Drop>(
         entry: None,
         case: teco_words::case(given)?,
         look: teco_words::look(given, shows_colours(rt))?,
+        prints_objects: false,
     };
     let outcome = test_examples::<Inference, _, _, _>(rt, console, request(given, true)?, tests)?;
     Ok(matches!(outcome, Outcome::Done))
@@ -314,7 +379,7 @@ fn edit<'a, O: Write + Drop, E: Write + Drop>(
     console: &mut Console<Escaping<O>, E>,
     given: &ArgMatches<'a>,
     arguments: &'a CommandLine,
-) -> Result<Outcome, ProgramFault> {
+) -> Result<EditOutcome, ProgramFault> {
     if given.get_flag("quiet") {
         console.voice.hush();
     }
@@ -322,13 +387,15 @@ fn edit<'a, O: Write + Drop, E: Write + Drop>(
         console.out.turn_on();
     }
     if given.get_flag("tested") && !is_tested(rt, console, given)? {
-        return Ok(Outcome::Refused);
+        return Ok(EditOutcome::Refused);
     }
     let settings = settings(rt, given)?;
     let task = Task {
         is_strict: !given.get_flag("beyond-promise"),
         wants_all: false,
         tells_promise: teco_words::has_macro_options(given),
+        // objects have the counts
+        counts: given.get_flag("stats").then_some(CountsForm::InWords),
         ..task(given, &settings, true)?
     };
     let files = chosen_files(rt, console, given, arguments)?;
@@ -336,17 +403,18 @@ fn edit<'a, O: Write + Drop, E: Write + Drop>(
     let policies = teco_words::policies_of(rt.alloc(), given)?;
     let edit = InPlaceEdits {
         files: &files,
-        policies: &policies,
+        policies: &[],
         takes_binary: given.get_flag("binary"),
         diff: given.get_flag("diff").then_some(look),
         shows_progress: rt.stderr().is_terminal() && !given.get_flag("quiet"),
         change: teco_words::change(given),
         ends_by_nul: given.get_flag("null"),
+        prints_objects: given.get_flag("json"),
         keeping: teco_words::keeping(given),
         is_durable: given.get_flag("durable"),
         naming: teco_words::naming(given),
     };
-    Ok(edit_files::<Inference, _, _, _>(rt, console, &task, &edit)?)
+    Ok(edit_files::<Inference, _, _, _>(rt, console, &task, &edit, policies)?)
 }
 
 // Traces a macro over files of the system, or standard input. What it writes to files is dropped.
@@ -380,7 +448,7 @@ fn trace<'a, O: Write + Drop, E: Write + Drop>(
         cap: teco_words::cap(given),
         is_strict: !given.get_flag("beyond-promise"),
         wants_all: false,
-        tells_counts: false,
+        counts: None,
         tells_promise: false,
     };
     teco_words::check_streams(given, false)?;
@@ -400,14 +468,25 @@ fn explain_what<O: Write + Drop, E: Write + Drop>(
     console: &mut Console<O, E>,
     given: &ArgMatches<'_>,
 ) -> Result<Outcome, ProgramFault> {
+    let is_json = given.get_flag("json");
     if teco_words::names_macro(given) {
         let entry = teco_words::entry(given)?;
-        return Ok(explain_macro::<Inference, _, _, _>(rt, console, request(given, true)?, entry)?);
+        let request = request(given, true)?;
+        return Ok(if is_json {
+            explain_macro_as_json::<Inference, _, _, _>(rt, console, request, entry)?
+        } else {
+            explain_macro::<Inference, _, _, _>(rt, console, request, entry)?
+        });
     }
     let Some(word) = given.get_str("LIB") else {
         return Ok(explain_all(console)?);
     };
-    match explain(console, word)? {
+    let explained = if is_json {
+        explain_as_json(console, word)?
+    } else {
+        explain(console, word)?
+    };
+    match explained {
         Some(outcome) => Ok(outcome),
         None => Err(WordsFault::Unknown.into()),
     }
@@ -425,44 +504,44 @@ fn tell_hint<O: Write + Drop, E: Write + Drop>(
     }
 }
 
-// Does what the words say, and leads on where that came to nothing.
+// Does what the words say, and leads on where that came to nothing. Answers the status.
 fn obey_and_hint<'a, O: Write + Drop, E: Write + Drop>(
     rt: &HostRuntime,
     console: &mut Console<Escaping<O>, E>,
     matches: &ArgMatches<'a>,
     arguments: &'a CommandLine,
-) -> Result<Outcome, ProgramFault> {
-    let outcome = obey(rt, console, matches, arguments)?;
+) -> Result<u8, ProgramFault> {
+    let status = obey(rt, console, matches, arguments)?;
     match matches.subcommand() {
-        Some((name, given)) if name != "show" && outcome.status() > 0 => {
+        Some((name, given)) if name != "show" && status > 0 => {
             tell_hint(rt, console, given);
         }
         _ => {}
     }
-    Ok(outcome)
+    Ok(status)
 }
 
-// Does what the words say.
+// Does what the words say. Answers the status.
 fn obey<'a, O: Write + Drop, E: Write + Drop>(
     rt: &HostRuntime,
     console: &mut Console<Escaping<O>, E>,
     matches: &ArgMatches<'a>,
     arguments: &'a CommandLine,
-) -> Result<Outcome, ProgramFault> {
+) -> Result<u8, ProgramFault> {
     let Some((name, given)) = matches.subcommand() else {
         return Err(WordsFault::Unknown.into());
     };
     teco_words::check_texts(rt.alloc(), name, given, arguments)?;
     match name {
-        "run" => run(rt, console, given),
-        "verify" => verify(rt, console, given),
-        "check" => check(rt, console, given),
-        "apply" => apply(rt, console, given, arguments),
-        "edit" => edit(rt, console, given, arguments),
-        "test" => test(rt, console, given),
-        "trace" => trace(rt, console, given, arguments),
-        "show" => show_file(rt, console, given),
-        "explain" => explain_what(rt, console, given),
+        "run" => Ok(run(rt, console, given)?.status()),
+        "verify" => Ok(verify(rt, console, given)?.status()),
+        "check" => Ok(check(rt, console, given)?.status()),
+        "apply" => Ok(apply(rt, console, given, arguments)?.status()),
+        "edit" => Ok(edit(rt, console, given, arguments)?.status()),
+        "test" => Ok(test(rt, console, given)?.status()),
+        "trace" => Ok(trace(rt, console, given, arguments)?.status()),
+        "show" => Ok(show_file(rt, console, given)?.status()),
+        "explain" => Ok(explain_what(rt, console, given)?.status()),
         _ => Err(WordsFault::Unknown.into()),
     }
 }
@@ -494,8 +573,8 @@ fn read_and_obey(rt: &HostRuntime) -> Result<ExitCode, ProgramFault> {
     let errors = rt.stderr();
     let out = Escaping::new(rt.alloc(), io::writer(rt));
     let mut console = Console::new(rt.alloc(), out, io::writer(&errors));
-    let outcome = obey_and_hint(rt, &mut console, &matches, &arguments)?;
-    Ok(ExitCode::from(outcome.status()))
+    let status = obey_and_hint(rt, &mut console, &matches, &arguments)?;
+    Ok(ExitCode::from(status))
 }
 
 fn main(rt: HostRuntime) -> ExitCode {

@@ -1,5 +1,5 @@
 -- What a task is about, and what is printed where it is refused.
-use Rattle.std.specs.Prelude.{ℕ, ◌≡◌, ◌⊎◌, ⊤, List, codes, Option, Some, None, Result, Ok, Err}
+use Rattle.std.specs.Prelude.{ℕ, ◌≡◌, ◌⊎◌, ⊤, List, ◌++◌, codes, Option, Some, None, Result, Ok, Err}
 use Rattle.std.specs.Io.KnownBytes.{Appends}
 use Rattle.teco_jobs.specs.Edits.{EditsBy, Prints, Trace}
 use Rattle.teco_jobs.specs.declared.names.Names.{Names}
@@ -9,9 +9,12 @@ use Rattle.teco_apply.specs.Sure.{PromisedCall}
 use Rattle.teco_library.specs.Library.{LibraryFile}
 use Rattle.teco_hosts.specs.HostFiles.{Telling}
 use Rattle.teco_tools.specs.declared.fault.ToolFault.{ToolFault}
+use Rattle.teco_tools.specs.declared.fault.ToolFault.TheVariants as tool
+use Rattle.teco_console.specs.declared.fault.AnswerFault.TheVariants as answering
 use Rattle.teco_acceptance.specs.Accepted.{IsOf, IsProved, promise_of}
 use Rattle.teco_acceptance.specs.Lines.{refused_line}
 use Rattle.teco_acceptance.specs.declared.acceptance.Accepted.{Accepted}
+use Rattle.teco_policy.specs.declared.policy.Policy.{Policy}
 use Rattle.teco_console.specs.declared.outcome.Outcome.{Outcome}
 use Rattle.teco_console.specs.declared.outcome.Outcome.TheVariants.{Done, Coded, Refused}
 use Rattle.teco_verify.specs.declared.refusal.Refusal.{Refusal}
@@ -48,6 +51,10 @@ pub record EditsNone (files after : Telling) (begun left : Trace) (result : Resu
   pub failures_stay : left.failures ≡ begun.failures
   pub answers : AnswersNone begun.written left.written result
 
+-- policies that are asked for, and behind them others: those that the library asks for
+abbrev pub AskFor : List Policy → List Policy → Type 0
+AskFor asked all = (more : List Policy) × (all ≡ asked ++ more)
+
 -- the macro of a task, which is accepted, and the argument that it is given
 abbrev pub task_call : Task → Accepted → PromisedCall
 task_call task accepted = record { promise = promise_of accepted; given = task.argument }
@@ -70,3 +77,14 @@ abbrev pub Applies : Task → Names → Telling → Telling → Trace → Trace 
 Applies task names files after begun left result =
     EditsNone files after begun left result
     ⊎ ((library : LibraryFile) × EditsAccepted task library names files after begun left result)
+
+-- What is answered is told; or memory is told to be wanting.
+abbrev pub IsTold : Result Outcome ToolFault → Result Outcome ToolFault → Type 0
+IsTold answer result = (result ≡ answer) ⊎ (result ≡ Err (tool.Answer answering.Memory))
+
+-- and that is told
+pub record AppliesAsAsked (task : Task) (names : Names) (files after : Telling) (begun left : Trace)
+    (result : Result Outcome ToolFault) : Type 0 where
+  pub answer : Result Outcome ToolFault
+  pub applies : Applies task names files after begun left answer
+  pub told : IsTold answer result

@@ -1,8 +1,9 @@
 //! `edit`: files are edited in place by a verified macro.
 ghost use Rattle.std.specs.Prelude.{◌≡◌};
 ghost use Rattle.teco_applied.specs.InPlace.{EditsIfAny, EditsSubject, EditsTask};
-ghost use Rattle.teco_console.specs.declared.outcome.Outcome.TheVariants.{Refused};
+ghost use Rattle.teco_edits.specs.declared.outcome.EditOutcome.TheVariants.{Refused};
 
+use crate::asking::all_policies;
 use crate::subject::{
     Subject, heard, read_subject, refuse_empty, say_all, say_findings, say_refused,
     say_unless_quiet,
@@ -10,18 +11,19 @@ use crate::subject::{
 use std::alloc::Global;
 use std::io::{Input, Write};
 use teco_acceptance::{Accepted, tell_promise};
-use teco_console::{Console, Outcome, Premise, Sourced, Voice};
+use teco_console::{Console, Premise, Sourced, Voice};
 use teco_edit_parts::taken_backup;
-use teco_edits::{InPlaceEdits, edit_by_job};
+use teco_edits::{EditOutcome, InPlaceEdits, edit_by_job};
 use teco_files::System;
 use teco_jobs::{Job, Task};
 use teco_options::{Keeping, PageChoice};
 use teco_paths::search::ClaimSearch;
+use teco_policy::Policy;
 use teco_source::Shown;
 use teco_tools::ToolFault;
 
 // Says that a macro which turns pages itself does not edit whole files.
-fn refuse_whole<E: Write + Drop>(voice: &mut Voice<E>, task: &Task<'_, '_>) -> Outcome
+fn refuse_whole<E: Write + Drop>(voice: &mut Voice<E>, task: &Task<'_, '_>) -> EditOutcome
     ensures { result ≡ Refused }
 {
     let name = char::from(task.entry.name());
@@ -29,7 +31,7 @@ fn refuse_whole<E: Write + Drop>(voice: &mut Voice<E>, task: &Task<'_, '_>) -> O
         "macro {name} reads or writes pages itself, and a file that is edited whole is one page: \
             give --pages first, and it goes on from the first page, or --pages each"
     ));
-    Outcome::Refused
+    EditOutcome::Refused
 }
 
 // Does a macro that turns pages itself edit whole files?
@@ -53,7 +55,7 @@ fn edit_by_accepted<R, O, E>(
     task: &Task<'_, '_>,
     given: &InPlaceEdits<'_>,
     subject: AcceptedMacro<'_>,
-) -> Result<Outcome, ToolFault>
+) -> Result<EditOutcome, ToolFault>
 where
     R: System + Copy,
     O: Write + Drop,
@@ -64,7 +66,8 @@ where
     let AcceptedMacro { sourced, accepted } = subject;
     let promise = accepted.promise();
     if task.is_strict && Premise::of_promise(&promise).is_empty() {
-        return refuse_empty(console, sourced, accepted);
+        refuse_empty(console, sourced, accepted)?;
+        return Ok(EditOutcome::Refused);
     }
     if task.tells_promise {
         tell_promise(&mut console.voice, &promise, task.start.settings)?;
@@ -89,7 +92,7 @@ fn edit_by_subject<S: ClaimSearch, R, O, E>(
     task: &Task<'_, '_>,
     given: &InPlaceEdits<'_>,
     subject: &Subject<'_>,
-) -> Result<Outcome, ToolFault>
+) -> Result<EditOutcome, ToolFault>
 where
     R: System + Copy,
     O: Write + Drop,
@@ -105,8 +108,18 @@ where
             };
             edit_by_accepted(rt, console, task, given, found)
         }
-        Err(refusal) => say_refused::<S, _, _>(console, subject, task.entry, refusal),
+        Err(refusal) => {
+            say_refused::<S, _, _>(console, subject, task.entry, refusal)?;
+            Ok(EditOutcome::Refused)
+        }
     }
+}
+
+// Files that are edited in place, and what is asked of the edits.
+#[derive(Drop)]
+struct EditOrder<'g, 'a> {
+    given: &'g InPlaceEdits<'a>,
+    asked: Vec<Policy>,
 }
 
 // Refuses to keep a file under the name of another that is edited.
@@ -132,8 +145,37 @@ fn check_keeping<R: System>(
     }
 }
 
-/// Accepts a macro of a library once, and edits each file by it in place, with a new machine for
-/// each. Nothing is touched where the macro is refused, or where a file would be kept under the
+// Edits files by the macro that a task is about, with the policies of its library behind those that are
+// asked for.
+#[tactic(auto, using(crate::proofs::InPlace::nothing, crate::proofs::InPlace::failed))]
+fn edit_as_asked<S: ClaimSearch, R, O, E>(
+    rt: &R,
+    console: &mut Console<O, E>,
+    task: &Task<'_, '_>,
+    order: EditOrder<'_, '_>,
+    subject: &Subject<'_>,
+) -> Result<EditOutcome, ToolFault>
+where
+    R: System + Copy,
+    O: Write + Drop,
+    E: Write + Drop,
+    ensures { EditsTask order.entry.given.now order.entry.asked.items task.now
+        (O.contents console.old.out) (O.contents console.new.out) result }
+{
+    let EditOrder { given, asked } = order;
+    let Some(all) = all_policies(&mut console.voice, &subject.sourced, task, asked)? else {
+        return Ok(EditOutcome::Refused);
+    };
+    let edits = InPlaceEdits {
+        policies: &all,
+        ..*given
+    };
+    edit_by_subject::<S, _, _, _>(rt, console, task, &edits, subject)
+}
+
+/// Accepts a macro of a library once, and edits each file in place by it, with a new machine for
+/// each. The edits keep the policies that are `asked` for and those that the library asks for; `given`
+/// has none. Nothing is touched where the macro is refused, or where a file would be kept under the
 /// name of another that is edited; a file that fails is left as it was, named, and the others go
 /// on. A file that would stay as it is isn't replaced. A refusal is said, and not printed.
 #[tactic(auto, using(crate::proofs::InPlace::nothing, crate::proofs::InPlace::no_line, crate::proofs::InPlace::failed))]
@@ -142,12 +184,13 @@ pub fn edit_files<S: ClaimSearch, R, O, E>(
     console: &mut Console<O, E>,
     task: &Task<'_, '_>,
     given: &InPlaceEdits<'_>,
-) -> Result<Outcome, ToolFault>
+    asked: Vec<Policy>,
+) -> Result<EditOutcome, ToolFault>
 where
     R: System + Input + Copy,
     O: Write + Drop,
     E: Write + Drop,
-    ensures { EditsTask given.now task.now
+    ensures { EditsTask given.now asked.items task.now
         (O.contents console.old.out) (O.contents console.new.out) result }
 {
     check_keeping(rt, console.alloc, given)?;
@@ -155,11 +198,12 @@ where
     match read_subject::<S, _, _, _>(rt, &mut apart, task)? {
         Some(subject) => {
             say_unless_quiet(&mut console.voice, apart);
-            edit_by_subject::<S, _, _, _>(rt, console, task, given, &subject)
+            let order = EditOrder { given, asked };
+            edit_as_asked::<S, _, _, _>(rt, console, task, order, &subject)
         }
         None => {
             say_all(&mut console.voice, apart);
-            Ok(Outcome::Refused)
+            Ok(EditOutcome::Refused)
         }
     }
 }

@@ -2,10 +2,11 @@
 #![tactic(auto)]
 
 mod applying;
+mod asking;
 mod editing;
 mod subject;
 mod tracing;
 
-pub use applying::apply_macro;
+pub use applying::{Errand, apply_macro};
 pub use editing::edit_files;
 pub use tracing::trace_macro;

@@ -11,18 +11,21 @@ use teco_jobs::{Listing, Task, TracedMacro, trace_library};
 use teco_paths::search::ClaimSearch;
 use teco_tools::{Reporting, ToolFault};
 
-// Is a macro refused that is accepted, but with a promise that holds for no text? That is said, and
-// otherwise what there is to be said of a macro that is accepted.
+// Is a macro refused that is accepted, but with a promise that holds for no text? That is said. Without
+// strict terms it is not asked, and nothing is verified.
 fn is_refused<S: ClaimSearch, O: Write + Drop, E: Write + Drop>(
     console: &mut Console<O, E>,
     task: &Task<'_, '_>,
     sourced: &Sourced,
 ) -> Result<bool, ToolFault> {
+    if !task.is_strict {
+        return Ok(false);
+    }
     let Ok(accepted) = verified_by::<S>(console.alloc, &sourced.library, task.entry, sourced.method)
     else {
         return Ok(false);
     };
-    if task.is_strict && Premise::of_promise(&accepted.promise()).is_empty() {
+    if Premise::of_promise(&accepted.promise()).is_empty() {
         refuse_empty(console, sourced, &accepted)?;
         return Ok(true);
     }

@@ -1,5 +1,6 @@
 -- What is so of a macro whose certificate of the linear rules was checked.
-use Rattle.std.specs.Prelude.{◌≡◌, ℕ, List, map, length, Option, option_map, Ok}
+use Rattle.std.specs.Prelude.{◌≡◌, ℕ, List, map, length, IfSome, Option, option_map, Ok}
+use Rattle.teco_claimed.specs.Checksum.{checksum_of}
 use Rattle.teco_claimed.specs.Reads.{IsWellFormed}
 use Rattle.teco_claimed.specs.declared.certificate.LinearCertificate.{LinearCertificate}
 use Rattle.teco_library.specs.Library.{LibraryFile, argument_of}
@@ -18,17 +19,22 @@ pub record LinearFinding : Type 0 where
 abbrev pub TakesDeclared : LibraryFile → LinearCertificate → Type 0
 TakesDeclared library certificate = certificate.argument ≡ argument_of library certificate.entry
 
+-- The checksum that the certificate has, if it has one, is that of the texts in which the nodes stand.
+abbrev pub IsOfTexts : LibraryFile → LinearCertificate → List Node → Type 0
+IsOfTexts library certificate nodes = IfSome certificate.checksum (λ sum. sum ≡ checksum_of library.texts nodes)
+
 -- how long the texts are, by the places of their registers
 abbrev pub lengths_of : Library → List (Option ℕ)
 lengths_of library = map (option_map length) library
 
--- The certificate has a text and the argument that is declared, the macro has an expansion, and each of its runs ends
--- as the certificate says.
+-- The certificate has a text and the argument that is declared, the macro has an expansion and the checksum, if there
+-- is one, and each of its runs ends as the certificate says.
 pub record IsChecked (library : LibraryFile) (certificate : LinearCertificate) : Type 0 where
   pub well_formed : IsWellFormed certificate
   pub declared : TakesDeclared library certificate
   pub nodes : List Node
   pub expanded : expansion library.texts certificate.entry ≡ Ok nodes
+  pub of_texts : IsOfTexts library certificate nodes
   pub certain :
       AreCertain nodes (lengths_of library.texts) certificate.argument certificate.needs certificate.claims
 

@@ -2,12 +2,12 @@
 use Rattle.std.specs.Prelude.{◌≡◌, ℕ, List, ⊤, Option, Some, None, option_map, option_and_then, Ok, Err}
 use Rattle.teco_certificate.specs.declared.fault.CertificateFault.{CertificateFault}
 use Rattle.teco_certificate.specs.declared.fault.CertificateFault.TheVariants as reading
-use Rattle.teco_claimed.specs.Claimed.{TakesDeclared}
+use Rattle.teco_claimed.specs.Claimed.{TakesDeclared, IsOfTexts}
 use Rattle.teco_claimed.specs.Reads.{IsTextOf, IsTextOfNone}
 use Rattle.teco_claimed.specs.declared.certificate.LinearCertificate.{LinearCertificate}
 use Rattle.teco_claimed.specs.declared.refusal.LinearRefusal.{LinearRefusal}
 use Rattle.teco_claimed.specs.declared.refusal.LinearRefusal.TheVariants.{NotACertificate, OtherArgument, NotExpanded}
-use Rattle.teco_claimed.specs.declared.refusal.LinearRefusal.TheVariants.{NotCertain, NotFound, Memory}
+use Rattle.teco_claimed.specs.declared.refusal.LinearRefusal.TheVariants.{OtherText, NotCertain, NotFound, Memory}
 use Rattle.teco_claimed.specs.declared.refusal.NodePlace.{NodePlace}
 use Rattle.teco_expansion.specs.Refused.{refusal_seen}
 use Rattle.teco_expansion.specs.declared.refusal.ExpandFault.{ExpandFault}
@@ -60,25 +60,37 @@ abbrev pub IsOfClaims : List Node → LinearRefusal → Type 0
 IsOfClaims nodes NotACertificate = ⊥
 IsOfClaims nodes OtherArgument = ⊥
 IsOfClaims nodes (NotExpanded refused) = ⊥
+IsOfClaims nodes OtherText = ⊥
 IsOfClaims nodes (NotCertain fault at) = at ≡ place_told nodes fault
 IsOfClaims nodes (NotFound why at) = ⊥
 IsOfClaims nodes Memory = ⊤
 
--- The macro has an expansion, and where the element of a fault stands there is told.
-pub record IsGivenUp (library : LibraryFile) (entry : ℕ) (fault : PathFault) (at : Option NodePlace) : Type 0 where
+-- The macro has an expansion, and the checksum of the certificate is not that of its texts.
+pub record IsOfOtherTexts (library : LibraryFile) (certificate : LinearCertificate) : Type 0 where
   pub nodes : List Node
-  pub expanded : expansion library.texts entry ≡ Ok nodes
+  pub expanded : expansion library.texts certificate.entry ≡ Ok nodes
+  pub other : ¬ IsOfTexts library certificate nodes
+
+-- The macro has an expansion and the checksum, if there is one, and where the element of a fault stands is told.
+pub record IsGivenUp
+    (library : LibraryFile) (certificate : LinearCertificate) (fault : PathFault) (at : Option NodePlace) :
+    Type 0 where
+  pub nodes : List Node
+  pub expanded : expansion library.texts certificate.entry ≡ Ok nodes
+  pub of_texts : IsOfTexts library certificate nodes
   pub told : at ≡ place_told nodes fault
 
 -- Another argument is declared. Or it is the one that is declared, and the macro has no expansion, for this reason, or
--- it has one, and the claims were given up.
+-- it has one, and its texts have another checksum, or the claims were given up.
 abbrev pub IsRefusedFor : LibraryFile → LinearCertificate → LinearRefusal → Type 0
 IsRefusedFor library certificate NotACertificate = ⊥
 IsRefusedFor library certificate OtherArgument = ¬ TakesDeclared library certificate
 IsRefusedFor library certificate (NotExpanded refused) =
     TakesDeclared library certificate × (expansion library.texts certificate.entry ≡ Err (refusal_seen refused))
+IsRefusedFor library certificate OtherText =
+    TakesDeclared library certificate × IsOfOtherTexts library certificate
 IsRefusedFor library certificate (NotCertain fault at) =
-    TakesDeclared library certificate × IsGivenUp library certificate.entry fault at
+    TakesDeclared library certificate × IsGivenUp library certificate fault at
 IsRefusedFor library certificate (NotFound why at) = ⊥
 IsRefusedFor library certificate Memory = ⊤
 
@@ -93,6 +105,7 @@ abbrev pub IsRefused : LibraryFile → List ℕ → LinearRefusal → Type 0
 IsRefused library text NotACertificate = IsTextOfNone text
 IsRefused library text OtherArgument = IsOfRefused library text OtherArgument
 IsRefused library text (NotExpanded refused) = IsOfRefused library text (NotExpanded refused)
+IsRefused library text OtherText = IsOfRefused library text OtherText
 IsRefused library text (NotCertain fault at) = IsOfRefused library text (NotCertain fault at)
 IsRefused library text (NotFound why at) = ⊥
 IsRefused library text Memory = ⊤

@@ -1,8 +1,8 @@
 //! Certificates of the linear rules.
-ghost use Rattle.std.specs.Prelude.{◌≡◌, ◌<◌, IfOk, IfSome, OnOk};
+ghost use Rattle.std.specs.Prelude.{◌≡◌, ◌<◌, ◌++◌, IfOk, IfSome, OnOk};
 ghost use Rattle.teco_base.specs.declared.TheConstants.{REGISTERS};
-ghost use Rattle.teco_claimed.specs.Reads.{Reads};
-ghost use Rattle.teco_claimed.specs.Text.{linear_text};
+ghost use Rattle.teco_claimed.specs.Reads.{IsChecksum, Reads};
+ghost use Rattle.teco_claimed.specs.Text.{checksum_line, linear_text};
 ghost use Rattle.teco_model.specs.Macros.{IsArgumentRange};
 
 use crate::reading::certificate_in;
@@ -22,8 +22,22 @@ pub struct LinearCertificate {
     pub argument: Option<ArgumentRange>,
     /// The files that must be open.
     pub needs: Needs,
+    /// The checksum of the texts that it runs, where it says for which it was made.
+    pub checksum: Option<u32>,
     /// The most commands that a run takes, the most that is held, and what is claimed on the way.
     pub claims: Claims,
+}
+
+// Adds the line of the checksum, if there is one.
+fn push_checksum(text: &mut Vec<u8>, alloc: Global, checksum: Option<u32>) -> Result<(), AllocError>
+    ensures text { OnOk result (text.new.items ≡ text.old.items ++ checksum_line checksum) }
+    ensures sum { OnOk result (IfSome checksum IsChecksum) }
+{
+    let Some(sum) = checksum else {
+        return Ok(());
+    };
+    let line = format!(in alloc; "text {sum}\n")?;
+    text.extend_from_slice(line.as_bytes())
 }
 
 impl LinearCertificate {
@@ -33,6 +47,7 @@ impl LinearCertificate {
         // so the text is read again, if the claims have one
         ensures entry { OnOk result (self.now.entry < REGISTERS) }
         ensures argument { OnOk result (IfSome self.now.argument IsArgumentRange) }
+        ensures checksum { OnOk result (IfSome self.now.checksum IsChecksum) }
     {
         let mut text = Vec::new(alloc);
         push_line(&mut text, b"TECO-CERT ", version(self.argument).as_bytes())?;
@@ -40,6 +55,7 @@ impl LinearCertificate {
         push_argument(&mut text, alloc, self.argument)?;
         push_line(&mut text, b"rules ", b"3")?;
         push_line(&mut text, b"needs ", letters(self.needs).as_bytes())?;
+        push_checksum(&mut text, alloc, self.checksum)?;
         let claims = self.claims.write(alloc)?;
         text.extend_from_slice(&claims)?;
         Ok(text)

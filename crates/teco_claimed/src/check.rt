@@ -2,12 +2,13 @@
 ghost use Rattle.std.specs.Prelude.{◌≡◌, ◌↔◌, IsTrue, IfOk, OnOk, length, option_map};
 ghost use Rattle.std.specs.Option.{option_copied};
 ghost use Rattle.std.specs.Result.{IfErr};
-ghost use Rattle.teco_claimed.specs.Claimed.{TakesDeclared};
+ghost use Rattle.teco_claimed.specs.Claimed.{IsOfTexts, TakesDeclared};
 ghost use Rattle.teco_claimed.specs.Reads.{IsTextOf, IsWellFormed};
 ghost use Rattle.teco_claimed.specs.Refused.{IsOfClaims, IsRefused, IsRefusedFor};
 ghost use Rattle.teco_paths.specs.Sure.{AreCertain, AreLengths};
 
 use crate::certificate::LinearCertificate;
+use crate::checksum::checksum_of;
 use crate::claimed::Claimed;
 use crate::refusal::LinearRefusal;
 use std::alloc::{AllocError, Global};
@@ -46,6 +47,16 @@ fn is_same(left: Option<ArgumentRange>, right: Option<ArgumentRange>) -> bool
         (None, None) => true,
         (Some(left), Some(right)) => left.low() == right.low() && left.high() == right.high(),
         _ => false,
+    }
+}
+
+// Is the checksum of a certificate, if it has one, that of the texts in which the nodes stand?
+fn is_of_texts(library: &Library, certificate: &LinearCertificate, nodes: &Nodes<'_>) -> bool
+    ensures { IsTrue result ↔ IsOfTexts library.now certificate.now nodes.now }
+{
+    match certificate.checksum {
+        None => true,
+        Some(sum) => sum == checksum_of(library, nodes),
     }
 }
 
@@ -88,6 +99,9 @@ fn checked<'l>(
         return Err(LinearRefusal::OtherArgument);
     }
     let nodes = expand(alloc, library, certificate.entry)?;
+    if !is_of_texts(library, &certificate, &nodes) {
+        return Err(LinearRefusal::OtherText);
+    }
     let lengths = lengths_of(alloc, library)?;
     follow(&nodes, &lengths, &certificate, alloc)?;
     Ok(Claimed {
@@ -97,7 +111,8 @@ fn checked<'l>(
 }
 
 /// Checks a certificate of the linear rules for a library: it has the argument that the library
-/// declares for its entry, if it declares one, and all paths of the macro go as it claims.
+/// declares for its entry, if it declares one, the checksum that it may have is that of the texts that
+/// the macro runs, and all paths of the macro go as it claims.
 ///
 /// Where it is refused it says which of these is not so. It takes the time and the memory that the
 /// paths take, which the claims alone do not bound.

@@ -34,8 +34,8 @@ impl<'l> Model for Claimed<'l> {
 }
 
 impl<'l> Claimed<'l> {
-    /// What always holds: the certificate has a text and the argument that is declared, and all paths
-    /// of the macro go as it claims.
+    /// What always holds: the certificate has a text and the argument that is declared, the checksum that
+    /// it may have is that of the texts that the macro runs, and all paths go as it claims.
     pub fn is_checked(&self)
         ensures { IsChecked self.now.library self.now.certificate }
     {

@@ -4,6 +4,7 @@
 
 mod certificate;
 mod check;
+mod checksum;
 mod claimed;
 pub mod laws;
 mod reading;

@@ -33,6 +33,9 @@ pub enum LinearRefusal {
     /// The macro has no expansion.
     #[error("the macro has no expansion: {}", reason_text(.0.reason))]
     NotExpanded(PlacedReason),
+    /// Its checksum is not that of the texts that the macro runs.
+    #[error("this is the certificate of another macro: its texts have another checksum")]
+    OtherText,
     /// The claims do not hang together.
     #[error("{fault}")]
     NotCertain {

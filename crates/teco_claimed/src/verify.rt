@@ -1,9 +1,10 @@
 //! Looking for a certificate of the linear rules.
-ghost use Rattle.std.specs.Prelude.{◌≡◌, IfOk};
+ghost use Rattle.std.specs.Prelude.{◌≡◌, IfOk, IsSome};
 ghost use Rattle.teco_claimed.specs.Claimed.{TakesDeclared};
 
 use crate::certificate::LinearCertificate;
 use crate::check::{check_linear, lengths_of};
+use crate::checksum::checksum_of;
 use crate::claimed::Claimed;
 use crate::refusal::{LinearRefusal, NodePlace, place_at};
 use crate::unverified::Unverified;
@@ -84,10 +85,12 @@ fn by_claims<'l>(
     ensures library { IfOk result (λ found. found.library ≡ library.now) }
     ensures declared { IfOk result (λ found. TakesDeclared library.now found.certificate) }
     ensures entry { IfOk result (λ found. found.certificate.entry ≡ entry) }
+    ensures checksum { IfOk result (λ found. IsSome found.certificate.checksum) }
 {
     let text = certificate.write(alloc)?;
     let claimed = check_linear(library, &text, alloc)?;
-    if claimed.entry().index() == entry.index() {
+    let is_asked = claimed.entry().index() == entry.index();
+    if is_asked && claimed.certificate.checksum.is_some() {
         Ok(claimed)
     } else {
         Err(LinearRefusal::NotACertificate)
@@ -111,15 +114,18 @@ fn verify_by_way<'l, S: ClaimSearch>(
     ensures library { IfOk result (λ found. found.library ≡ library.now) }
     ensures declared { IfOk result (λ found. TakesDeclared library.now found.certificate) }
     ensures entry { IfOk result (λ found. found.certificate.entry ≡ entry) }
+    ensures checksum { IfOk result (λ found. IsSome found.certificate.checksum) }
 {
     let claims = match S::find(called, way, alloc) {
         Ok(claims) => claims,
         Err(failure) => return Err(Unverified::of_search(called.nodes, failure, alloc)),
     };
+    let checksum = Some(checksum_of(library, called.nodes));
     let certificate = LinearCertificate {
         entry,
         argument: called.argument,
         needs: called.needs,
+        checksum,
         claims,
     };
     match by_claims(library, entry, &certificate, alloc) {
@@ -128,6 +134,7 @@ fn verify_by_way<'l, S: ClaimSearch>(
                 entry,
                 argument: called.argument,
                 needs: called.needs,
+                checksum,
                 claims: only_owed(certificate.claims),
             };
             Ok(by_claims(library, entry, &certificate, alloc)?)
@@ -180,6 +187,7 @@ fn verify_by_ways<'l, S: ClaimSearch>(
     ensures library { IfOk result (λ found. found.library ≡ library.now) }
     ensures declared { IfOk result (λ found. TakesDeclared library.now found.certificate) }
     ensures entry { IfOk result (λ found. found.certificate.entry ≡ entry) }
+    ensures checksum { IfOk result (λ found. IsSome found.certificate.checksum) }
 {
     let lengths = lengths_of(alloc, library).map_err(LinearRefusal::from)?;
     let called = Called {
@@ -238,6 +246,7 @@ fn verify_in<'l, S: ClaimSearch>(
     ensures library { IfOk result (λ found. found.library ≡ library.now) }
     ensures declared { IfOk result (λ found. TakesDeclared library.now found.certificate) }
     ensures entry { IfOk result (λ found. found.certificate.entry ≡ entry) }
+    ensures checksum { IfOk result (λ found. IsSome found.certificate.checksum) }
 {
     let nodes = nodes_of(library, entry, alloc)?;
     let needs = needs_of(&nodes);
@@ -266,6 +275,7 @@ pub fn verify_linear<'l, S: ClaimSearch>(
     ensures library { IfOk result (λ found. found.library ≡ library.now) }
     ensures declared { IfOk result (λ found. TakesDeclared library.now found.certificate) }
     ensures entry { IfOk result (λ found. found.certificate.entry ≡ entry) }
+    ensures checksum { IfOk result (λ found. IsSome found.certificate.checksum) }
 {
     verify_in::<S>(library, entry, S::WAYS, alloc)
 }
@@ -283,6 +293,7 @@ pub fn verify_quickly<'l, S: ClaimSearch>(
     ensures library { IfOk result (λ found. found.library ≡ library.now) }
     ensures declared { IfOk result (λ found. TakesDeclared library.now found.certificate) }
     ensures entry { IfOk result (λ found. found.certificate.entry ≡ entry) }
+    ensures checksum { IfOk result (λ found. IsSome found.certificate.checksum) }
 {
     verify_in::<S>(library, entry, 1, alloc)
 }

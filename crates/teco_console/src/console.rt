@@ -145,7 +145,9 @@ pub struct Console<O: Write + Drop, E: Write + Drop> {
 
 impl<O: Write + Drop, E: Write + Drop> Console<O, E> {
     /// A console over two writers. Memory for lines comes from `alloc`.
-    pub fn new(alloc: Global, out: O, messages: E) -> Console<O, E> {
+    pub fn new(alloc: Global, out: O, messages: E) -> Console<O, E>
+        ensures { result.out ≡ out }
+    {
         Console {
             alloc,
             out,
@@ -169,7 +171,9 @@ impl<O: Write + Drop, E: Write + Drop> Console<O, E> {
     }
 
     /// The two writers.
-    pub fn into_parts(self) -> (O, E) {
+    pub fn into_parts(self) -> (O, E)
+        ensures { result.0 ≡ self.out }
+    {
         let Console {
             alloc: _,
             out,

@@ -17,6 +17,7 @@ mod request;
 mod setting;
 mod showing;
 mod sourced;
+mod stated_words;
 mod stating;
 
 pub use console::{Console, Voice, write_bytes};
@@ -34,4 +35,5 @@ pub use request::{Origin, Request};
 pub use setting::Setting;
 pub use showing::{explain, explain_all, show, show_source};
 pub use sourced::{NAMES, Sourced, macro_named};
+pub use stated_words::explain_as_json;
 pub use stating::{Stated, all_stated};

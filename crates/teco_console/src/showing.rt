@@ -98,8 +98,8 @@ fn explain_command<O: Write + Drop, E: Write + Drop>(
     Ok(())
 }
 
-// Says which words are near to one that explains nothing.
-fn tell_near<O: Write + Drop, E: Write + Drop>(
+/// Says which words are near to one that explains nothing.
+pub fn tell_near<O: Write + Drop, E: Write + Drop>(
     console: &mut Console<O, E>,
     word: &str,
 ) -> Result<(), AnswerFault> {

@@ -18,5 +18,5 @@ pub use diff::{changed_lines, is_binary, write_diff};
 pub use folders::Folders;
 pub use pattern::matches;
 pub use progress::{EditProgress, FilesDone};
-pub use texts::{TextChange, has_nul, read_whole};
+pub use texts::has_nul;
 pub use typed::{named_lines, without_code};

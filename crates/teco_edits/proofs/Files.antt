@@ -2,12 +2,17 @@
 use Rattle.std.proofs.Common.{◌≡◌, ◌∙◌, ◌+◌, ◌<◌, ◌≤◌, sym, subst, ap, ℕ, List, [], ◌∷◌, ◌++◌, length, take, drop}
 use Rattle.std.proofs.Common.{get_or, Bool, Option, take-append-drop}
 use Rattle.std.proofs.lemmas.List.{take_all, take_more, drop_more}
-use Rattle.std.proofs.Common.{Result, Some, Ok}
+use Rattle.std.proofs.Common.{Result, Some, Ok, Err, OnOk, true, false}
 use Rattle.std.specs.Io.KnownBytes.{Appends}
 use Rattle.teco_console.specs.declared.outcome.Outcome.{Outcome}
+use Rattle.teco_console.specs.declared.outcome.Outcome.TheVariants.{Coded}
 use Rattle.teco_edit_parts.specs.Typed.{without_code}
 use Rattle.teco_edits.specs.declared.editing.EditEnd.{EditEnd}
-use Rattle.teco_edits.specs.Files.{EditsNamed, TellsDifference, is_coded, shown_typed}
+use Rattle.teco_edits.specs.Files.{EditsAsObject, EditsNamed, TellsDifference, TellsNoName, is_change, is_made}
+use Rattle.teco_edits.specs.Files.{shown_typed}
+use Rattle.teco_edits.specs.Objects.{file_object, remarks_of, report_object}
+use Rattle.teco_edits.specs.Outcomes.{is_coded, of_runs}
+use Rattle.teco_edits.specs.declared.object.FileReport.{FileReport}
 use Rattle.teco_hosts.specs.HostFiles.{Telling}
 use Rattle.teco_jobs.specs.Edits.{RewritesBy, call_of}
 use Rattle.teco_pages.specs.Texts.{noted_texts}
@@ -54,6 +59,39 @@ named_by given job work_job name work_name replaces closes old new ended outcome
       differs = differs;
       written = written;
     }
+
+-- what an object says of a file that was edited on a console apart
+pub object_by : (given : InPlaceEdits) (job : Job) (name : List ℕ) (old new before after : Option (List ℕ))
+    (ended : EditEnd) (typed : List ℕ) (report : FileReport)
+    → EditsNamed given job name (is_made given.change) before after ended → before ≡ Some [] → after ≡ Some typed
+    → report.name.now ≡ name → report.changes ≡ is_change ended → report.outcome ≡ of_runs ended.outcome
+    → report.typed.now ≡ typed → Appends old new (report_object report) → EditsAsObject given job name old new ended
+object_by given job name old new before after ended typed report edit none is_typed is_name changes outcome same
+    printed = record {
+      typed = typed;
+      edit =
+          subst (λ it. EditsNamed given job name (is_made given.change) (Some []) it ended) is_typed
+          (subst (λ it. EditsNamed given job name (is_made given.change) it after ended) none edit);
+      remarks = remarks_of report;
+      printed = subst (λ text. Appends old new text) spelled printed;
+    }
+  where
+    spelled : report_object report
+        ≡ file_object name (is_change ended) (of_runs ended.outcome) typed (remarks_of report)
+    spelled = cc
+
+-- what an object says of a name by which no file can be edited
+pub no_name_by : {X E : Type 0} (prints : Bool) (name : List ℕ) (old new : Option (List ℕ)) (report : FileReport)
+    (result : Result X E) → prints ≡ true → report.name.now ≡ name → report.changes ≡ false
+    → report.outcome ≡ of_runs Coded → report.typed.now ≡ [] → OnOk result (Appends old new (report_object report))
+    → OnOk result (TellsNoName prints name old new)
+no_name_by prints name old new report (Ok done) is is_name changes outcome none printed =
+    subst (λ it. TellsNoName it name old new) (sym is)
+    (remarks_of report, subst (λ text. Appends old new text) spelled printed)
+  where
+    spelled : report_object report ≡ file_object name false (of_runs Coded) [] (remarks_of report)
+    spelled = cc
+no_name_by prints name old new report (Err fault) is is_name changes outcome none printed = tt
 
 -- one file more
 pub each_more : (given : InPlaceEdits) (job : Job) (old mid new : Option (List ℕ)) (files : List ChosenFile) (i : ℕ)

@@ -11,6 +11,10 @@ use Rattle.teco_edit_parts.specs.declared.choosing.ChosenFile.{ChosenFile}
 use Rattle.teco_edits.specs.declared.editing.EditEnd.{EditEnd}
 use Rattle.teco_edits.specs.declared.editing.InPlaceEdits.{InPlaceEdits}
 use Rattle.teco_edits.specs.declared.editing.EditTally.{EditTally}
+use Rattle.teco_edits.specs.declared.outcome.EditOutcome.{EditOutcome}
+use Rattle.teco_edits.specs.declared.outcome.EditOutcome.TheVariants.{Done, WouldChange}
+use Rattle.teco_edits.specs.Objects.{Remarks, file_object}
+use Rattle.teco_edits.specs.Outcomes.{is_coded, is_success, of_runs, worse}
 use Rattle.teco_options.specs.Names.{are_named}
 use Rattle.teco_options.specs.declared.editing.Change.{Change}
 use Rattle.teco_options.specs.declared.editing.Change.TheVariants.{Made, Listed, Checked}
@@ -20,29 +24,9 @@ use Rattle.teco_hosts.specs.HostFiles.{Telling}
 use Rattle.teco_pages.specs.Policies.{IsMet}
 use Rattle.teco_pages.specs.Texts.{Differ, EditTexts, noted_texts}
 use Rattle.teco_tools.specs.declared.fault.ToolFault.{ToolFault}
-use Rattle.teco_console.specs.declared.outcome.Outcome.{Outcome}
-use Rattle.teco_console.specs.declared.outcome.Outcome.TheVariants.{Done, Coded, Refused}
+use Rattle.teco_console.specs.declared.outcome.Outcome.TheVariants.{Coded}
 
 -- ---- outcomes
--- the outcome of the greater status
-abbrev pub worse : Outcome → Outcome → Outcome
-worse Refused other = Refused
-worse Coded Refused = Refused
-worse Coded Coded = Coded
-worse Coded Done = Coded
-worse Done other = other
-
-abbrev pub is_coded : Outcome → Bool
-is_coded Coded = true
-is_coded Done = false
-is_coded Refused = false
-
--- the runs on a file came to their end
-abbrev pub is_success : Outcome → Bool
-is_success Done = true
-is_success Coded = false
-is_success Refused = false
-
 abbrev pub is_done : EditEnd → Bool
 is_done ended = is_success ended.outcome
 
@@ -65,14 +49,14 @@ tally_with ended tally = record {
   files = counted tally.files true;
   changed = counted tally.changed (is_change ended);
   failed = counted tally.failed (not (is_done ended));
-  outcome = worse tally.outcome ended.outcome;
+  outcome = worse tally.outcome (of_runs ended.outcome);
 }
 
--- Files that would change are a code where it is only checked whether there are any.
-abbrev pub outcome_of : Change → EditTally → Outcome
+-- Files that would change have a status where it is only checked whether there are any.
+abbrev pub outcome_of : Change → EditTally → EditOutcome
 outcome_of Made tally = tally.outcome
 outcome_of Listed tally = tally.outcome
-outcome_of Checked tally = if nat_lt 0 tally.changed then worse tally.outcome Coded else tally.outcome
+outcome_of Checked tally = if nat_lt 0 tally.changed then worse tally.outcome WouldChange else tally.outcome
 
 -- ---- names
 -- a name that a file can be edited by
@@ -101,8 +85,13 @@ listed_by Made by_nul name = []
 listed_by Listed by_nul name = name ++ line_end by_nul ∷ []
 listed_by Checked by_nul name = name ++ line_end by_nul ∷ []
 
+-- Objects say it themselves.
+abbrev pub unless : Bool → List ℕ → List ℕ
+unless true text = []
+unless false text = text
+
 abbrev pub listed : InPlaceEdits → List ℕ → List ℕ
-listed given name = listed_by given.change given.ends_by_nul name
+listed given name = unless given.prints_objects (listed_by given.change given.ends_by_nul name)
 
 -- That line; or what differs, where that is asked for: its text is not promised.
 abbrev pub ShowsBy : Option Look → List ℕ → Option (List ℕ) → Option (List ℕ) → Type 0
@@ -145,22 +134,46 @@ pub record EditsNamed (given : InPlaceEdits) (job : Job) (name : List ℕ) (repl
   pub written : Appends old new (shown_typed given name (without_code typed (is_coded ended.outcome)))
 
 -- and behind that what differs, or its name
-pub record EditsFile (given : InPlaceEdits) (job : Job) (name : List ℕ) (old new : Option (List ℕ)) (ended : EditEnd)
+pub record EditsPlainly (given : InPlaceEdits) (job : Job) (name : List ℕ) (old new : Option (List ℕ)) (ended : EditEnd)
     : Type 0 where
   pub mid : Option (List ℕ)
   pub edit : EditsNamed given job name (is_made given.change) old mid ended
   pub shown : ShowsEnded given name ended mid new
 
--- a file that can't be edited by its name
-pub record CannotBeNamed (name : List ℕ) (old new : Option (List ℕ)) (ended : EditEnd) : Type 0 where
+-- Or an object says of the file what came of it, and what was typed over it.
+pub record EditsAsObject (given : InPlaceEdits) (job : Job) (name : List ℕ) (old new : Option (List ℕ))
+    (ended : EditEnd) : Type 0 where
+  pub typed : List ℕ
+  pub edit : EditsNamed given job name (is_made given.change) (Some []) (Some typed) ended
+  pub remarks : Remarks
+  pub printed : Appends old new (file_object name (is_change ended) (of_runs ended.outcome) typed remarks)
+
+abbrev pub EditsFileBy : Bool → InPlaceEdits → Job → List ℕ → Option (List ℕ) → Option (List ℕ) → EditEnd → Type 0
+EditsFileBy true given job name old new ended = EditsAsObject given job name old new ended
+EditsFileBy false given job name old new ended = EditsPlainly given job name old new ended
+
+abbrev pub EditsFile : InPlaceEdits → Job → List ℕ → Option (List ℕ) → Option (List ℕ) → EditEnd → Type 0
+EditsFile given job name old new ended = EditsFileBy given.prints_objects given job name old new ended
+
+-- A file that can't be edited by its name fails, and at most an object says so.
+abbrev pub failed_end : EditEnd
+failed_end = record { outcome = Coded; differs = false }
+
+abbrev pub TellsNoName : Bool → List ℕ → Option (List ℕ) → Option (List ℕ) → Type 0
+TellsNoName true name old new =
+    (remarks : Remarks) × Appends old new (file_object name false (of_runs Coded) [] remarks)
+TellsNoName false name old new = new ≡ old
+
+pub record CannotBeNamed (given : InPlaceEdits) (name : List ℕ) (old new : Option (List ℕ)) (ended : EditEnd)
+    : Type 0 where
   pub no_name : ¬ IsFileName name
-  pub failed : ended ≡ record { outcome = Coded; differs = false }
-  pub stays : new ≡ old
+  pub failed : ended ≡ failed_end
+  pub told : TellsNoName given.prints_objects name old new
 
 -- Either is so of a file that is edited.
 abbrev pub EditsOne : InPlaceEdits → Job → List ℕ → Option (List ℕ) → Option (List ℕ) → EditEnd → Type 0
 EditsOne given job name old new ended =
-    CannotBeNamed name old new ended ⊎ (IsFileName name × EditsFile given job name old new ended)
+    CannotBeNamed given name old new ended ⊎ (IsFileName name × EditsFile given job name old new ended)
 
 -- ---- one after another
 -- a file is left as it is
@@ -208,11 +221,12 @@ EditsAll given job files old new (Ok tally) = EditsEach given job old files new 
 EditsAll given job files old new (Err fault) = BreaksOff given job files old
 
 -- and what is answered of them
-pub record AnswersAll (given : InPlaceEdits) (job : Job) (old new : Option (List ℕ)) (outcome : Outcome) : Type 0 where
+pub record AnswersAll (given : InPlaceEdits) (job : Job) (old new : Option (List ℕ)) (outcome : EditOutcome)
+    : Type 0 where
   pub tally : EditTally
   pub edited : EditsEach given job old given.files.now new tally
   pub answered : outcome ≡ outcome_of given.change tally
 
-abbrev pub EditsFiles : InPlaceEdits → Job → Option (List ℕ) → Option (List ℕ) → Result Outcome ToolFault → Type 0
+abbrev pub EditsFiles : InPlaceEdits → Job → Option (List ℕ) → Option (List ℕ) → Result EditOutcome ToolFault → Type 0
 EditsFiles given job old new (Ok outcome) = AnswersAll given job old new outcome
 EditsFiles given job old new (Err fault) = BreaksOff given job given.files.now old

@@ -3,18 +3,23 @@ ghost use Rattle.std.specs.Prelude.{◌≡◌, ◌<◌, ◌↔◌, [], length, t
 ghost use Rattle.std.specs.Io.KnownBytes.{Appends};
 ghost use Rattle.teco_options.specs.declared.editing.TheConstants.{NAME};
 ghost use Rattle.teco_edits.specs.Files as edits;
+ghost use Rattle.teco_edits.specs.Outcomes as outcomes;
 ghost use Rattle.teco_edits.specs.Files.{EditsAll, EditsFile, EditsFiles, EditsNamed, EditsNext};
 ghost use Rattle.teco_edits.specs.Files.{EditsOne, IsFileName, MayBeLeft, ShowsChange};
 ghost use Rattle.teco_edits.specs.Files.{ShowsEnded, is_change, is_done, is_made, listed, outcome_of, shown_typed};
 ghost use Rattle.teco_edits.specs.Files.{tally_with};
 ghost use Rattle.teco_edit_parts.specs.Typed as lines;
-ghost use Rattle.teco_edits.specs.Files.{TellsDifference};
+ghost use Rattle.teco_edits.specs.Files.{EditsAsObject, EditsPlainly, TellsDifference, TellsNoName};
+ghost use Rattle.teco_edits.specs.Objects.{report_object};
 ghost use Rattle.teco_hosts.specs.HostFiles.{Notes};
 ghost use Rattle.teco_pages.specs.Texts.{noted_texts};
 
 use crate::breaches::tell_broken;
+use crate::object::{Counts, FileReport};
+use crate::outcome::EditOutcome;
 use std::alloc::{AllocError, Global};
 use std::io::Write;
+use std::mem;
 use teco_apply::{Drops, Ending, Replaces};
 use teco_base::bytes::{ESC, LF};
 use teco_console::{Console, Outcome, Voice};
@@ -46,6 +51,8 @@ pub struct InPlaceEdits<'a> {
     pub shows_progress: bool,
     /// Is a name that is printed ended by a NUL, and not by a LF?
     pub ends_by_nul: bool,
+    /// Is an object of JSON printed for each file, in place of all else?
+    pub prints_objects: bool,
     pub keeping: Option<Keeping<'a>>,
     /// Is each file made to outlast a power cut before it has its name?
     pub is_durable: bool,
@@ -58,7 +65,7 @@ struct EditTally {
     files: usize,
     changed: usize,
     failed: usize,
-    outcome: Outcome,
+    outcome: EditOutcome,
 }
 
 /// None yet.
@@ -66,7 +73,7 @@ const NONE: EditTally = EditTally {
     files: 0,
     changed: 0,
     failed: 0,
-    outcome: Outcome::Done,
+    outcome: EditOutcome::Done,
 };
 
 // One more, if it counts; so many at most as a number says.
@@ -80,17 +87,6 @@ fn counted(count: usize, counts: bool) -> usize
     }
 }
 
-// The outcome of the greater status.
-fn worse(one: Outcome, other: Outcome) -> Outcome
-    ensures { result ≡ edits.worse one other }
-{
-    match (one, other) {
-        (Outcome::Refused, _) | (_, Outcome::Refused) => Outcome::Refused,
-        (Outcome::Coded, _) | (_, Outcome::Coded) => Outcome::Coded,
-        (Outcome::Done, Outcome::Done) => Outcome::Done,
-    }
-}
-
 impl EditTally {
     // These files, and one more.
     fn with(self, ended: EditEnd) -> EditTally
@@ -100,16 +96,16 @@ impl EditTally {
             files: counted(self.files, true),
             changed: counted(self.changed, ended.is_change()),
             failed: counted(self.failed, !ended.is_done()),
-            outcome: worse(self.outcome, ended.outcome),
+            outcome: self.outcome.worse(EditOutcome::of_runs(ended.outcome)),
         }
     }
 
     // What came of all files.
-    fn outcome_of(self, change: Change) -> Outcome
+    fn outcome_of(self, change: Change) -> EditOutcome
         ensures { result ≡ outcome_of change self }
     {
         match change {
-            Change::Checked if self.changed > 0 => worse(self.outcome, Outcome::Coded),
+            Change::Checked if self.changed > 0 => self.outcome.worse(EditOutcome::WouldChange),
             _ => self.outcome,
         }
     }
@@ -180,6 +176,7 @@ const FAILED: EditEnd = EditEnd {
 struct EditedFile<'f, R: System> {
     ended: EditEnd,
     host: PolicyHost<'f, R>,
+    counts: Counts,
 }
 
 // What runs on a file typed, and what came of them.
@@ -188,6 +185,28 @@ struct FileRuns<'a> {
     name: &'a [u8],
     typed: &'a [u8],
     outcome: Outcome,
+}
+
+// A text without the line end at its end; none of an empty one.
+fn unless_empty(text: &[u8]) -> Option<&[u8]> {
+    match text.strip_suffix(b"\n") {
+        Some(front) => Some(front),
+        None if text.is_empty() => None,
+        None => Some(text),
+    }
+}
+
+// Prints the object of what came of the edit of a file.
+fn print_report<O: Write + Drop, E: Write + Drop>(
+    console: &mut Console<O, E>,
+    report: &FileReport<'_>,
+) -> Result<(), ToolFault>
+    ensures { OnOk result (Appends (O.contents console.old.out) (O.contents console.new.out)
+        (report_object report.now)) }
+{
+    console.voice.clear();
+    console.out.write_all(&report.object(console.alloc)?)?;
+    Ok(())
 }
 
 // How a host treats files that are edited so.
@@ -285,7 +304,7 @@ impl<'f, R: System + Copy> Editing<'_, '_, '_, 'f, R> {
         ensures written { IfOk result (λ ended.
             Appends (O.contents console.old.out) (O.contents console.new.out)
             (shown_typed self.now.given.now runs.entry.name.now
-            (lines.without_code runs.entry.typed.now (edits.is_coded ended.outcome)))) }
+            (lines.without_code runs.entry.typed.now (outcomes.is_coded ended.outcome)))) }
     {
         let FileRuns {
             name,
@@ -322,7 +341,11 @@ impl<'f, R: System + Copy> Editing<'_, '_, '_, 'f, R> {
         let host = self.host(console.alloc, terms)?;
         let mut typed = Vec::new(console.alloc);
         let work = OneWork::new(self.job, name, ending);
-        let Replaced { outcome, host } = rewrite_by(&mut typed, &mut console.voice, work, host);
+        let Replaced {
+            outcome,
+            host,
+            watched,
+        } = rewrite_by(&mut typed, &mut console.voice, work, host);
         let outcome = match outcome {
             Ok(outcome) => outcome,
             Err(fault) => return Err(of_memory(fault)),
@@ -337,7 +360,12 @@ impl<'f, R: System + Copy> Editing<'_, '_, '_, 'f, R> {
             outcome,
         };
         let ended = self.end_edit(console, folders, runs, &host)?;
-        Ok(EditedFile { ended, host })
+        let counts = Counts::of(watched);
+        Ok(EditedFile {
+            ended,
+            host,
+            counts,
+        })
     }
 
     // Edits a file of a name that it can be edited by, or tries to.
@@ -358,6 +386,58 @@ impl<'f, R: System + Copy> Editing<'_, '_, '_, 'f, R> {
         }
     }
 
+    // Edits a file in place, and prints what was typed over it, and what became of it.
+    fn edit_plainly<O: Write + Drop, E: Write + Drop>(
+        &self,
+        console: &mut Console<O, E>,
+        folders: &mut Folders,
+        name: &[u8],
+    ) -> Result<EditEnd, ToolFault>
+        requires { length name.now < NAME }
+        ensures { IfOk result (EditsPlainly self.now.given.now self.now.job name.now
+            (O.contents console.old.out) (O.contents console.new.out)) }
+    {
+        let EditedFile { ended, host, .. } = self.edit_named(console, folders, name)?;
+        self.tell_ended(console, name, ended, &host)?;
+        Ok(ended)
+    }
+
+    // Edits a file in place, and prints an object of what was typed over it, and what became of it.
+    fn edit_as_object<O: Write + Drop, E: Write + Drop>(
+        &self,
+        console: &mut Console<O, E>,
+        folders: &mut Folders,
+        name: &[u8],
+    ) -> Result<EditEnd, ToolFault>
+        requires { length name.now < NAME }
+        ensures { IfOk result (EditsAsObject self.now.given.now self.now.job name.now
+            (O.contents console.old.out) (O.contents console.new.out)) }
+    {
+        let alloc = console.alloc;
+        let mut apart = Console::new(alloc, Vec::new(alloc), Vec::new(alloc));
+        let EditedFile {
+            ended,
+            host,
+            counts,
+        } = self.edit_named(&mut apart, folders, name)?;
+        let typed = mem::replace(&mut apart.out, Vec::new(alloc));
+        self.tell_ended(&mut apart, name, ended, &host)?;
+        let (differences, messages) = apart.into_parts();
+        let diff = unless_empty(&differences);
+        let said = unless_empty(&messages);
+        let report = FileReport {
+            name,
+            changes: ended.is_change(),
+            outcome: EditOutcome::of_runs(ended.outcome),
+            typed: &typed,
+            counts,
+            diff,
+            said,
+        };
+        print_report(console, &report)?;
+        Ok(ended)
+    }
+
     // Edits a file in place, and says what became of it.
     fn edit_and_tell<O: Write + Drop, E: Write + Drop>(
         &self,
@@ -369,9 +449,43 @@ impl<'f, R: System + Copy> Editing<'_, '_, '_, 'f, R> {
         ensures { IfOk result (EditsFile self.now.given.now self.now.job name.now
             (O.contents console.old.out) (O.contents console.new.out)) }
     {
-        let EditedFile { ended, host } = self.edit_named(console, folders, name)?;
-        self.tell_ended(console, name, ended, &host)?;
-        Ok(ended)
+        if self.given.prints_objects {
+            self.edit_as_object(console, folders, name)
+        } else {
+            self.edit_plainly(console, folders, name)
+        }
+    }
+
+    // Says that no file of a name can be edited, or prints an object that says so.
+    fn refuse_name<O: Write + Drop, E: Write + Drop>(
+        &self,
+        console: &mut Console<O, E>,
+        name: &[u8],
+    ) -> Result<(), ToolFault>
+        ensures { OnOk result (TellsNoName self.now.given.now.prints_objects name.now
+            (O.contents console.old.out) (O.contents console.new.out)) }
+    {
+        if !self.given.prints_objects {
+            tell_name(&mut console.voice, name);
+            return Ok(());
+        }
+        let alloc = console.alloc;
+        let mut apart = Console::new(alloc, Vec::new(alloc), Vec::new(alloc));
+        tell_name(&mut apart.voice, name);
+        let (differences, messages) = apart.into_parts();
+        let typed = Vec::new(alloc);
+        let diff = unless_empty(&differences);
+        let said = unless_empty(&messages);
+        let report = FileReport {
+            name,
+            changes: false,
+            outcome: EditOutcome::Failed,
+            typed: &typed,
+            counts: Counts::of(None),
+            diff,
+            said,
+        };
+        print_report(console, &report)
     }
 
     // Edits a file in place.
@@ -385,7 +499,7 @@ impl<'f, R: System + Copy> Editing<'_, '_, '_, 'f, R> {
             (O.contents console.old.out) (O.contents console.new.out)) }
     {
         if !is_name(name) {
-            tell_name(&mut console.voice, name);
+            self.refuse_name(console, name)?;
             return Ok(FAILED);
         }
         if let Change::Made = self.given.change {
@@ -420,7 +534,7 @@ impl<'f, R: System + Copy> Editing<'_, '_, '_, 'f, R> {
         ensures { OnOk result (Appends (O.contents out.old) (O.contents out.new)
             (listed self.now.given.now name.now)) }
     {
-        if let Change::Made = self.given.change {
+        if self.given.prints_objects || matches!(self.given.change, Change::Made) {
             return Ok(());
         }
         let mut line = name.to_vec(alloc)?;
@@ -556,7 +670,7 @@ impl<'f, R: System + Copy> Editing<'_, '_, '_, 'f, R> {
     fn edit_each<O: Write + Drop, E: Write + Drop>(
         &self,
         console: &mut Console<O, E>,
-    ) -> Result<Outcome, ToolFault>
+    ) -> Result<EditOutcome, ToolFault>
         ensures { EditsFiles self.now.given.now self.now.job
             (O.contents console.old.out) (O.contents console.new.out) result }
     {
@@ -574,7 +688,7 @@ impl<'f, R: System + Copy> Editing<'_, '_, '_, 'f, R> {
 
 // Did runs end with a code?
 fn is_coded(outcome: Outcome) -> bool
-    ensures { result ≡ edits.is_coded outcome }
+    ensures { result ≡ outcomes.is_coded outcome }
 {
     matches!(outcome, Outcome::Coded)
 }
@@ -586,7 +700,7 @@ pub fn edit_by_job<R, O, E>(
     console: &mut Console<O, E>,
     job: Job<'_>,
     given: &InPlaceEdits<'_>,
-) -> Result<Outcome, ToolFault>
+) -> Result<EditOutcome, ToolFault>
 where
     R: System + Copy,
     O: Write + Drop,

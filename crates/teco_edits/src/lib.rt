@@ -3,5 +3,8 @@
 
 mod breaches;
 mod editing;
+mod object;
+mod outcome;
 
 pub use editing::{InPlaceEdits, edit_by_job};
+pub use outcome::EditOutcome;

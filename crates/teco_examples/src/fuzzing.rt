@@ -1,6 +1,5 @@
 //! Texts made of what a macro looks for, on which it may do what was not meant.
-use crate::example::Example;
-use crate::finding::element_at;
+use crate::keeping::{first_broken, is_exact};
 use crate::running::{Came, TextRun, run_on};
 use memchr::memmem;
 use std::alloc::{AllocError, Global};
@@ -12,6 +11,7 @@ use teco_console::{Console, Outcome, Request, Sourced};
 use teco_edit_parts::changed_lines;
 use teco_library::Library;
 use teco_model::{Element, Kind};
+use teco_notes::{Example, FoundNote, NoPolicy, Note, element_at, notes_of};
 use teco_options::LetterCase;
 use teco_paths::search::ClaimSearch;
 use teco_source::Shown;
@@ -217,9 +217,20 @@ fn keep(kept: &mut Option<Doubt>, doubt: Doubt) {
     }
 }
 
+// A macro that is run on texts, what it looks for, and the notes of its library.
+#[derive(Clone, Copy)]
+struct Trial<'a> {
+    library: &'a Library,
+    subject: &'a TextRun,
+    wanted: &'a SoughtTexts,
+    notes: &'a [FoundNote],
+}
+
 // The shortest texts on which a macro may do what was not meant.
 #[derive(Drop)]
 struct Doubts {
+    // a policy is broken
+    breaches: Option<Doubt>,
     // a line is changed that has nothing that is looked for
     changes: Option<Doubt>,
     // a second run changes what the first one made
@@ -227,17 +238,41 @@ struct Doubts {
 }
 
 impl Doubts {
-    // Keeps a text of which a line is changed that has nothing that is looked for.
-    fn look_at_lines(
+    // Keeps a text of which a policy is broken.
+    fn look_at_policies(
         &mut self,
-        alloc: Global,
-        wanted: &SoughtTexts,
+        trial: Trial<'_>,
         text: &[u8],
         made: &[u8],
     ) -> Result<(), AllocError> {
+        if first_broken(trial.notes, trial.subject.entry, text, made).is_some() {
+            let alloc = trial.subject.alloc;
+            let (text, first) = (text.to_vec(alloc)?, made.to_vec(alloc)?);
+            let second = Vec::new(alloc);
+            keep(
+                &mut self.breaches,
+                Doubt {
+                    text,
+                    first,
+                    second,
+                },
+            );
+        }
+        Ok(())
+    }
+
+    // Keeps a text of which a line is changed that has nothing that is looked for.
+    fn look_at_lines(
+        &mut self,
+        trial: Trial<'_>,
+        text: &[u8],
+        made: &[u8],
+    ) -> Result<(), AllocError> {
+        let wanted = trial.wanted;
         if wanted.has_others || wanted.texts.is_empty() {
             return Ok(());
         }
+        let alloc = trial.subject.alloc;
         if let Some(first) = wanted.line_changed(alloc, text, made)? {
             let text = text.to_vec(alloc)?;
             let second = Vec::new(alloc);
@@ -256,16 +291,15 @@ impl Doubts {
     // Runs the macro on what it made of a text, and keeps the text if that is changed again.
     fn look_again(
         &mut self,
-        library: &Library,
-        subject: &TextRun,
+        trial: Trial<'_>,
         text: &[u8],
         first: Vec<u8>,
     ) -> Result<(), ToolFault> {
-        let Some(second) = made_of(library, subject, &first)? else {
+        let Some(second) = made_of(trial.library, trial.subject, &first)? else {
             return Ok(());
         };
         if second != first {
-            let text = text.to_vec(subject.alloc)?;
+            let text = text.to_vec(trial.subject.alloc)?;
             keep(
                 &mut self.repeats,
                 Doubt {
@@ -279,56 +313,42 @@ impl Doubts {
     }
 
     // Runs the macro on a text, and once more on what it made.
-    fn try_text(
-        &mut self,
-        library: &Library,
-        subject: &TextRun,
-        wanted: &SoughtTexts,
-        text: &[u8],
-    ) -> Result<(), ToolFault> {
-        let Some(first) = made_of(library, subject, text)? else {
+    fn try_text(&mut self, trial: Trial<'_>, text: &[u8]) -> Result<(), ToolFault> {
+        let Some(first) = made_of(trial.library, trial.subject, text)? else {
             return Ok(());
         };
-        self.look_at_lines(subject.alloc, wanted, text, &first)?;
-        self.look_again(library, subject, text, first)
+        self.look_at_policies(trial, text, &first)?;
+        self.look_at_lines(trial, text, &first)?;
+        self.look_again(trial, text, first)
     }
 
     // Runs the macro on all texts of so many pieces.
-    fn try_length(
-        &mut self,
-        library: &Library,
-        subject: &TextRun,
-        wanted: &SoughtTexts,
-        length: u32,
-    ) -> Result<(), ToolFault> {
-        let count = wanted.pieces.len().checked_pow(length).unwrap_or(0);
+    fn try_length(&mut self, trial: Trial<'_>, length: u32) -> Result<(), ToolFault> {
+        let pieces = &trial.wanted.pieces;
+        let count = pieces.len().checked_pow(length).unwrap_or(0);
         for number in 0..count {
-            let text = text_of(subject.alloc, &wanted.pieces, length, number)?;
-            self.try_text(library, subject, wanted, &text)?;
+            let text = text_of(trial.subject.alloc, pieces, length, number)?;
+            self.try_text(trial, &text)?;
         }
         Ok(())
     }
 
     // Runs the macro on all texts of few pieces.
-    fn try_all(
-        &mut self,
-        library: &Library,
-        subject: &TextRun,
-        wanted: &SoughtTexts,
-    ) -> Result<(), ToolFault> {
+    fn try_all(&mut self, trial: Trial<'_>) -> Result<(), ToolFault> {
         for length in 0..=LONGEST {
-            self.try_length(library, subject, wanted, length)?;
+            self.try_length(trial, length)?;
         }
         Ok(())
     }
 
     // The texts that are found by runs of the macro on texts of what is looked for.
-    fn of(library: &Library, subject: &TextRun, wanted: &SoughtTexts) -> Result<Doubts, ToolFault> {
+    fn of(trial: Trial<'_>) -> Result<Doubts, ToolFault> {
         let mut doubts = Doubts {
+            breaches: None,
             changes: None,
             repeats: None,
         };
-        doubts.try_all(library, subject, wanted)?;
+        doubts.try_all(trial)?;
         Ok(doubts)
     }
 
@@ -336,8 +356,12 @@ impl Doubts {
     fn tell<O: Write + Drop, E: Write + Drop>(
         &self,
         console: &mut Console<O, E>,
-        name: char,
+        trial: Trial<'_>,
     ) -> Result<Outcome, ToolFault> {
+        let name = char::from(trial.subject.entry.name());
+        if let Some(doubt) = &self.breaches {
+            tell_breach(console, trial, doubt)?;
+        }
         if let Some(doubt) = &self.changes {
             tell_change(console, name, doubt)?;
         }
@@ -346,6 +370,24 @@ impl Doubts {
         }
         Ok(Outcome::Done)
     }
+}
+
+// Asks about a policy that a macro breaks.
+fn tell_breach<O: Write + Drop, E: Write + Drop>(
+    console: &mut Console<O, E>,
+    trial: Trial<'_>,
+    doubt: &Doubt,
+) -> Result<(), ToolFault> {
+    let entry = trial.subject.entry;
+    let Some(breaking) = first_broken(trial.notes, entry, &doubt.text, &doubt.first) else {
+        return Ok(());
+    };
+    let name = char::from(entry.name());
+    let (text, made) = (Shown(&doubt.text), Shown(&doubt.first));
+    console.answer(format_args!(
+        "macro {name} on \"{text}\" makes \"{made}\", against {breaking}. Is that meant?\n"
+    ))?;
+    Ok(())
 }
 
 // Asks about a line that a macro changes.
@@ -379,6 +421,25 @@ fn tell_repeat<O: Write + Drop, E: Write + Drop>(
     Ok(())
 }
 
+// Says which comment is meant to ask for a policy of a macro and asks for none, if one is.
+fn tells_no_policy<O: Write + Drop, E: Write + Drop>(
+    console: &mut Console<O, E>,
+    notes: &[FoundNote],
+    entry: Reg,
+) -> Result<bool, ToolFault> {
+    for found in notes {
+        if let Note::Keeps(Err(refusal)) = &found.note
+            && found.register.index() == entry.index()
+        {
+            let name = char::from(entry.name());
+            let refused = NoPolicy(*refusal);
+            console.answer(format_args!("macro {name}: {refused}\n"))?;
+            return Ok(true);
+        }
+    }
+    Ok(false)
+}
+
 // Runs a macro of a library that is accepted on texts.
 fn fuzz_accepted<S: ClaimSearch, O: Write + Drop, E: Write + Drop>(
     console: &mut Console<O, E>,
@@ -386,10 +447,20 @@ fn fuzz_accepted<S: ClaimSearch, O: Write + Drop, E: Write + Drop>(
     entry: Reg,
     case: Option<LetterCase>,
 ) -> Result<Outcome, ToolFault> {
-    let subject = TextRun::of::<S>(console.alloc, sourced, entry, case);
-    let wanted = SoughtTexts::of(console.alloc, &sourced.library)?;
-    let doubts = Doubts::of(&sourced.library, &subject, &wanted)?;
-    doubts.tell(console, char::from(entry.name()))
+    let alloc = console.alloc;
+    let notes = notes_of(alloc, sourced.source.text(), is_exact(case))?;
+    if tells_no_policy(console, &notes, entry)? {
+        return Ok(Outcome::Coded);
+    }
+    let subject = TextRun::of::<S>(alloc, sourced, entry, case);
+    let wanted = SoughtTexts::of(alloc, &sourced.library)?;
+    let trial = Trial {
+        library: &sourced.library,
+        subject: &subject,
+        wanted: &wanted,
+        notes: &notes,
+    };
+    Doubts::of(trial)?.tell(console, trial)
 }
 
 // Runs a macro of a library on texts, or says why it is refused.
@@ -408,8 +479,8 @@ fn fuzz_library<S: ClaimSearch, O: Write + Drop, E: Write + Drop>(
 }
 
 /// Runs an accepted macro on short texts that are made of what it looks for, and asks about the
-/// shortest on which it changes a line that has nothing of that, and on which a second run changes
-/// the text again. A macro that is refused is not run.
+/// shortest on which it breaks a policy that its library asks for, on which it changes a line that has
+/// nothing of that, and on which a second run changes the text again. A macro that is refused is not run.
 pub fn fuzz_macro<S: ClaimSearch, R: Files + Input, O: Write + Drop, E: Write + Drop>(
     rt: &R,
     console: &mut Console<O, E>,

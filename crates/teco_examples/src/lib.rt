@@ -1,14 +1,11 @@
-//! Examples in the comments of libraries: a text, and what a macro makes of it.
+//! Examples and policies in the comments of libraries, tried: a text, and what a macro makes of it.
 #![tactic(auto)]
 
-mod example;
-mod finding;
 mod fuzzing;
+mod keeping;
+mod report;
 mod running;
-mod spelling;
 mod testing;
 
-pub use example::Example;
-pub use finding::{FoundComment, examples_of};
 pub use fuzzing::fuzz_macro;
 pub use testing::{Tests, test_examples};

@@ -1,5 +1,4 @@
 //! Runs of macros on texts in memory.
-use crate::example::Example;
 use std::alloc::{AllocError, Global};
 use teco_acceptance::verified_by;
 use teco_base::{Code, Reg};
@@ -8,6 +7,7 @@ use teco_hosts::MemHost;
 use teco_jobs::{Names, call, open_pages};
 use teco_library::Library;
 use teco_model::Needs;
+use teco_notes::Example;
 use teco_options::{LetterCase, PageChoice};
 use teco_paths::search::ClaimSearch;
 use teco_run::Machine;

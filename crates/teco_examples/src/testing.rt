@@ -1,6 +1,6 @@
 //! `test`: the examples of a library are tried.
-use crate::example::Example;
-use crate::finding::{FoundComment, examples_of};
+use crate::keeping::{first_broken, is_exact, print_lines};
+use crate::report::ExampleReport;
 use crate::running::{Came, TextRun, run_on};
 use std::fmt;
 use std::io::{Input, Write};
@@ -10,9 +10,10 @@ use teco_base::{Code, Reg};
 use teco_console::{Console, Outcome, Request, Sourced, letters};
 use teco_edit_parts::write_diff;
 use teco_explain::note_of_code;
+use teco_notes::{Example, FoundNote, NoPolicy, Note, NoteSite, notes_of};
 use teco_options::{LetterCase, Look};
 use teco_paths::search::ClaimSearch;
-use teco_source::{LineAndByte, Shown, Source};
+use teco_source::{LineAndByte, Source};
 use teco_tools::ToolFault;
 
 /// Which examples of a library are tried, and how.
@@ -24,6 +25,8 @@ pub struct Tests {
     pub case: Option<LetterCase>,
     /// How it is printed what differs.
     pub look: Look,
+    /// Is an object of JSON printed for each, in place of what is wrong?
+    pub prints_objects: bool,
 }
 
 impl Tests {
@@ -33,21 +36,6 @@ impl Tests {
             Some(entry) => entry.index() == register.index(),
             None => true,
         }
-    }
-}
-
-// Where an example stands, as messages have it.
-#[derive(Clone, Copy)]
-struct ExampleSite<'a> {
-    source: &'a Source,
-    place: usize,
-}
-
-impl fmt::Display for ExampleSite<'_> {
-    fn fmt<W: fmt::Write>(&self, f: &mut fmt::Formatter<W>) -> fmt::Result {
-        let name = Shown(self.source.name_at(self.place).as_bytes());
-        let LineAndByte { line, column } = self.source.position(self.place);
-        write!(f, "{name}:{line}:{column}")
     }
 }
 
@@ -73,10 +61,10 @@ impl ExampleTally {
 fn tell_failed<O: Write + Drop, E: Write + Drop, D: fmt::Display + Drop>(
     console: &mut Console<O, E>,
     source: &Source,
-    finding: &FoundComment,
+    finding: &FoundNote,
     what: D,
 ) -> Result<(), ToolFault> {
-    let site = ExampleSite {
+    let site = NoteSite {
         source,
         place: finding.place,
     };
@@ -89,7 +77,7 @@ fn tell_failed<O: Write + Drop, E: Write + Drop, D: fmt::Display + Drop>(
 fn tell_text<O: Write + Drop, E: Write + Drop>(
     console: &mut Console<O, E>,
     source: &Source,
-    finding: &FoundComment,
+    finding: &FoundNote,
     look: Look,
     texts: (&[u8], &[u8]),
 ) -> Result<bool, ToolFault> {
@@ -108,81 +96,146 @@ fn tell_text<O: Write + Drop, E: Write + Drop>(
 fn tell_code<O: Write + Drop, E: Write + Drop>(
     console: &mut Console<O, E>,
     source: &Source,
-    finding: &FoundComment,
+    finding: &FoundNote,
     code: Code,
 ) -> Result<bool, ToolFault> {
     let name = letters(code);
     let summary = note_of_code(code).summary;
-    tell_failed(console, source, finding, format_args!("?{name}: {summary}"))?;
+    let what = format!(in console.alloc; "?{name}: {summary}")?;
+    tell_failed(console, source, finding, what.as_str())?;
     Ok(false)
 }
 
-// Tries an example. Does it hold?
-fn try_example<S: ClaimSearch, O: Write + Drop, E: Write + Drop>(
+// Says which policy an example breaks, if it does one. Are all kept?
+fn tell_broken<O: Write + Drop, E: Write + Drop>(
     console: &mut Console<O, E>,
-    sourced: &Sourced,
-    tests: &Tests,
-    finding: &FoundComment,
-    example: &Example,
+    source: &Source,
+    notes: &[FoundNote],
+    finding: &FoundNote,
+    texts: (&[u8], &[u8]),
 ) -> Result<bool, ToolFault> {
-    let source = &sourced.source;
-    let subject = TextRun::of::<S>(console.alloc, sourced, finding.register, tests.case);
-    match run_on(&sourced.library, &subject, example)? {
-        Came::Text(made) => {
-            tell_text(
-                console,
-                source,
-                finding,
-                tests.look,
-                (&example.after, &made),
-            )
-        }
-        Came::Code(code) => tell_code(console, source, finding, code),
-    }
-}
-
-// Tries what was found. Is it an example that holds?
-fn try_finding<S: ClaimSearch, O: Write + Drop, E: Write + Drop>(
-    console: &mut Console<O, E>,
-    sourced: &Sourced,
-    tests: &Tests,
-    finding: &FoundComment,
-) -> Result<bool, ToolFault> {
-    if let Some(example) = &finding.example {
-        return try_example::<S, _, _>(console, sourced, tests, finding, example);
-    }
-    let what = "this is no example: write !EXAMPLE text => text!, as the manual says";
-    tell_failed(console, &sourced.source, finding, what)?;
-    Ok(false)
-}
-
-// Tries the examples of a library that are asked for.
-fn try_all<S: ClaimSearch, O: Write + Drop, E: Write + Drop>(
-    console: &mut Console<O, E>,
-    sourced: &Sourced,
-    tests: &Tests,
-) -> Result<ExampleTally, ToolFault> {
-    let found = examples_of(console.alloc, sourced.source.text())?;
-    try_found::<S, _, _>(console, sourced, tests, &found)
-}
-
-// Tries those of the comments that were found which are asked for.
-fn try_found<S: ClaimSearch, O: Write + Drop, E: Write + Drop>(
-    console: &mut Console<O, E>,
-    sourced: &Sourced,
-    tests: &Tests,
-    found: &[FoundComment],
-) -> Result<ExampleTally, ToolFault> {
-    let mut tally = ExampleTally {
-        tried: 0,
-        failed: 0,
+    let (old, new) = texts;
+    let Some(breaking) = first_broken(notes, finding.register, old, new) else {
+        return Ok(true);
     };
-    for finding in found {
-        if tests.has(finding.register) {
-            tally = tally.with(try_finding::<S, _, _>(console, sourced, tests, finding)?);
+    tell_failed(console, source, finding, breaking)?;
+    print_lines(console, &breaking)?;
+    Ok(false)
+}
+
+// A library whose examples are tried, with its notes, and how that is done.
+#[derive(Clone, Copy)]
+struct Trial<'a> {
+    sourced: &'a Sourced,
+    notes: &'a [FoundNote],
+    tests: &'a Tests,
+}
+
+impl Trial<'_> {
+    // Tries an example. Does it hold?
+    fn try_example<S: ClaimSearch, O: Write + Drop, E: Write + Drop>(
+        &self,
+        console: &mut Console<O, E>,
+        finding: &FoundNote,
+        example: &Example,
+    ) -> Result<bool, ToolFault> {
+        let source = &self.sourced.source;
+        let Tests { case, look, .. } = *self.tests;
+        let subject = TextRun::of::<S>(console.alloc, self.sourced, finding.register, case);
+        match run_on(&self.sourced.library, &subject, example)? {
+            Came::Text(made) => {
+                let wanted = tell_text(console, source, finding, look, (&example.after, &made))?;
+                let texts = (example.before.as_slice(), made.as_slice());
+                Ok(tell_broken(console, source, self.notes, finding, texts)? && wanted)
+            }
+            Came::Code(code) => tell_code(console, source, finding, code),
         }
     }
-    Ok(tally)
+
+    // Tries a note, and counts it if it is an example. One that is meant to be an example or a policy
+    // and is none counts as one that failed.
+    fn try_note<S: ClaimSearch, O: Write + Drop, E: Write + Drop>(
+        &self,
+        console: &mut Console<O, E>,
+        finding: &FoundNote,
+        tally: ExampleTally,
+    ) -> Result<ExampleTally, ToolFault> {
+        let source = &self.sourced.source;
+        match &finding.note {
+            Note::Example(Some(example)) => {
+                Ok(tally.with(self.try_example::<S, _, _>(console, finding, example)?))
+            }
+            Note::Example(None) => {
+                let what = "this is no example: write !EXAMPLE text => text!, as the manual says";
+                tell_failed(console, source, finding, what)?;
+                Ok(tally.with(false))
+            }
+            Note::Keeps(Err(refusal)) => {
+                tell_failed(console, source, finding, NoPolicy(*refusal))?;
+                Ok(tally.with(false))
+            }
+            Note::Keeps(Ok(_)) => Ok(tally),
+        }
+    }
+
+    // Prints an object of what came of an example.
+    fn print_report<O: Write + Drop, E: Write + Drop>(
+        &self,
+        console: &mut Console<O, E>,
+        finding: &FoundNote,
+        printed: &[u8],
+    ) -> Result<(), ToolFault> {
+        let source = &self.sourced.source;
+        let LineAndByte { line, column } = source.position(finding.place);
+        let report = ExampleReport {
+            file: source.name_at(finding.place).as_bytes(),
+            line: line as u64,
+            column: column as u64,
+            register: finding.register.name(),
+            has_passed: printed.is_empty(),
+            said: printed.strip_suffix(b"\n"),
+        };
+        console.out.write_all(&report.object(console.alloc)?)?;
+        Ok(())
+    }
+
+    // Tries a note, and prints an object of it if it counts as an example.
+    fn try_as_object<S: ClaimSearch, O: Write + Drop, E: Write + Drop>(
+        &self,
+        console: &mut Console<O, E>,
+        finding: &FoundNote,
+        tally: ExampleTally,
+    ) -> Result<ExampleTally, ToolFault> {
+        let mut apart = console.apart();
+        let after = self.try_note::<S, _, _>(&mut apart, finding, tally)?;
+        let (printed, _) = apart.into_parts();
+        if after.tried > tally.tried {
+            self.print_report(console, finding, &printed)?;
+        }
+        Ok(after)
+    }
+
+    // Tries those of the notes that are asked for.
+    fn try_all<S: ClaimSearch, O: Write + Drop, E: Write + Drop>(
+        &self,
+        console: &mut Console<O, E>,
+    ) -> Result<ExampleTally, ToolFault> {
+        let mut tally = ExampleTally {
+            tried: 0,
+            failed: 0,
+        };
+        for finding in self.notes {
+            if !self.tests.has(finding.register) {
+                continue;
+            }
+            tally = if self.tests.prints_objects {
+                self.try_as_object::<S, _, _>(console, finding, tally)?
+            } else {
+                self.try_note::<S, _, _>(console, finding, tally)?
+            };
+        }
+        Ok(tally)
+    }
 }
 
 // Tries the examples of a library that are asked for, and says how many that were.
@@ -191,7 +244,13 @@ fn test_library<S: ClaimSearch, O: Write + Drop, E: Write + Drop>(
     sourced: &Sourced,
     tests: &Tests,
 ) -> Result<Outcome, ToolFault> {
-    let tally = try_all::<S, _, _>(console, sourced, tests)?;
+    let notes = notes_of(console.alloc, sourced.source.text(), is_exact(tests.case))?;
+    let trial = Trial {
+        sourced,
+        notes: &notes,
+        tests,
+    };
+    let tally = trial.try_all::<S, _, _>(console)?;
     Ok(tell_tally(console, tally))
 }
 
@@ -209,8 +268,8 @@ fn tell_tally<O: Write + Drop, E: Write + Drop>(
     }
 }
 
-/// Tries the examples of a library: prints what differs where a macro makes another text of one. The
-/// macros need not be ones that are accepted.
+/// Tries the examples of a library: prints what differs where a macro makes another text of one, and
+/// which policy of the macro it breaks. The macros need not be ones that are accepted.
 pub fn test_examples<S: ClaimSearch, R: Files + Input, O: Write + Drop, E: Write + Drop>(
     rt: &R,
     console: &mut Console<O, E>,

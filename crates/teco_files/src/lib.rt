@@ -7,7 +7,6 @@ mod comparing;
 mod descriptor;
 mod identity;
 mod inheritance;
-mod likeness;
 mod links;
 mod process;
 mod size_limit;
@@ -20,7 +19,6 @@ mod unfinished;
 
 pub use backup::Backup;
 pub use identity::Identity;
-pub use likeness::Likeness;
 pub use process::ProcessFacts;
 pub use source::ReadFile;
 pub use strays::{FolderFiles, SweptFiles, remove_strays};

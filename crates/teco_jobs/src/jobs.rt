@@ -24,6 +24,7 @@ use teco_apply::{
 use teco_base::Reg;
 use teco_console::{Grouped, KnownNumber, Outcome, Request, Voice};
 use teco_hosts::{Host, MemHost};
+use teco_json::{Member, Value, object};
 use teco_model::Needs;
 use teco_promise::Promise;
 use teco_run::Machine;
@@ -51,10 +52,47 @@ pub struct Task<'a, 's> {
     pub is_strict: bool,
     /// Is a file refused whose first page alone would be edited, where it has more?
     pub wants_all: bool,
-    /// Is it said how many commands the runs took?
-    pub tells_counts: bool,
+    /// How it is said how many commands the runs took, if it is.
+    pub counts: Option<CountsForm>,
     /// Is the promise told before files are edited?
     pub tells_promise: bool,
+}
+
+/// How counts are said.
+#[derive(Clone, Copy)]
+pub enum CountsForm {
+    InWords,
+    /// As an object of JSON.
+    AsObject,
+}
+
+// Says how many commands the runs on a file took, as an object of JSON.
+fn tell_object<E: Write + Drop>(voice: &mut Voice<E>, name: &[u8], edited: Edited, seen: Seen) {
+    let members = [
+        Member {
+            key: "file",
+            value: Value::Text(told_name(name)),
+        },
+        Member {
+            key: "pages",
+            value: Value::Number(edited.pages),
+        },
+        Member {
+            key: "commands",
+            value: Value::Number(edited.steps),
+        },
+        Member {
+            key: "bound",
+            value: Value::MaybeNumber(seen.bound),
+        },
+        Member {
+            key: "n",
+            value: Value::MaybeNumber(seen.most),
+        },
+    ];
+    if let Ok(line) = object(voice.alloc(), &members) {
+        voice.repeat(&line);
+    }
 }
 
 // Says how many commands the runs on a file took. It was asked for, so it is said in any case.
@@ -125,11 +163,11 @@ impl<'a> Job<'a> {
     }
 }
 
-// What came of an edit, and what was seen of its runs.
+/// What came of an edit, and what was seen of its runs.
 #[derive(Clone, Copy)]
-struct Watched {
-    edited: Edited,
-    seen: Seen,
+pub struct Watched {
+    pub edited: Edited,
+    pub seen: Seen,
 }
 
 // What came of an edit that was watched, if it came to its end.
@@ -260,6 +298,8 @@ pub fn edit_by<H: Host + Reporting, O: Write, E: Write + Drop>(
 pub struct Replaced<H: Host + Drop> {
     pub outcome: Result<Outcome, ToolFault>,
     pub host: H,
+    /// What was watched, if the edit came to its end.
+    pub watched: Option<Watched>,
 }
 
 /// A file that is edited in place, on the terms of a job.
@@ -352,11 +392,18 @@ fn conclude_rewrite<H: Host + Drop, E: Write + Drop>(
     ensures host { result.host ≡ file.host }
 {
     let WatchedFile { watched, host } = file;
-    let outcome = match watched {
-        Ok(watched) => conclude(voice, task, name, watched),
-        Err(fault) => Err(fault),
-    };
-    Replaced { outcome, host }
+    match watched {
+        Ok(watched) => Replaced {
+            outcome: conclude(voice, task, name, watched),
+            host,
+            watched: Some(watched),
+        },
+        Err(fault) => Replaced {
+            outcome: Err(fault),
+            host,
+            watched: None,
+        },
+    }
 }
 
 // Edits a file in place on a machine, and says what there is to be said of it.
@@ -400,6 +447,7 @@ fn rewrite_prepared<H: Host + Reporting + Drop, O: Write, E: Write + Drop, K: En
         Err(fault) => Replaced {
             outcome: Err(fault),
             host,
+            watched: None,
         },
     }
 }
@@ -432,8 +480,10 @@ fn conclude<E: Write + Drop>(
     ensures { IsAnswer task.now.wants_all watched.edited result }
 {
     let Watched { edited, seen } = watched;
-    if task.tells_counts {
-        tell_counts(voice, name, edited, seen);
+    match task.counts {
+        None => {}
+        Some(CountsForm::InWords) => tell_counts(voice, name, edited, seen),
+        Some(CountsForm::AsObject) => tell_object(voice, name, edited, seen),
     }
     if edited.refused {
         return refused(seen);

@@ -10,7 +10,8 @@ mod opening;
 mod tracing;
 mod watching;
 
-pub use jobs::{Job, OneWork, Replaced, Task, Work, edit_by, rewrite_by};
+pub use jobs::{CountsForm, Job, OneWork, Replaced, Task, Watched, Work, edit_by, rewrite_by};
 pub use names::Names;
 pub use opening::{call, open_pages};
 pub use tracing::{Listing, TracedMacro, trace_library};
+pub use watching::Seen;

@@ -1,21 +1,21 @@
 -- Answers, by what was written.
-use Rattle.std.proofs.Common.{◌≡◌, ◌≢◌, ℕ, inl, inr, List, Option, Result, Ok, Err, IfOk, IsErr}
-use Rattle.std.proofs.Common.{refl, sym, ap, subst, ◌∙◌, codes}
+use Rattle.std.proofs.Common.{◌≡◌, ℕ, inl, inr, List, Option, Result, Ok, Err, IfOk, IsErr}
+use Rattle.std.proofs.Common.{refl, sym, ap, subst, codes}
 use Rattle.std.specs.Io.KnownBytes.{Keeps}
 use Rattle.teco_library.specs.Library.{LibraryFile}
 use Rattle.teco_library.specs.Reads.{Reads}
 use Rattle.teco_certificate.specs.Text.{certificate_text}
-use Rattle.teco_verifier.specs.certificate.Fields.{Fields, Finding}
-use Rattle.teco_verify.specs.Again.{AreMadeAgain, PrintedIsAccepted}
+use Rattle.teco_verifier.specs.certificate.Fields.{Finding}
+use Rattle.teco_verify.specs.Again.{AreMadeAgain}
 use Rattle.teco_verify.specs.Certified.{IsCertified, TakesDeclared}
-use Rattle.teco_verify.specs.Straight.{StraightIsChecked, StraightIsVerified}
+use Rattle.teco_verify.specs.Straight.{StraightIsVerified}
 use Rattle.teco_verify.specs.declared.refusal.Refusal.{Refusal}
 use Rattle.teco_verify.specs.declared.refusal.Refusal.TheVariants.{No, Memory}
 use Rattle.teco_verify.specs.Refusing.{IsOfCertificate, PrintedIsFound, RefusedIsDerived, RefusedIsExpansions}
 use Rattle.teco_verify.specs.Refusing.{RefusedIsOverflow, RefusedIsUnclosed, refusal_of_certificate}
 use Rattle.std.specs.Result.{IfErr}
 use Rattle.teco_verdicts.specs.Answers.{Answer, Answers, AnswersIn, ChecksByTable}
-use Rattle.teco_acceptance.specs.Refused.{IsDenied, IsDeniedBy, IsRefusal, IsRefusedByTable, IsUnclaimedFor, told_of}
+use Rattle.teco_acceptance.specs.Refused.{IsDeniedBy, IsRefusal, IsRefusedByTable, IsUnclaimedFor, told_of}
 use Rattle.teco_verdicts.specs.Answers.{IsStraightVerdict, OfText, VerdictByTable}
 use Rattle.teco_acceptance.specs.Refused.{ReadsNone, Refuses}
 use Rattle.teco_verdicts.specs.Certificates.{IsCertificate}

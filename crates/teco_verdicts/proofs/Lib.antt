@@ -3,3 +3,4 @@ mod Answering
 mod Ending
 mod RoundTrip
 mod Stating
+mod Spelling

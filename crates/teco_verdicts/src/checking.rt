@@ -73,9 +73,9 @@ fn check_by_edition<O: Write + Drop, E: Write + Drop>(
     }
 }
 
-// Accepts a certificate by a method, or says why not.
+/// Accepts a certificate by a method, or says why not.
 #[tactic(auto, using(crate::proofs::Answering::checks_by))]
-fn check_by_method<O: Write + Drop, E: Write + Drop>(
+pub fn check_by_method<O: Write + Drop, E: Write + Drop>(
     console: &mut Console<O, E>,
     sourced: &Sourced,
     entry: Reg,

@@ -4,38 +4,76 @@ ghost use Rattle.teco_acceptance.specs.Accepted.{IsAmong, IsOf, edition_of};
 ghost use Rattle.teco_acceptance.specs.Refused.{IsRefusedBy, ReadsNone};
 ghost use Rattle.teco_console.specs.Output.{Writes};
 ghost use Rattle.teco_verdicts.specs.Answers.{Answers};
-ghost use Rattle.teco_verdicts.specs.Json.{NoLibraryBy, ObjectBy, ObjectsFor, ObjectsOfText};
+ghost use Rattle.teco_verdicts.specs.Json.{CheckObjectBy, CheckObjectsFor, NoLibraryBy};
+ghost use Rattle.teco_verdicts.specs.Json.{ObjectBy, ObjectsFor, ObjectsOfText};
 
-use crate::objects::{object_of, refusal_text};
+use crate::checking::check_by_method;
+use crate::objects::{Remark, object_of, refusal_text};
 use std::io::Write;
-use teco_acceptance::{Accepted, Verdict, library_of, verified_by};
+use teco_acceptance::{
+    Accepted, ClaimedCertificate, MENDING, Verdict, accepted, library_of, verified_by,
+};
 use teco_base::Reg;
 use teco_console::{
-    AnswerFault, Console, Method, NAMES, Outcome, Request, Shelf, Sourced, macro_named, read_source,
+    AnswerFault, Console, Method, NAMES, Outcome, Request, Shelf, Sourced, element_at, macro_named,
+    read_source, write_bytes,
 };
-use teco_explain::position_in;
+use teco_explain::{note_of_refusal, position_in};
 use teco_paths::search::ClaimSearch;
-use teco_source::{LineAndByte, Source};
+use teco_source::Source;
+use teco_verifier::RefusalReason as Why;
 use teco_verify::Refusal;
+
+// A certificate that is refused.
+const DENIED: Verdict = Verdict {
+    why: Why::Certificate,
+    register: None,
+    place: 0,
+};
 
 // Prints an object, and answers an outcome.
 #[tactic(auto, using(teco_console::proofs::Fronts::whole_front))]
 fn print<O: Write + Drop, E: Write + Drop>(
     console: &mut Console<O, E>,
-    object: &str,
+    object: &[u8],
     outcome: Outcome,
 ) -> Result<Outcome, AnswerFault>
     ensures outcome { IfOk result (λ answered. answered ≡ outcome) }
     ensures object { Writes (O.contents console.old.out) (O.contents console.new.out) object.now
         result }
 {
-    console.answer(object)?;
+    write_bytes(&mut console.out, object)?;
     Ok(outcome)
 }
 
-// The position in its file of what a verdict is on, if the file says it.
-fn position_of(source: &Source, verdict: &Verdict) -> Option<LineAndByte> {
-    position_in(source, verdict.register, verdict.place)
+// The place behind the element that a verdict is on, in a text.
+fn end_in(text: &[u8], verdict: &Verdict) -> Option<usize> {
+    match element_at(text, verdict.place).len() {
+        0 => None,
+        length => verdict.place.checked_add(length),
+    }
+}
+
+// What is said of a verdict on the text of a register of a source, or on all of it.
+fn remark_of(source: &Source, text: &[u8], verdict: &Verdict) -> Remark<'static> {
+    let end = end_in(text, verdict);
+    let note = note_of_refusal(verdict.why);
+    Remark {
+        begin: position_in(source, verdict.register, verdict.place),
+        end: end.map(|end| end as u64),
+        end_position: end.and_then(|end| position_in(source, verdict.register, end)),
+        message: note.summary.as_bytes(),
+        remedy: note.remedy,
+    }
+}
+
+// What is said of a verdict on a macro of a library.
+fn remark_on(sourced: &Sourced, verdict: &Verdict) -> Remark<'static> {
+    let text = verdict
+        .register
+        .and_then(|register| sourced.library.text(register))
+        .unwrap_or(&[]);
+    remark_of(&sourced.source, text, verdict)
 }
 
 // Prints what a macro that is accepted promises.
@@ -52,7 +90,7 @@ fn answer_accepted<O: Write + Drop, E: Write + Drop>(
 {
     accepted.is_proved();
     let object = object_of(console.alloc, &accepted.promise())?;
-    print(console, object.as_str(), Outcome::Done)
+    print(console, &object, Outcome::Done)
 }
 
 // Prints why a macro is refused, and where.
@@ -69,9 +107,9 @@ fn answer_refused<O: Write + Drop, E: Write + Drop>(
     let Some(verdict) = Verdict::of(refusal) else {
         return Err(AnswerFault::Memory);
     };
-    let at = position_of(&sourced.source, &verdict);
-    let object = refusal_text(console.alloc, Some(entry), &verdict, at)?;
-    print(console, object.as_str(), Outcome::Refused)
+    let remark = remark_on(sourced, &verdict);
+    let object = refusal_text(console.alloc, Some(entry), &verdict, &remark)?;
+    print(console, &object, Outcome::Refused)
 }
 
 // Prints that a source says no library, and where.
@@ -87,9 +125,9 @@ fn answer_no_library<O: Write + Drop, E: Write + Drop>(
     let Some(verdict) = Verdict::of(refusal) else {
         return Err(AnswerFault::Memory);
     };
-    let at = position_of(source, &verdict);
-    let object = refusal_text(console.alloc, None, &verdict, at)?;
-    print(console, object.as_str(), Outcome::Refused)
+    let remark = remark_of(source, source.text(), &verdict);
+    let object = refusal_text(console.alloc, None, &verdict, &remark)?;
+    print(console, &object, Outcome::Refused)
 }
 
 // Prints the verdict on a macro.
@@ -189,4 +227,115 @@ pub fn verify_library_as_json<S: ClaimSearch, R: Shelf, O: Write + Drop, E: Writ
 ) -> Result<Outcome, AnswerFault> {
     let source = read_source(rt, console.alloc, request)?;
     answer_library::<S, _, _>(console, source, request.method)
+}
+
+// What is said of a certificate that is refused.
+fn remark_in(said: &[u8]) -> Remark<'_> {
+    Remark {
+        begin: None,
+        end: None,
+        end_position: None,
+        message: said.strip_suffix(b"\n").unwrap_or(said),
+        remedy: MENDING.trim_ascii(),
+    }
+}
+
+// Prints that a certificate is refused, and what is said of it.
+fn answer_denied<O: Write + Drop, E: Write + Drop>(
+    console: &mut Console<O, E>,
+    sourced: &Sourced,
+    entry: Reg,
+    claim: &ClaimedCertificate<'_>,
+) -> Result<Outcome, AnswerFault>
+    ensures { Answers (CheckObjectBy sourced.now.method claim.now.bytes.items sourced.now.library entry)
+        (O.contents console.old.out) (O.contents console.new.out) result }
+{
+    let alloc = console.alloc;
+    let mut apart = Console::new(alloc, Vec::new(alloc), Vec::new(alloc));
+    let Outcome::Refused = check_by_method(&mut apart, sourced, entry, claim)? else {
+        return Err(AnswerFault::Memory);
+    };
+    let (_, said) = apart.into_parts();
+    let remark = remark_in(&said);
+    let object = refusal_text(alloc, Some(entry), &DENIED, &remark)?;
+    print(console, &object, Outcome::Refused)
+}
+
+// Prints what a macro promises that a certificate is of, or that the certificate is refused.
+fn answer_check<S: ClaimSearch, O: Write + Drop, E: Write + Drop>(
+    console: &mut Console<O, E>,
+    sourced: &Sourced,
+    entry: Reg,
+    claim: &ClaimedCertificate<'_>,
+) -> Result<Outcome, AnswerFault>
+    ensures { Answers (CheckObjectBy sourced.now.method claim.now.bytes.items sourced.now.library entry)
+        (O.contents console.old.out) (O.contents console.new.out) result }
+{
+    let library = &sourced.library;
+    match accepted::<S>(console.alloc, library, entry, sourced.method, Some(claim)) {
+        Ok(accepted) => {
+            accepted.is_proved();
+            let object = object_of(console.alloc, &accepted.promise())?;
+            print(console, &object, Outcome::Done)
+        }
+        Err(Refusal::Memory) => Err(AnswerFault::Memory),
+        Err(Refusal::No { .. }) => answer_denied(console, sourced, entry, claim),
+    }
+}
+
+// Checks a certificate of a macro of the library that a source says.
+#[tactic(auto, using(crate::proofs::Stating::of_library, crate::proofs::Stating::of_no_library))]
+fn check_source<S: ClaimSearch, O: Write + Drop, E: Write + Drop>(
+    console: &mut Console<O, E>,
+    source: Source,
+    method: Method,
+    entry: Reg,
+    claim: &ClaimedCertificate<'_>,
+) -> Result<Outcome, AnswerFault>
+    ensures { Answers (ObjectsOfText (λ library. CheckObjectBy method claim.now.bytes.items library entry)
+        source) (O.contents console.old.out) (O.contents console.new.out) result }
+{
+    match library_of(console.alloc, &source) {
+        Ok(library) => {
+            let sourced = Sourced {
+                source,
+                library,
+                method,
+            };
+            answer_check::<S, _, _>(console, &sourced, entry, claim)
+        }
+        Err(refusal) => answer_no_library(console, &source, &refusal),
+    }
+}
+
+// Checks a certificate of a macro of the library that a request names.
+fn check_in<S: ClaimSearch, R: Shelf, O: Write + Drop, E: Write + Drop>(
+    rt: &R,
+    console: &mut Console<O, E>,
+    request: Request<'_>,
+    entry: Reg,
+    claim: &ClaimedCertificate<'_>,
+) -> Result<Outcome, AnswerFault>
+    ensures { ObjectsFor (R.holds rt.now) request.entry
+        (λ library. CheckObjectBy request.entry.method claim.now.bytes.items library entry)
+        (O.contents console.old.out) (O.contents console.new.out) result }
+{
+    let source = read_source(rt, console.alloc, request)?;
+    check_source::<S, _, _>(console, source, request.method, entry, claim)
+}
+
+/// Checks a certificate of a macro of a library, and prints an object of JSON: what the macro promises,
+/// or why the certificate is refused.
+pub fn check_macro_as_json<S: ClaimSearch, R: Shelf, O: Write + Drop, E: Write + Drop>(
+    rt: &R,
+    console: &mut Console<O, E>,
+    request: Request<'_>,
+    entry: Reg,
+    name: &str,
+) -> Result<Outcome, AnswerFault>
+    ensures { CheckObjectsFor (R.holds rt.now) request.entry entry name.now
+        (O.contents console.old.out) (O.contents console.new.out) result }
+{
+    let claim = ClaimedCertificate::read(rt, console.alloc, name)?;
+    check_in::<S, _, _, _>(rt, console, request, entry, &claim)
 }

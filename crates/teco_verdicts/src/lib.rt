@@ -2,6 +2,7 @@
 #![tactic(auto)]
 
 mod checking;
+mod explained_rows;
 mod explaining;
 mod json;
 pub mod laws;
@@ -11,6 +12,7 @@ mod objects;
 mod verifying;
 
 pub use checking::check_macro;
+pub use explained_rows::explain_macro_as_json;
 pub use explaining::explain_macro;
-pub use json::{verify_library_as_json, verify_macro_as_json};
+pub use json::{check_macro_as_json, verify_library_as_json, verify_macro_as_json};
 pub use verifying::{verify_library, verify_macro};

@@ -1,6 +1,6 @@
 //! The objects of JSON that verdicts are printed as.
-ghost use Rattle.std.specs.Prelude.{◌≡◌, ◌++◌, IfOk, IfSome, OnOk, Some, string_bytes};
-ghost use Rattle.std.specs.List.{flat_map};
+ghost use Rattle.std.specs.Prelude.{◌≡◌, IfOk, IfSome, option_map};
+ghost use Rattle.std.specs.Option.{option_copied};
 ghost use Rattle.teco_console.specs.Premise.{IsLast};
 ghost use Rattle.teco_verdicts.specs.Json as json;
 
@@ -9,6 +9,7 @@ use teco_acceptance::Verdict;
 use teco_base::Reg;
 use teco_console::{AnswerFault, Premise};
 use teco_explain::number_of;
+use teco_json::{Member, Value, object};
 use teco_model::{ArgumentRange, Needs};
 use teco_paths::coefficients::coefficients;
 use teco_poly::Poly;
@@ -28,8 +29,10 @@ pub struct StatedBounds {
 #[derive(Drop)]
 pub struct Stated {
     pub entry: Reg,
-    pub argument: Option<ArgumentRange>,
-    pub needs: Needs,
+    /// The least and the greatest.
+    pub argument: Option<Vec<u64>>,
+    pub needs_input: bool,
+    pub needs_output: bool,
     pub bounds: StatedBounds,
     pub greatest: Option<u64>,
 }
@@ -84,168 +87,222 @@ fn greatest_of(promise: &Promise<'_>) -> Option<u64>
     premise.last
 }
 
+// The least and the greatest argument, if there is a range.
+fn ends_of(alloc: Global, range: Option<ArgumentRange>) -> Result<Option<Vec<u64>>, AllocError>
+    ensures { IfOk result (λ ends. option_map json.items ends ≡ option_map json.range_ends range) }
+{
+    let Some(range) = range else {
+        return Ok(None);
+    };
+    let mut ends = Vec::new(alloc);
+    ends.push(u64::from(range.low()))?;
+    ends.push(u64::from(range.high()))?;
+    Ok(Some(ends))
+}
+
 // What is stated of a promise.
 fn statement_of(alloc: Global, promise: &Promise<'_>) -> Result<Stated, AnswerFault>
     ensures { IfOk result (λ stated. json.States promise.now stated) }
 {
     let bounds = bounds_of(alloc, promise)?;
+    let argument = ends_of(alloc, promise.argument())?;
+    let Needs { input, output } = promise.needs();
     Ok(Stated {
         entry: promise.entry(),
-        argument: promise.argument(),
-        needs: promise.needs(),
+        argument,
+        needs_input: input,
+        needs_output: output,
         bounds,
         greatest: greatest_of(promise),
     })
 }
 
-// Adds numbers behind another.
-fn push_others(text: &mut String, alloc: Global, numbers: &[u64]) -> Result<(), AllocError>
-    ensures { OnOk result (string_bytes text.new
-        ≡ string_bytes text.old ++ flat_map json.next_number numbers.now) }
-{
-    for number in numbers {
-        let next = format!(in alloc; ", {number}")?;
-        text.push_str(next.as_str())?;
-    }
-    Ok(())
-}
-
-// Numbers in brackets.
-fn array(alloc: Global, numbers: &[u64]) -> Result<String, AllocError>
-    ensures { IfOk result (λ text. string_bytes text ≡ json.array_text numbers.now) }
-{
-    let Some((first, others)) = numbers.split_first() else {
-        return String::from_str(alloc, "[]");
-    };
-    let mut text = format!(in alloc; "[{first}")?;
-    push_others(&mut text, alloc, others)?;
-    text.push_str("]")?;
-    Ok(text)
-}
-
-// Numbers in brackets, or null.
-fn numbers_or_null(alloc: Global, numbers: &Option<Vec<u64>>) -> Result<String, AllocError>
-    ensures { IfOk result (λ text. string_bytes text ≡ json.numbers_text numbers.now) }
+// Numbers, if there are some.
+fn numbers_in(numbers: &Option<Vec<u64>>) -> Option<&[u64]>
+    ensures { option_copied result ≡ option_map json.items numbers.now }
 {
     match numbers {
-        None => String::from_str(alloc, "null"),
-        Some(numbers) => array(alloc, numbers),
+        None => None,
+        Some(numbers) => Some(numbers.as_slice()),
     }
 }
 
-// A number, or null.
-fn number_or_null(alloc: Global, number: Option<u64>) -> Result<String, AllocError>
-    ensures { IfOk result (λ text. string_bytes text ≡ json.number_text number) }
-{
-    match number {
-        None => String::from_str(alloc, "null"),
-        Some(number) => format!(in alloc; "{number}"),
-    }
-}
-
-// The least and the greatest argument, or null.
-fn range_or_null(alloc: Global, range: Option<ArgumentRange>) -> Result<String, AllocError>
-    ensures { IfOk result (λ text. string_bytes text ≡ json.range_text range) }
-{
-    match range {
-        None => String::from_str(alloc, "null"),
-        Some(range) => array(alloc, &[u64::from(range.low()), u64::from(range.high())]),
-    }
-}
-
-// The name of a register in quotes.
-fn name_of(alloc: Global, register: Reg) -> Result<String, AllocError>
-    ensures { IfOk result (λ text. string_bytes text ≡ json.name_text (Some register)) }
-{
-    let mut text = String::from_str(alloc, "\"")?;
-    text.push(char::from(register.name()))?;
-    text.push_str("\"")?;
-    Ok(text)
-}
-
-// The name of a register in quotes, or null.
-fn name_or_null(alloc: Global, register: Option<Reg>) -> Result<String, AllocError>
-    ensures { IfOk result (λ text. string_bytes text ≡ json.name_text register) }
+// The name of a register, if there is one.
+fn name_in(register: Option<Reg>) -> Option<u8>
+    ensures { result ≡ json.name_in register }
 {
     match register {
-        None => String::from_str(alloc, "null"),
-        Some(register) => name_of(alloc, register),
+        None => None,
+        Some(register) => Some(register.name()),
     }
-}
-
-// A truth.
-fn truth(is_so: bool) -> &'static str
-    ensures { result.now ≡ json.truth_text is_so }
-{
-    if is_so { "true" } else { "false" }
-}
-
-// The bounds that are stated.
-fn bounds_text(alloc: Global, bounds: &StatedBounds) -> Result<String, AllocError>
-    ensures { IfOk result (λ text. string_bytes text ≡ json.bounds_text bounds.now) }
-{
-    let commands = array(alloc, &bounds.commands)?;
-    let size = array(alloc, &bounds.size)?;
-    let grows = numbers_or_null(alloc, &bounds.grows)?;
-    let types = numbers_or_null(alloc, &bounds.types)?;
-    format!(in alloc;
-        "\"commands\": {commands}, \"size\": {size}, \"grows\": {grows}, \"types\": {types}"
-    )
-}
-
-// The conditions that are stated.
-fn premise_text(alloc: Global, stated: &Stated) -> Result<String, AllocError>
-    ensures { IfOk result (λ text. string_bytes text
-        ≡ json.premise_text stated.now.needs stated.now.greatest stated.now.argument) }
-{
-    let input = truth(stated.needs.input);
-    let output = truth(stated.needs.output);
-    let greatest = number_or_null(alloc, stated.greatest)?;
-    let argument = range_or_null(alloc, stated.argument)?;
-    format!(in alloc;
-        "\"needs_input\": {input}, \"needs_output\": {output}, \"greatest_n\": {greatest}, \"argument\": {argument}"
-    )
 }
 
 // The object of what is stated.
-fn stated_text(alloc: Global, stated: &Stated) -> Result<String, AllocError>
-    ensures { IfOk result (λ text. string_bytes text ≡ json.stated_text stated.now) }
+fn stated_text(alloc: Global, stated: &Stated) -> Result<Vec<u8>, AllocError>
+    ensures { IfOk result (λ text. text.items ≡ json.stated_text stated.now) }
 {
-    let name = name_of(alloc, stated.entry)?;
-    let bounds = bounds_text(alloc, &stated.bounds)?;
-    let premise = premise_text(alloc, stated)?;
-    format!(in alloc; "{{\"macro\": {name}, \"accepted\": true, {bounds}, {premise}}}\n")
+    let bounds = &stated.bounds;
+    object(
+        alloc,
+        &[
+            Member {
+                key: "macro",
+                value: Value::MaybeByte(Some(stated.entry.name())),
+            },
+            Member {
+                key: "accepted",
+                value: Value::Truth(true),
+            },
+            Member {
+                key: "commands",
+                value: Value::MaybeNumbers(Some(&bounds.commands)),
+            },
+            Member {
+                key: "size",
+                value: Value::MaybeNumbers(Some(&bounds.size)),
+            },
+            Member {
+                key: "grows",
+                value: Value::MaybeNumbers(numbers_in(&bounds.grows)),
+            },
+            Member {
+                key: "types",
+                value: Value::MaybeNumbers(numbers_in(&bounds.types)),
+            },
+            Member {
+                key: "needs_input",
+                value: Value::Truth(stated.needs_input),
+            },
+            Member {
+                key: "needs_output",
+                value: Value::Truth(stated.needs_output),
+            },
+            Member {
+                key: "greatest_n",
+                value: Value::MaybeNumber(stated.greatest),
+            },
+            Member {
+                key: "argument",
+                value: Value::MaybeNumbers(numbers_in(&stated.argument)),
+            },
+        ],
+    )
 }
 
 /// The object of a promise.
-pub fn object_of(alloc: Global, promise: &Promise<'_>) -> Result<String, AnswerFault>
-    ensures { IfOk result (λ text. json.IsObjectOf promise.now (string_bytes text)) }
+pub fn object_of(alloc: Global, promise: &Promise<'_>) -> Result<Vec<u8>, AnswerFault>
+    ensures { IfOk result (λ text. json.IsObjectOf promise.now text.items) }
 {
     let stated = statement_of(alloc, promise)?;
     let text = stated_text(alloc, &stated)?;
     Ok(text)
 }
 
-// The line and the column of a refusal, or null.
-fn position_text(alloc: Global, position: Option<LineAndByte>) -> Result<String, AllocError>
-    ensures { IfOk result (λ text. string_bytes text ≡ json.position_text position) }
+/// Where a refusal is, in its file, and what is said of it. What can't be told is none.
+#[derive(Clone, Copy)]
+pub struct Remark<'a> {
+    /// The line and the column where the element begins.
+    pub begin: Option<LineAndByte>,
+    /// The place in the text of the register behind the element.
+    pub end: Option<u64>,
+    /// The line and the column of that.
+    pub end_position: Option<LineAndByte>,
+    /// What the reason means.
+    pub message: &'a [u8],
+    /// How it is mended.
+    pub remedy: &'a str,
+}
+
+// The line of a position, if there is one.
+fn line_in(position: Option<LineAndByte>) -> Option<u64>
+    ensures { result ≡ json.line_in position }
 {
     match position {
-        None => String::from_str(alloc, "\"line\": null, \"column\": null"),
-        Some(at) => {
-            let LineAndByte { line, column } = at;
-            format!(in alloc; "\"line\": {line}, \"column\": {column}")
-        }
+        None => None,
+        Some(at) => Some(at.line as u64),
     }
 }
 
-// The reason of a refusal, and where it is so.
-fn reason_text(alloc: Global, verdict: &Verdict) -> Result<String, AllocError>
-    ensures { IfOk result (λ text. string_bytes text ≡ json.reason_text verdict.now) }
+// Its column.
+fn column_in(position: Option<LineAndByte>) -> Option<u64>
+    ensures { result ≡ json.column_in position }
 {
-    let (number, place) = (number_of(verdict.why), verdict.place);
-    let register = name_or_null(alloc, verdict.register)?;
-    format!(in alloc; "\"refusal\": \"X{number}\", \"register\": {register}, \"place\": {place}")
+    match position {
+        None => None,
+        Some(at) => Some(at.column as u64),
+    }
+}
+
+// What an object states of a refusal, as its texts have it.
+#[derive(Clone, Copy)]
+struct StatedRefusal<'a> {
+    entry: Option<Reg>,
+    verdict: Verdict,
+    reason: &'a str,
+    begin: Option<LineAndByte>,
+    end: Option<u64>,
+    end_position: Option<LineAndByte>,
+    message: &'a [u8],
+    remedy: &'a str,
+}
+
+// The object of a refusal whose reason is spelled so.
+fn refusal_object(alloc: Global, stated: &StatedRefusal<'_>) -> Result<Vec<u8>, AllocError>
+    ensures { IfOk result (λ text. text.items ≡ json.refusal_object stated.now) }
+{
+    object(
+        alloc,
+        &[
+            Member {
+                key: "macro",
+                value: Value::MaybeByte(name_in(stated.entry)),
+            },
+            Member {
+                key: "accepted",
+                value: Value::Truth(false),
+            },
+            Member {
+                key: "refusal",
+                value: Value::Text(stated.reason.as_bytes()),
+            },
+            Member {
+                key: "register",
+                value: Value::MaybeByte(name_in(stated.verdict.register)),
+            },
+            Member {
+                key: "place",
+                value: Value::Number(stated.verdict.place as u64),
+            },
+            Member {
+                key: "line",
+                value: Value::MaybeNumber(line_in(stated.begin)),
+            },
+            Member {
+                key: "column",
+                value: Value::MaybeNumber(column_in(stated.begin)),
+            },
+            Member {
+                key: "end",
+                value: Value::MaybeNumber(stated.end),
+            },
+            Member {
+                key: "end_line",
+                value: Value::MaybeNumber(line_in(stated.end_position)),
+            },
+            Member {
+                key: "end_column",
+                value: Value::MaybeNumber(column_in(stated.end_position)),
+            },
+            Member {
+                key: "message",
+                value: Value::Text(stated.message),
+            },
+            Member {
+                key: "remedy",
+                value: Value::Text(stated.remedy.as_bytes()),
+            },
+        ],
+    )
 }
 
 /// The object of a refusal of a macro, or of what is no library where none is named.
@@ -253,13 +310,21 @@ pub fn refusal_text(
     alloc: Global,
     entry: Option<Reg>,
     verdict: &Verdict,
-    position: Option<LineAndByte>,
-) -> Result<String, AllocError>
-    ensures { IfOk result (λ text. string_bytes text
-        ≡ json.refusal_text entry verdict.now position) }
+    remark: &Remark<'_>,
+) -> Result<Vec<u8>, AllocError>
+    ensures { IfOk result (λ text. text.items ≡ json.refusal_text entry verdict.now remark.now) }
 {
-    let name = name_or_null(alloc, entry)?;
-    let reason = reason_text(alloc, verdict)?;
-    let position = position_text(alloc, position)?;
-    format!(in alloc; "{{\"macro\": {name}, \"accepted\": false, {reason}, {position}}}\n")
+    let number = number_of(verdict.why);
+    let reason = format!(in alloc; "X{number}")?;
+    let stated = StatedRefusal {
+        entry,
+        verdict: *verdict,
+        reason: reason.as_str(),
+        begin: remark.begin,
+        end: remark.end,
+        end_position: remark.end_position,
+        message: remark.message,
+        remedy: remark.remedy,
+    };
+    refusal_object(alloc, &stated)
 }

@@ -11,9 +11,10 @@ use std::convert::AsStr;
 /// What the status says that the program ends with.
 const STATUSES: &str = "Status:\n\
     \x20 0  done, or there was nothing to do\n\
-    \x20 1  a code; a file that edit could not edit, or that edit --check would change\n\
+    \x20 1  a code; a file that edit --check would change\n\
     \x20 2  words, a library, a certificate or a stream that can't be used\n\
-    \x20 3  a refusal; a file outside the promise";
+    \x20 3  a refusal; a file outside the promise\n\
+    \x20 4  a file that edit could not edit, and left as it was";
 
 /// A command of the program: what its help says, and its arguments.
 #[derive(Clone, Copy)]

@@ -45,7 +45,7 @@ pub const CHECK_PAGE: HelpPage = HelpPage {
     examples: "Example:\n\
         \x20 teco verify trim.tes A > trim.cert\n\
         \x20 teco check trim.tes A trim.cert",
-    options: &[MACRO, FROM, CALLED, RULES, ESCAPE],
+    options: &[MACRO, FROM, CALLED, JSON_CHECK, RULES, ESCAPE],
     library: &[LIBRARY, REGISTER],
     words: &[CERTIFICATE],
 };
@@ -73,7 +73,12 @@ pub const APPLY_PAGE: HelpPage = HelpPage {
         EDITED,
         STRICT,
         STATS,
+        JSON_COUNTS,
         CHECKED,
+        KEEP,
+        ADD,
+        TAKE,
+        MOST,
         QUIET,
     ],
     library: &[LIBRARY, REGISTER],
@@ -110,6 +115,7 @@ pub const EDIT_PAGE: HelpPage = HelpPage {
         DRY,
         CHECK,
         NUL,
+        JSON_FILES,
         KEEP,
         ADD,
         TAKE,
@@ -138,7 +144,7 @@ pub const TEST_PAGE: HelpPage = HelpPage {
     about: "Tries the examples in the comments of a library, as !EXAMPLE text => text!",
     examples: "Examples:\n  teco test trim.tes\n  teco test lib.tes B",
     options: &[
-        MACRO, FROM, CALLED, FUZZ, EXACT, ANY_CASE, COLOR, RULES, ESCAPE,
+        MACRO, FROM, CALLED, FUZZ, EXACT, ANY_CASE, COLOR, JSON_ROWS, RULES, ESCAPE,
     ],
     library: &[LIBRARY, OF_TESTED],
     words: &[],
@@ -190,7 +196,7 @@ pub const EXPLAIN_PAGE: HelpPage = HelpPage {
         \x20 teco explain X9\n\
         \x20 teco explain -e 'J<FSfoo$bar$;>'\n\
         \x20 teco explain trim.tes A",
-    options: &[MACRO, FROM, CALLED, RULES, ESCAPE],
+    options: &[MACRO, FROM, CALLED, JSON_ROWS, RULES, ESCAPE],
     library: &[EXPLAINED, IN_LIBRARY],
     words: &[],
 };
@@ -243,6 +249,30 @@ const JSON: Parameter = Parameter {
     id: "json",
     kind: ParameterKind::Flag,
     help: "Print each verdict as an object of JSON in a line",
+};
+
+const JSON_CHECK: Parameter = Parameter {
+    id: "json",
+    kind: ParameterKind::Flag,
+    help: "Print what the macro promises, or the refusal, as an object of JSON",
+};
+
+const JSON_ROWS: Parameter = Parameter {
+    id: "json",
+    kind: ParameterKind::Flag,
+    help: "Print an object of JSON in each line",
+};
+
+const JSON_COUNTS: Parameter = Parameter {
+    id: "json",
+    kind: ParameterKind::Flag,
+    help: "Say what --stats says as an object of JSON; it asks for --stats",
+};
+
+const JSON_FILES: Parameter = Parameter {
+    id: "json",
+    kind: ParameterKind::Flag,
+    help: "Print an object of JSON for each file, in a line, and nothing else",
 };
 
 const OF_EACH: Parameter = Parameter {

@@ -368,9 +368,9 @@ pub fn change(words: &ArgMatches<'_>) -> Change {
     }
 }
 
-/// Where the names of files stand before what is typed over them.
+/// Where the names of files stand before what is typed over them: nowhere in objects, which have them.
 pub fn naming(words: &ArgMatches<'_>) -> Naming {
-    if words.get_flag("no-names") {
+    if words.get_flag("no-names") || words.get_flag("json") {
         Naming::Never
     } else if words.get_flag("with-names") {
         Naming::Always

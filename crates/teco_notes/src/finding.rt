@@ -1,33 +1,46 @@
-//! The examples of a library.
-use crate::example::{Example, WORD};
+//! What the comments of a library say of its macros.
+use crate::example::{self, Example};
+use crate::keeps;
 use std::alloc::{AllocError, Global};
 use teco_base::Reg;
 use teco_lex::element;
 use teco_model::kind::{Command, Flow, Storage};
 use teco_model::{Element, Kind};
+use teco_policy::{Policy, PolicyRefusal};
 
-/// A comment that is an example, or is meant as one.
+/// What a comment says of a macro, or is meant to say.
 #[derive(Drop)]
-pub struct FoundComment {
+pub enum Note {
+    /// An example; none where the comment doesn't say one.
+    Example(Option<Example>),
+    /// A policy, or why it is none.
+    Keeps(Result<Policy, PolicyRefusal>),
+}
+
+/// A comment that says something of a macro.
+#[derive(Drop)]
+pub struct FoundNote {
     /// The register of the macro that it is about.
     pub register: Reg,
     /// The place in the text of the library's source where it begins.
     pub place: usize,
-    /// The example; none where the comment doesn't say one.
-    pub example: Option<Example>,
+    pub note: Note,
 }
 
 // The comments that were found, and how many of them stand before a macro that has not come yet.
 #[derive(Drop)]
-struct FoundComments {
+struct FoundNotes {
     alloc: Global,
-    found: Vec<FoundComment>,
+    // how searches treat case in the search texts of policies
+    exact: bool,
+    found: Vec<FoundNote>,
     waiting: usize,
 }
 
-// Is an element a comment that begins as examples do?
-fn is_example(found: &Element<'_>) -> bool {
-    matches!(found.kind, Kind::Flow(Flow::Comment)) && found.text.starts_with(WORD)
+// Is an element a comment that begins as examples or policies do?
+fn is_note(found: &Element<'_>) -> bool {
+    matches!(found.kind, Kind::Flow(Flow::Comment))
+        && (found.text.starts_with(example::WORD) || found.text.starts_with(keeps::WORD))
 }
 
 // The register that an element gives a text, if it does.
@@ -49,26 +62,34 @@ pub fn element_at(text: &[u8], place: usize) -> Option<Element<'_>> {
     }
 }
 
-impl FoundComments {
-    // One more example, of a macro.
+impl FoundNotes {
+    // What a comment says.
+    fn note_of(&self, comment: &[u8]) -> Result<Note, AllocError> {
+        if comment.starts_with(keeps::WORD) {
+            return Ok(Note::Keeps(keeps::read(self.alloc, comment, self.exact)?));
+        }
+        Ok(Note::Example(Example::read(self.alloc, comment)?))
+    }
+
+    // One more note, of a macro.
     fn push(&mut self, found: &Element<'_>, register: Reg, begin: usize) -> Result<(), AllocError> {
-        let example = Example::read(self.alloc, found.text)?;
-        self.found.push(FoundComment {
+        let note = self.note_of(found.text)?;
+        self.found.push(FoundNote {
             register,
             place: begin.saturating_add(found.place),
-            example,
+            note,
         })?;
         Ok(())
     }
 
-    // The examples in the text of a macro, which begins at a place of the source's.
+    // The notes in the text of a macro, which begins at a place of the source's.
     fn push_inner(&mut self, text: &[u8], register: Reg, begin: usize) -> Result<(), AllocError> {
         let mut at = 0;
         for _ in 0..text.len() {
             let Some(found) = element_at(text, at) else {
                 break;
             };
-            if is_example(&found) {
+            if is_note(&found) {
                 self.push(&found, register, begin)?;
             }
             at = found.next;
@@ -76,7 +97,7 @@ impl FoundComments {
         Ok(())
     }
 
-    // The macro of a register comes, which the examples are about that wait.
+    // The macro of a register comes, which the notes are about that wait.
     fn name(&mut self, register: Reg) {
         let known = self.found.len().saturating_sub(self.waiting);
         for finding in self.found.iter_mut().skip(known) {
@@ -87,7 +108,7 @@ impl FoundComments {
 
     // An element of a library.
     fn pass(&mut self, found: &Element<'_>) -> Result<(), AllocError> {
-        if is_example(found) {
+        if is_note(found) {
             self.push(found, Reg::default(), 0)?;
             self.waiting = self.waiting.saturating_add(1);
         } else if let Some(register) = register_given(found) {
@@ -100,11 +121,12 @@ impl FoundComments {
     }
 }
 
-/// The examples of a library, by its text: those before the text of a register and in it are about
-/// that register's macro.
-pub fn examples_of(alloc: Global, library: &[u8]) -> Result<Vec<FoundComment>, AllocError> {
-    let mut findings = FoundComments {
+/// What the comments of a library say of its macros, by its text: those before the text of a register
+/// and in it are about that register's macro. Searches of policies treat case so: `exact`, or not.
+pub fn notes_of(alloc: Global, library: &[u8], exact: bool) -> Result<Vec<FoundNote>, AllocError> {
+    let mut notes = FoundNotes {
         alloc,
+        exact,
         found: Vec::new(alloc),
         waiting: 0,
     };
@@ -113,8 +135,8 @@ pub fn examples_of(alloc: Global, library: &[u8]) -> Result<Vec<FoundComment>, A
         let Some(found) = element_at(library, at) else {
             break;
         };
-        findings.pass(&found)?;
+        notes.pass(&found)?;
         at = found.next;
     }
-    Ok(findings.found)
+    Ok(notes.found)
 }

@@ -1,4 +1,4 @@
-//! How the texts of examples spell bytes that comments can't have.
+//! How the texts of notes spell bytes that comments can't have.
 use std::alloc::{AllocError, Global};
 
 // The byte that a letter behind a backslash spells.

@@ -1,0 +1,2 @@
+-- What proofs of this crate cite.
+mod Encoded

@@ -1,0 +1,2 @@
+-- Objects of JSON.
+pub mod Json
