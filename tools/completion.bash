@@ -14,7 +14,7 @@ _teco_options() {
       echo "--limit --memory --stop --set --set-file --exact --any-case --esc -e -h --help"
       ;;
     verify)
-      echo "-e -f --library -r --register --json --rules --esc -h --help"
+      echo "-e -f --library -r --register --changes --json --rules --esc -h --help"
       ;;
     check)
       echo "-e -f --library -r --register --json --rules --esc -h --help"

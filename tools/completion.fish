@@ -96,6 +96,7 @@ complete -c teco -n '__teco_of verify check apply edit trace test explain' -s f 
   -d 'A file of macros, or of one macro'
 complete -c teco -n '__teco_of verify check apply edit trace test explain' -s r -l register -x -a '(__teco_registers)' \
   -d 'The register of the macro, where -e or -f is given'
+complete -c teco -n '__teco_of verify' -l changes -d 'Print what each macro can change in a text, in words'
 complete -c teco -n '__teco_of verify' -l json -d 'Print each verdict as an object of JSON in a line'
 complete -c teco -n '__teco_of verify check apply edit trace test explain' -l rules -x -a '1 2' \
   -d 'The edition of the rules that macros are verified by: 1 or 2'

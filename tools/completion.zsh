@@ -40,6 +40,7 @@ _teco_options() {
         '*-e[A line of the macro A, in the readable form, with $ for ESC]:TEXT: '
         '(-f --library)'{-f,--library=}'[A file of macros, or of one macro]:LIB:_files'
         '(-r --register)'{-r,--register=}'[The register of the macro, where -e or -f is given]:REGISTER:_teco_registers'
+        '--changes[Print what each macro can change in a text, in words]'
         '--json[Print each verdict as an object of JSON in a line]'
         '--rules=[The edition of the rules that macros are verified by\: 1 or 2]:N:(1 2)'
         '--esc=[The character that stands for ESC]:C:(none)'

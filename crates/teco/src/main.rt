@@ -32,10 +32,10 @@ use teco_tools::{
     Escaping, OUTPUT, Prompting, Reporting, Run, Start, Streams, ToolFault, run_scripts,
 };
 use teco_verdicts::{
-    check_macro, check_macro_as_json, explain_macro, explain_macro_as_json, verify_library,
-    verify_library_as_json, verify_macro, verify_macro_as_json,
+    ChangesForm, check_macro, check_macro_as_json, explain_macro, explain_macro_as_json,
+    tell_changes, verify_library, verify_library_as_json, verify_macro, verify_macro_as_json,
 };
-use teco_words::{CommandLine, WordsFault};
+use teco_words::{CommandLine, VerdictForm, WordsFault};
 
 /// The command line names no command, or a file of macros, a certificate, standard input, standard
 /// output or memory failed.
@@ -133,21 +133,31 @@ fn verify<O: Write + Drop, E: Write + Drop>(
     console: &mut Console<O, E>,
     given: &ArgMatches<'_>,
 ) -> Result<Outcome, ProgramFault> {
-    let names_macro = teco_words::names_macro(given);
-    let request = request(given, !names_macro)?;
-    let is_json = given.get_flag("json");
-    if !names_macro {
-        return Ok(if is_json {
-            verify_library_as_json::<Inference, _, _, _>(rt, console, request)?
-        } else {
-            verify_library::<Inference, _, _, _>(rt, console, request)?
-        });
-    }
-    let entry = teco_words::entry(given)?;
-    Ok(if is_json {
-        verify_macro_as_json::<Inference, _, _, _>(rt, console, request, entry)?
+    let entry = if teco_words::names_macro(given) {
+        Some(teco_words::entry(given)?)
     } else {
-        verify_macro::<Inference, _, _, _>(rt, console, request, entry)?
+        None
+    };
+    let request = request(given, entry.is_none())?;
+    Ok(match (teco_words::verdict_form(given), entry) {
+        (VerdictForm::Changes, entry) => {
+            tell_changes::<Inference, _, _, _>(rt, console, request, entry, ChangesForm::Words)?
+        }
+        (VerdictForm::ChangesObject, entry) => {
+            tell_changes::<Inference, _, _, _>(rt, console, request, entry, ChangesForm::Object)?
+        }
+        (VerdictForm::Certificate, Some(entry)) => {
+            verify_macro::<Inference, _, _, _>(rt, console, request, entry)?
+        }
+        (VerdictForm::Certificate, None) => {
+            verify_library::<Inference, _, _, _>(rt, console, request)?
+        }
+        (VerdictForm::Object, Some(entry)) => {
+            verify_macro_as_json::<Inference, _, _, _>(rt, console, request, entry)?
+        }
+        (VerdictForm::Object, None) => {
+            verify_library_as_json::<Inference, _, _, _>(rt, console, request)?
+        }
     })
 }
 

@@ -3,3 +3,4 @@ pub mod Lines
 pub mod Refused
 pub mod Accepted
 pub mod Editions
+pub mod Failing

@@ -7,6 +7,7 @@ ghost use Rattle.teco_console.specs.declared.method.Edition.TheVariants.{First, 
 ghost use Rattle.teco_console.specs.declared.method.Method.TheVariants.{Best};
 
 use crate::claims::verified_by_claims;
+use crate::unaccepted::Unaccepted;
 use std::alloc::{AllocError, Global};
 use teco_base::Reg;
 use teco_claimed::Claimed;
@@ -104,7 +105,7 @@ fn by_claims<'l, S: ClaimSearch>(
     alloc: Global,
     library: &'l Library,
     entry: Reg,
-) -> Result<Accepted<'l>, Refusal>
+) -> Result<Accepted<'l>, Unaccepted>
     ensures is { IfOk result (IsOf library.now entry) }
     ensures edition { IfOk result (λ accepted. edition_of accepted ≡ Second) }
 {
@@ -118,16 +119,16 @@ fn by_either<'l, S: ClaimSearch>(
     alloc: Global,
     library: &'l Library,
     entry: Reg,
-) -> Result<Accepted<'l>, Refusal>
+) -> Result<Accepted<'l>, Unaccepted>
     ensures is { IfOk result (IsOf library.now entry) }
-    ensures refused { IfErr result (IsRefusedBy Best library.now entry) }
+    ensures refused { IfErr result (λ unaccepted. IsRefusedBy Best library.now entry unaccepted.refusal) }
 {
     match by_claims::<S>(alloc, library, entry) {
         Ok(accepted) => Ok(accepted),
-        Err(refusal) => match by_table(alloc, library, entry) {
+        Err(unaccepted) => match by_table(alloc, library, entry) {
             Ok(accepted) => Ok(accepted),
-            Err(Refusal::No { .. }) => Err(refusal),
-            Err(Refusal::Memory) => Err(Refusal::Memory),
+            Err(Refusal::No { .. }) => Err(unaccepted),
+            Err(Refusal::Memory) => Err(Unaccepted::from(Refusal::Memory)),
         },
     }
 }
@@ -138,13 +139,13 @@ pub fn verified_by<'l, S: ClaimSearch>(
     library: &'l Library,
     entry: Reg,
     method: Method,
-) -> Result<Accepted<'l>, Refusal>
+) -> Result<Accepted<'l>, Unaccepted>
     ensures is { IfOk result (IsOf library.now entry) }
     ensures among { IfOk result (λ accepted. IsAmong method (edition_of accepted)) }
-    ensures refused { IfErr result (IsRefusedBy method library.now entry) }
+    ensures refused { IfErr result (λ unaccepted. IsRefusedBy method library.now entry unaccepted.refusal) }
 {
     match method {
-        Method::Only(Edition::First) => by_table(alloc, library, entry),
+        Method::Only(Edition::First) => Ok(by_table(alloc, library, entry)?),
         Method::Only(Edition::Second) => by_claims::<S>(alloc, library, entry),
         Method::Best => by_either::<S>(alloc, library, entry),
     }

@@ -3,6 +3,7 @@ ghost use Rattle.std.specs.Prelude.{◌≡◌, IfOk};
 ghost use Rattle.teco_console.specs.declared.outcome.Outcome.TheVariants.{Refused};
 
 use crate::acceptance::Accepted;
+use crate::changing::changes_in_words;
 use std::alloc::{AllocError, Global};
 use std::fmt;
 use std::io::Write;
@@ -206,9 +207,12 @@ pub fn tell_promise<E: Write + Drop>(
     let alloc = voice.alloc();
     let name = char::from(promise.entry().name());
     let commands = promise.commands().print(alloc)?;
+    let changes = changes_in_words(alloc, promise)?;
     let growth = growth(alloc, promise)?;
     let premise = Premise::with_settings(promise, settings);
-    voice.say(format_args!("{name} ends within {commands} commands{growth}; that {premise}"));
+    voice.say(format_args!(
+        "{name} ends within {commands} commands, and {changes}{growth}; that {premise}"
+    ));
     Ok(())
 }
 

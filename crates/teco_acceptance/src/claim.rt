@@ -12,6 +12,7 @@ ghost use Rattle.teco_verify.specs.Refusing.{IsOfCertificate};
 
 use crate::acceptance::{Accepted, verified_by};
 use crate::claims::{accepted_by_claims, refusal_of_text};
+use crate::unaccepted::Unaccepted;
 use std::alloc::Global;
 use teco_base::Reg;
 use teco_base::bytes::LF;
@@ -144,7 +145,7 @@ fn accepted_by<'l>(
     entry: Reg,
     method: Method,
     claim: &ClaimedCertificate<'_>,
-) -> Result<Accepted<'l>, Refusal>
+) -> Result<Accepted<'l>, Unaccepted>
     ensures is { IfOk result (IsOf library.now entry) }
     ensures text { IfOk result (λ accepted. certificate_of accepted ≡ claim.now.bytes.items) }
 {
@@ -155,7 +156,7 @@ fn accepted_by<'l>(
         }
         Edition::Second => match accepted_by_claims(alloc, library, entry, &claim.bytes) {
             Ok(claimed) => Ok(Accepted::Claims(claimed)),
-            Err(refused) => Err(refusal_of_text(&refused)),
+            Err(refused) => Err(Unaccepted::from(refusal_of_text(&refused))),
         },
     }
 }
@@ -167,7 +168,7 @@ pub fn accepted<'l, S: ClaimSearch>(
     entry: Reg,
     method: Method,
     claim: Option<&ClaimedCertificate<'_>>,
-) -> Result<Accepted<'l>, Refusal>
+) -> Result<Accepted<'l>, Unaccepted>
     ensures is { IfOk result (IsOf library.now entry) }
     ensures text { IfSome claim.entry (λ claim. IfOk result
         (λ accepted. certificate_of accepted ≡ claim.now.bytes.items)) }

@@ -6,9 +6,11 @@ ghost use Rattle.teco_claimed.specs.Claimed.{TakesDeclared};
 ghost use Rattle.teco_claimed.specs.Text.{linear_text};
 ghost use Rattle.teco_verify.specs.Refusing.{IsOfCertificate};
 
+use crate::failing::claimed_by;
+use crate::unaccepted::Unaccepted;
 use std::alloc::Global;
 use teco_base::Reg;
-use teco_claimed::{Claimed, LinearRefusal, NodePlace, check_linear, verify_linear};
+use teco_claimed::{Claimed, LinearRefusal, NodePlace, check_linear};
 use teco_console::NAMES;
 use teco_expansion::ExpandFault;
 use teco_library::Library;
@@ -138,14 +140,17 @@ pub fn verified_by_claims<'l, S: ClaimSearch>(
     alloc: Global,
     library: &'l Library,
     entry: Reg,
-) -> Result<Claimed<'l>, Refusal>
+) -> Result<Claimed<'l>, Unaccepted>
     ensures library { IfOk result (λ claimed. claimed.library ≡ library.now) }
     ensures declared { IfOk result (λ claimed. TakesDeclared library.now claimed.certificate) }
     ensures entry { IfOk result (λ claimed. claimed.certificate.entry ≡ entry) }
 {
-    match verify_linear::<S>(library, entry, alloc) {
+    match claimed_by::<S>(alloc, library, entry) {
         Ok(claimed) => Ok(claimed),
-        Err(unverified) => Err(refusal_of(alloc, library, entry, &unverified.refusal)),
+        Err(unclaimed) => Err(Unaccepted {
+            refusal: refusal_of(alloc, library, entry, &unclaimed.unverified.refusal),
+            unclaimed: Some(unclaimed),
+        }),
     }
 }
 

@@ -90,19 +90,28 @@ fn check_settings(library: &Library, settings: &[Setting]) -> Result<(), AnswerF
     Ok(())
 }
 
+// Is a macro refused since it writes a text of the library?
+fn is_written(refusal: &Refusal) -> bool {
+    matches!(
+        refusal,
+        Refusal::No {
+            why: Why::Written,
+            ..
+        }
+    )
+}
+
 // Is a library better that has the texts which registers are given? Not where the macro writes one of
 // them, and not where it alone is refused.
 fn is_better<S: ClaimSearch>(alloc: Global, fixed: &Sourced, plain: &Sourced, entry: Reg) -> bool {
-    match verified_by::<S>(alloc, &fixed.library, entry, fixed.method) {
-        Ok(_) => true,
-        Err(
-            Refusal::No {
-                why: Why::Written,
-                ..
-            },
-        ) => false,
-        Err(_) => verified_by::<S>(alloc, &plain.library, entry, plain.method).is_err(),
+    let found = verified_by::<S>(alloc, &fixed.library, entry, fixed.method);
+    let Some(unaccepted) = found.err() else {
+        return true;
+    };
+    if is_written(&unaccepted.refusal) {
+        return false;
     }
+    verified_by::<S>(alloc, &plain.library, entry, plain.method).is_err()
 }
 
 // A library with the texts that registers are given, if they and it are one.

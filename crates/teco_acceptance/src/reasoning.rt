@@ -1,6 +1,8 @@
 //! What would show a condition of a macro of which no claims are found, and what is known.
 
 use crate::claims::{register_at, text_at};
+use crate::failing::Unclaimed;
+use crate::failure_words::words_of_witness;
 use crate::mending::{MacroChange, Mend, is_mended};
 use std::alloc::{AllocError, Global};
 use std::fmt;
@@ -269,41 +271,59 @@ fn mend_of<S: ClaimSearch>(
     None
 }
 
-// What is known, and what would do.
-fn lines_of<S: ClaimSearch>(
+// Says what is known, and what would do.
+fn push_unshown<S: ClaimSearch>(
     alloc: Global,
+    lines: &mut String,
     refused: &RefusedMacro<'_>,
     found: &Unshown,
-) -> Result<String, AllocError> {
-    let mut lines = String::new(alloc);
+) -> Result<(), AllocError> {
     let point = shown_at(alloc, refused.source, refused.library, found.at)?;
-    push_known(alloc, &mut lines, &found.reason, point.as_str())?;
-    push_ways(alloc, &mut lines, refused.library, &found.ways)?;
+    push_known(alloc, lines, &found.reason, point.as_str())?;
+    push_ways(alloc, lines, refused.library, &found.ways)?;
     match mend_of::<S>(alloc, refused, found.at) {
         Some(Mend::Colon) => push_line(
             alloc,
-            &mut lines,
+            lines,
             "with : before it the macro would be accepted",
-        )?,
+        ),
         Some(Mend::Test) => push_line(
             alloc,
-            &mut lines,
+            lines,
             format_args!("with .-Z; at {point} the macro would be accepted"),
-        )?,
-        None => {}
+        ),
+        None => Ok(()),
+    }
+}
+
+// Says on what small world the macro fails, if one was found, what is known, and what would do.
+fn lines_of<S: ClaimSearch>(
+    alloc: Global,
+    refused: &RefusedMacro<'_>,
+    unclaimed: &Unclaimed,
+) -> Result<String, AllocError> {
+    let mut lines = String::new(alloc);
+    if let Some(witness) = &unclaimed.witness {
+        let words = words_of_witness(alloc, refused.source, refused.library, witness)?;
+        push_line(alloc, &mut lines, words.as_str())?;
+        push_line(
+            alloc,
+            &mut lines,
+            "teco trace lists the steps of such a run",
+        )?;
+    }
+    if let Some(found) = &unclaimed.unverified.unshown {
+        push_unshown::<S>(alloc, &mut lines, refused, found)?;
     }
     Ok(lines)
 }
 
-/// What would show a condition that could not be shown of a macro that is refused, what is known, and
-/// what change would do, in lines, as far as that can be told.
+/// On what small world a macro fails that is refused; what would show a condition that could not be
+/// shown of it, what is known, and what change would do: in lines, as far as that can be told.
 pub fn reason_of<S: ClaimSearch>(
     alloc: Global,
     refused: &RefusedMacro<'_>,
-    found: &Option<Unshown>,
+    unclaimed: &Unclaimed,
 ) -> String {
-    match found {
-        Some(found) => lines_of::<S>(alloc, refused, found).unwrap_or(String::new(alloc)),
-        None => String::new(alloc),
-    }
+    lines_of::<S>(alloc, refused, unclaimed).unwrap_or(String::new(alloc))
 }

@@ -8,11 +8,11 @@ use crate::damage::{Damage, MENDING};
 use crate::known::words_of;
 use crate::library::explained;
 use crate::reasoning::{RefusedMacro, reason_of};
+use crate::unaccepted::Unaccepted;
 use crate::verdict::Verdict;
 use std::alloc::Global;
 use std::io::Write;
 use teco_base::Reg;
-use teco_claimed::verify_quickly;
 use teco_console::{AnswerFault, Console, Edition, Method, Outcome, Sourced, tell_dollars};
 use teco_paths::search::ClaimSearch;
 use teco_source::{Shown, Source};
@@ -75,23 +75,23 @@ pub fn refuse_known<O: Write + Drop, E: Write + Drop>(
     Ok(outcome)
 }
 
-// What more would do for a macro that is refused, by the quickest way of looking.
-fn reason_anew<S: ClaimSearch>(
+// What more would do for a macro that is refused, in lines, as far as it was found.
+fn reason_for<S: ClaimSearch>(
     alloc: Global,
     sourced: &Sourced,
     entry: Reg,
-    refusal: &Refusal,
+    unaccepted: &Unaccepted,
 ) -> String {
+    let Some(unclaimed) = &unaccepted.unclaimed else {
+        return String::new(alloc);
+    };
     let refused = RefusedMacro {
         source: &sourced.source,
         library: &sourced.library,
         entry,
-        refusal,
+        refusal: &unaccepted.refusal,
     };
-    match verify_quickly::<S>(&sourced.library, entry, alloc) {
-        Ok(_) => String::new(alloc),
-        Err(unverified) => reason_of::<S>(alloc, &refused, &unverified.unshown),
-    }
+    reason_of::<S>(alloc, &refused, unclaimed)
 }
 
 /// Says why a macro of a library is refused, and what is known there.
@@ -100,20 +100,25 @@ pub fn refuse_macro<S: ClaimSearch, O: Write + Drop, E: Write + Drop>(
     console: &mut Console<O, E>,
     sourced: &Sourced,
     entry: Reg,
-    refusal: Refusal,
+    unaccepted: Unaccepted,
 ) -> Result<Outcome, AnswerFault>
     ensures outcome { IfOk result (λ outcome. outcome ≡ Refused) }
-    ensures line { Refuses (O.contents console.old.out) (O.contents console.new.out) refusal
-        result }
+    ensures line { Refuses (O.contents console.old.out) (O.contents console.new.out)
+        unaccepted.refusal result }
 {
     match sourced.method.newest() {
         Edition::First => {
             let account = account_of(console.alloc, &sourced.library, entry)?;
-            refuse_known(console, &sourced.source, &account, refusal)
+            refuse_known(console, &sourced.source, &account, unaccepted.refusal)
         }
         Edition::Second => {
-            let reason = reason_anew::<S>(console.alloc, sourced, entry, &refusal);
-            let outcome = refuse(console, &sourced.source, refusal, Edition::Second)?;
+            let reason = reason_for::<S>(console.alloc, sourced, entry, &unaccepted);
+            let outcome = refuse(
+                console,
+                &sourced.source,
+                unaccepted.refusal,
+                Edition::Second,
+            )?;
             if !reason.is_empty() {
                 console.say(reason.as_str());
             }

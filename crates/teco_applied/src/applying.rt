@@ -100,7 +100,7 @@ fn apply_subject<'p, S: ClaimSearch, H: Host + Reporting + Drop, O: Write + Drop
             warn_empty(console, &subject.sourced, &accepted)?;
             edit_and_tell(console, task, files.names, &accepted, host)
         }
-        Err(refusal) => refuse_subject::<S, _, _>(console, subject, task.entry, refusal),
+        Err(unaccepted) => refuse_subject::<S, _, _>(console, subject, task.entry, unaccepted),
     }
 }
 

@@ -4,6 +4,7 @@ ghost use Rattle.teco_applied.specs.InPlace.{EditsIfAny, EditsSubject, EditsTask
 ghost use Rattle.teco_edits.specs.declared.outcome.EditOutcome.TheVariants.{Refused};
 
 use crate::asking::all_policies;
+use crate::keeping::tell_kept;
 use crate::subject::{
     Subject, heard, read_subject, refuse_empty, say_all, say_findings, say_refused,
     say_unless_quiet,
@@ -71,6 +72,7 @@ where
     }
     if task.tells_promise {
         tell_promise(&mut console.voice, &promise, task.start.settings)?;
+        tell_kept(&mut console.voice, &promise, given.policies)?;
     }
     let job = Job {
         alloc: console.alloc,
@@ -108,8 +110,8 @@ where
             };
             edit_by_accepted(rt, console, task, given, found)
         }
-        Err(refusal) => {
-            say_refused::<S, _, _>(console, subject, task.entry, refusal)?;
+        Err(unaccepted) => {
+            say_refused::<S, _, _>(console, subject, task.entry, unaccepted)?;
             Ok(EditOutcome::Refused)
         }
     }

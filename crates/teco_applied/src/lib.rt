@@ -4,6 +4,7 @@
 mod applying;
 mod asking;
 mod editing;
+mod keeping;
 mod subject;
 mod tracing;
 

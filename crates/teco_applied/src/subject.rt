@@ -9,9 +9,9 @@ use std::io::{Input, Write};
 use std::rt::Files;
 use std::{fmt, str};
 use teco_acceptance::{
-    Accepted, ClaimedCertificate, MENDING, Setup, accepted, accepted_by_claims, is_whole,
-    other_edition, read_claim, read_library_for, refuse_claim, refuse_macro, tell_no_text,
-    warn_no_text,
+    Accepted, ClaimedCertificate, MENDING, Setup, Unaccepted, accepted, accepted_by_claims,
+    is_whole, other_edition, read_claim, read_library_for, refuse_claim, refuse_macro,
+    tell_no_text, warn_no_text,
 };
 use teco_base::Reg;
 use teco_console::{AnswerFault, Console, Edition, Outcome, Sourced, Voice, lint};
@@ -20,7 +20,6 @@ use teco_options::LetterCase;
 use teco_paths::search::ClaimSearch;
 use teco_source::Shown;
 use teco_tools::ToolFault;
-use teco_verify::Refusal;
 
 /// A library, and the certificate of a macro of it, if one is named.
 #[derive(Drop)]
@@ -35,7 +34,7 @@ impl Subject<'_> {
         &self,
         alloc: Global,
         entry: Reg,
-    ) -> Result<Accepted<'_>, Refusal>
+    ) -> Result<Accepted<'_>, Unaccepted>
         ensures { IfOk result (IsAccepted self.now.sourced.library entry) }
     {
         let claim = self.claim.as_ref();
@@ -45,7 +44,7 @@ impl Subject<'_> {
                 accepted.is_proved();
                 Ok(accepted)
             }
-            Err(refusal) => Err(refusal),
+            Err(unaccepted) => Err(unaccepted),
         }
     }
 }
@@ -184,14 +183,14 @@ fn refuse_by_claim<S: ClaimSearch, O: Write + Drop, E: Write + Drop>(
     console: &mut Console<O, E>,
     subject: &Subject<'_>,
     entry: Reg,
-    refusal: Refusal,
+    unaccepted: Unaccepted,
 ) -> Result<Outcome, AnswerFault>
     ensures { Refuses (O.contents console.old.out) (O.contents console.new.out) result }
 {
     let sourced = &subject.sourced;
     match &subject.claim {
-        None => refuse_macro::<S, _, _>(console, sourced, entry, refusal),
-        Some(claim) => refuse_claim(console, sourced, entry, claim, refusal),
+        None => refuse_macro::<S, _, _>(console, sourced, entry, unaccepted),
+        Some(claim) => refuse_claim(console, sourced, entry, claim, unaccepted.refusal),
     }
 }
 
@@ -200,12 +199,12 @@ pub fn refuse_subject<S: ClaimSearch, O: Write + Drop, E: Write + Drop>(
     console: &mut Console<O, E>,
     subject: &Subject<'_>,
     entry: Reg,
-    refusal: Refusal,
+    unaccepted: Unaccepted,
 ) -> Result<Outcome, ToolFault>
     ensures { Refuses (O.contents console.old.out) (O.contents console.new.out) result }
 {
     console.voice.speak();
-    match refuse_by_claim::<S, _, _>(console, subject, entry, refusal) {
+    match refuse_by_claim::<S, _, _>(console, subject, entry, unaccepted) {
         Ok(outcome) => {
             tell_claim(&mut console.voice, subject, entry);
             Ok(outcome)
@@ -239,13 +238,13 @@ pub fn say_refused<S: ClaimSearch, O: Write + Drop, E: Write + Drop>(
     console: &mut Console<O, E>,
     subject: &Subject<'_>,
     entry: Reg,
-    refusal: Refusal,
+    unaccepted: Unaccepted,
 ) -> Result<Outcome, ToolFault>
     ensures printed { console.new.out ≡ console.old.out }
     ensures outcome { IfOk result (λ outcome. outcome ≡ Refused) }
 {
     let mut apart = heard(console.alloc);
-    let outcome = refuse_subject::<S, _, _>(&mut apart, subject, entry, refusal)?;
+    let outcome = refuse_subject::<S, _, _>(&mut apart, subject, entry, unaccepted)?;
     say_all(&mut console.voice, apart);
     Ok(outcome)
 }

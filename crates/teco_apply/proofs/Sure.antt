@@ -8,7 +8,7 @@ use Rattle.teco_apply.proofs.Prelude.{Holdings, Joined}
 use Rattle.std.proofs.Common.{ℤ, pos, negsuc, get_or}
 use Rattle.std.specs.List.{sum_by}
 use Rattle.std.proofs.lemmas.List.Sums.{sum_by-cons}
-use Rattle.teco_apply.specs.Sure.{GrowsWithin, IsTaken, IsThere, KeepsUnnamed, Runs, TypesWithin}
+use Rattle.teco_apply.specs.Sure.{ChangesByElements, GrowsWithin, IsTaken, IsThere, KeepsUnnamed, Runs, TypesWithin}
 use Rattle.teco_base.specs.Register.{register_name}
 use Rattle.teco_law_runs.specs.Given.{call_given}
 use Rattle.teco_model.specs.Macros.{IsAsked, Needs}
@@ -21,6 +21,7 @@ use Rattle.teco_hosts.specs.Held.{HoldsBytes, input_of}
 use Rattle.teco_hosts.proofs.Bytes.{files_whole}
 use Rattle.teco_law_runs.specs.Ready.{IsEntry, AreOpen, n_of}
 use Rattle.teco_model.specs.Paging.{unread_of}
+use Rattle.teco_law_changes.specs.Runs.{ChangesAsTold}
 use Rattle.teco_law_runs.specs.Framing.{LeavesFramed}
 use Rattle.teco_law_runs.specs.Keeping.{LeavesOpen, RunsLeaveOpen}
 use Rattle.teco_law_runs.specs.Sure.{ComesTo, RunsAreSure, RunsEndOnce}
@@ -106,6 +107,14 @@ unnamed_at promise sound n old end (stop.Ended m) new framed comes = record {
 }
 unnamed_at promise sound n old end answer new framed comes = tt
 
+-- and has changed the text by what is told of the macro's elements
+changed_at : (promise : Promise) (sound : EachRunEnds promise) (n : ℕ) (old end : World) (answer : Stop) (new : World)
+    → ChangesAsTold sound.nodes old end → ComesTo n end answer new → ChangesByElements promise answer old new
+changed_at promise sound n old end (stop.Ended m) new changed comes =
+    λ changes tells.
+    subst (ChangesAsTold sound.nodes old) (sym comes.1) changed changes (tells sound.nodes sound.expanded)
+changed_at promise sound n old end answer new changed comes = tt
+
 module _ (laws : Laws) (call : PromisedCall) (kept : Kept) (held : Held) (is : IsCalled call kept held)
     (files : HostFiles)
     (bytes : AreOfBytes files) (same : IsSameOutput held files)
@@ -188,6 +197,16 @@ module _ (laws : Laws) (call : PromisedCall) (kept : Kept) (held : Held) (is : I
       (laws.once (start (call_text call.promise.entry call.given) (world kept held files)) found.ends.steps MOST
       found.ends.new answer new found.ends.ends (omega (arith, found.ends.few, ready.counts)) stops)
 
+  pub is_changed : (answer : Stop) (new : World)
+      → Stops (start (call_text call.promise.entry call.given) (world kept held files)) MOST answer new
+      → ChangesByElements call.promise answer (world kept held files) new
+  is_changed answer new stops =
+      let found = ends_with call.given is.taken in
+      changed_at call.promise is.sound found.ends.steps (world kept held files) found.ends.new answer new
+      found.changed
+      (laws.once (start (call_text call.promise.entry call.given) (world kept held files)) found.ends.steps MOST
+      found.ends.new answer new found.ends.ends (omega (arith, found.ends.few, ready.counts)) stops)
+
 surely : Laws → (call : PromisedCall) (kept : Kept) (held : Held) → IsCalled call kept held → (files : HostFiles)
     → AreOfBytes files → (answer : Stop) (new : World) → IsSameOutput held files
     → Stops (start (call_text call.promise.entry call.given) (world kept held files)) MOST answer new
@@ -200,6 +219,7 @@ surely laws call kept held is files bytes answer new same stops = record {
   grows = λ ready. is_grown laws call kept held is files bytes same ready answer new stops;
   types = λ ready. is_typed laws call kept held is files bytes same ready answer new stops;
   unnamed = λ ready. is_unnamed laws call kept held is files bytes same ready answer new stops;
+  changed = λ ready. is_changed laws call kept held is files bytes same ready answer new stops;
 }
 
 pub calls : Laws → (call : PromisedCall) (answer : Stop) (a b : Holdings) (f g : Telling) → IsCalled call a.kept a.held

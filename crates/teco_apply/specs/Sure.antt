@@ -9,6 +9,10 @@ use Rattle.teco_model.specs.Run.{Stops, IsSure}
 use Rattle.teco_model.specs.State.{Kept, World, start}
 use Rattle.teco_model.specs.declared.stop.Stop.TheVariants as stop
 use Rattle.teco_model.specs.declared.stop.Stop.{Stop}
+use Rattle.teco_changes.specs.Changes.{Changes}
+use Rattle.teco_changes.specs.Worlds.{text_of}
+use Rattle.teco_changes.specs.declared.change.Change.{Change}
+use Rattle.teco_law_changes.specs.Runs.{TellsOf}
 use Rattle.teco_law_runs.specs.Framing.{LeavesFramed}
 use Rattle.teco_law_runs.specs.Keeping.{LeavesOpen}
 use Rattle.teco_law_runs.specs.Ready.{n_of}
@@ -75,9 +79,17 @@ abbrev pub KeepsUnnamed : Promise → Stop → World → World → Type 0
 KeepsUnnamed promise (stop.Ended n) old new = LeavesUnnamed promise old.kept new.kept
 KeepsUnnamed promise answer old new = ⊤
 
+-- the text is changed by whatever list has all that the elements of the macro can do
+abbrev pub ChangesByElements : Promise → Stop → World → World → Type 0
+ChangesByElements promise (stop.Ended n) old new =
+    (changes : List Change) → TellsOf promise.library promise.entry changes
+    → Changes changes (text_of old) (text_of new)
+ChangesByElements promise answer old new = ⊤
+
 -- The macro is called as the command machine does it, with an argument that it takes. Where it is ready, it is sure to
 -- end within the printed number of commands, and at its end the files are as open as they were, no more is unread, the
--- text has got no longer, and no more bytes are typed, than is told, and what no element of it names is as it was.
+-- text has got no longer, and no more bytes are typed, than is told, what no element of it names is as it was, and the
+-- text is changed by no more than its elements can do.
 pub record Calls (call : PromisedCall) (answer : Stop) (old new : World) : Type 0 where
   pub taken : TakesArgument call
   pub stops : Stops (start (call_text call.promise.entry call.given) old) MOST answer new
@@ -89,6 +101,7 @@ pub record Calls (call : PromisedCall) (answer : Stop) (old new : World) : Type 
       IsReady call.promise old
       → TypesWithin (most_with call.promise.types (n_of old) (length old.kept.typed)) answer new
   pub unnamed : IsReady call.promise old → KeepsUnnamed call.promise answer old new
+  pub changed : IsReady call.promise old → ChangesByElements call.promise answer old new
 
 -- the macro is called where the library is loaded first
 abbrev pub Runs : PromisedCall → Stop → World → World → Type 0

@@ -75,6 +75,6 @@ pub fn run_edit(rt: &HostRuntime, case: &NamedCase<'_>) -> Result<Findings, Case
     let library = library_of(rt.alloc(), case)?;
     match verified_by::<Inference>(rt.alloc(), &library, entry, method) {
         Ok(accepted) => edit_promised(rt, case, &accepted.promise()),
-        Err(refusal) => refused(rt.alloc(), &refusal),
+        Err(unaccepted) => refused(rt.alloc(), &unaccepted.refusal),
     }
 }

@@ -8,14 +8,13 @@ use crate::subject::{METHODS, MacroSubject, library_of};
 use crate::verdicts::accepted_by;
 use std::alloc::Global;
 use std::str;
-use teco_acceptance::{Accepted, Verdict, verified_by};
+use teco_acceptance::{Accepted, Unaccepted, Verdict, verified_by};
 use teco_apply::PageChoice;
 use teco_base::Reg;
 use teco_infer::Inference;
 use teco_library::Library;
 use teco_poly::Poly;
 use teco_promise::Promise;
-use teco_verify::Refusal;
 
 const KEYS: CaseKeys = CaseKeys {
     plain: &[
@@ -51,12 +50,15 @@ const BOUND_AT: u64 = 2_000;
 const LINES: &[&str] = &["commands", "size", "grows", "types", "needs"];
 
 // What a case says of a verdict: that the macro is accepted, or why and where it is refused.
-fn words_of(alloc: Global, accepted: Result<Accepted<'_>, Refusal>) -> Result<String, CaseFault> {
-    let refusal = match accepted {
+fn words_of(
+    alloc: Global,
+    accepted: Result<Accepted<'_>, Unaccepted>,
+) -> Result<String, CaseFault> {
+    let unaccepted = match accepted {
         Ok(_) => return Ok(String::from_str(alloc, "accepted")?),
-        Err(refusal) => refusal,
+        Err(unaccepted) => unaccepted,
     };
-    let Some(verdict) = Verdict::of(&refusal) else {
+    let Some(verdict) = Verdict::of(&unaccepted.refusal) else {
         return Err(CaseFault::Memory);
     };
     let line = format!(in alloc; "{verdict}")?;
@@ -73,7 +75,7 @@ fn as_said<'a>(words: &'a str, wanted: &[u8]) -> &'a str {
 }
 
 // How many commands an accepted macro takes at most, at the N where bounds are compared.
-fn most_of(accepted: &Result<Accepted<'_>, Refusal>) -> Option<u64> {
+fn most_of(accepted: &Result<Accepted<'_>, Unaccepted>) -> Option<u64> {
     match accepted {
         Ok(accepted) => accepted.promise().commands().at(BOUND_AT),
         Err(_) => None,
@@ -232,7 +234,7 @@ fn run_promise(
 ) -> Result<Findings, CaseFault> {
     match verified_by::<Inference>(rt.alloc(), library, subject.entry, subject.method) {
         Ok(accepted) => run_accepted(rt, case, library, subject, &accepted),
-        Err(refusal) => refused(rt.alloc(), &refusal),
+        Err(unaccepted) => refused(rt.alloc(), &unaccepted.refusal),
     }
 }
 

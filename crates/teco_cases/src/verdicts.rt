@@ -5,12 +5,11 @@ use crate::findings::Findings;
 use crate::subject::{MacroSubject, library_of};
 use std::alloc::Global;
 use std::fs;
-use teco_acceptance::{Accepted, accepted, read_claim};
+use teco_acceptance::{Accepted, Unaccepted, accepted, read_claim};
 use teco_console::{AnswerFault, Console, Escape, Method, Origin, Outcome, Request};
 use teco_infer::Inference;
 use teco_library::Library;
 use teco_verdicts::{check_macro, verify_macro};
-use teco_verify::Refusal;
 
 const VERDICT_KEYS: &[&str] = &["library", "entry", "rules", "output", "status"];
 
@@ -105,7 +104,7 @@ pub fn accepted_by<'l>(
     library: &'l Library,
     subject: MacroSubject,
     certificate: &[u8],
-) -> Result<Result<Accepted<'l>, Refusal>, CaseFault> {
+) -> Result<Result<Accepted<'l>, Unaccepted>, CaseFault> {
     let MacroSubject { entry, method } = subject;
     fs::write(rt, CERTIFICATE_FILE, certificate)?;
     let claim = read_claim(rt, rt.alloc(), Some(CERTIFICATE_FILE));

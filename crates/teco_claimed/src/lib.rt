@@ -17,4 +17,4 @@ pub use check::check_linear;
 pub use claimed::Claimed;
 pub use refusal::{LinearRefusal, NodePlace};
 pub use unverified::{Unshown, Unverified};
-pub use verify::{verify_linear, verify_quickly};
+pub use verify::{verify_further, verify_linear, verify_quickly};

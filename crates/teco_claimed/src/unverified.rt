@@ -4,6 +4,8 @@ ghost use Rattle.std.specs.Prelude.{◌≡◌};
 use crate::refusal::{LinearRefusal, NodePlace, place_at};
 use std::alloc::Global;
 use teco_expansion::Nodes;
+use teco_model::Needs;
+use teco_paths::claimed::Called;
 use teco_paths::search::{SearchFailure, Shortfall};
 
 /// What more would show a condition of a macro.
@@ -22,6 +24,8 @@ pub struct Unverified {
     pub refusal: LinearRefusal,
     /// What more would do, where the quickest way of looking can tell that.
     pub unshown: Option<Unshown>,
+    /// The files that were open in the call of which none are found.
+    pub needs: Needs,
 }
 
 impl From<LinearRefusal> for Unverified {
@@ -31,21 +35,26 @@ impl From<LinearRefusal> for Unverified {
         Unverified {
             refusal,
             unshown: None,
+            needs: Needs {
+                input: false,
+                output: false,
+            },
         }
     }
 }
 
 impl Unverified {
-    /// Where no claims of a macro with these nodes are found.
+    /// Where no claims of a macro are found that is called so.
     pub(crate) fn of_search(
-        nodes: &Nodes<'_>,
+        called: &Called<'_>,
         failure: SearchFailure,
         alloc: Global,
     ) -> Unverified {
         let SearchFailure { refusal, shortfall } = failure;
         Unverified {
-            refusal: LinearRefusal::of_search(nodes, refusal),
-            unshown: unshown_by(nodes, shortfall, alloc),
+            refusal: LinearRefusal::of_search(called.nodes, refusal),
+            unshown: unshown_by(called.nodes, shortfall, alloc),
+            needs: called.needs,
         }
     }
 }

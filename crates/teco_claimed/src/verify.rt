@@ -118,7 +118,7 @@ fn verify_by_way<'l, S: ClaimSearch>(
 {
     let claims = match S::find(called, way, alloc) {
         Ok(claims) => claims,
-        Err(failure) => return Err(Unverified::of_search(called.nodes, failure, alloc)),
+        Err(failure) => return Err(Unverified::of_search(called, failure, alloc)),
     };
     let checksum = Some(checksum_of(library, called.nodes));
     let certificate = LinearCertificate {
@@ -166,45 +166,54 @@ fn next_behind<S: ClaimSearch>(
     S::next_way(unfound(first).unwrap_or(why), why, way)
 }
 
-// How much is looked for.
+// The macro of a library that claims are looked for, its nodes, and the files that are open.
 #[derive(Clone, Copy)]
-struct Effort {
-    // The files that are open.
-    needs: Needs,
-    // The most ways of looking.
-    ways: usize,
-}
-
-// The macro by claims that are looked for with an effort. A refusal is that of the first way of looking
-// for them.
-fn verify_by_ways<'l, S: ClaimSearch>(
+struct Sought<'n, 'l> {
     library: &'l Library,
     entry: Reg,
-    nodes: &Nodes<'_>,
-    effort: Effort,
+    nodes: &'n Nodes<'l>,
+    needs: Needs,
+}
+
+// The macro by claims that are looked for in a number of ways: from the first on, or behind the first, which
+// found none. A refusal is that of the first way.
+fn verify_by_ways<'l, S: ClaimSearch>(
+    sought: Sought<'_, 'l>,
+    first: Option<Unverified>,
+    ways: usize,
     alloc: Global,
 ) -> Result<Claimed<'l>, Unverified>
-    ensures library { IfOk result (λ found. found.library ≡ library.now) }
-    ensures declared { IfOk result (λ found. TakesDeclared library.now found.certificate) }
-    ensures entry { IfOk result (λ found. found.certificate.entry ≡ entry) }
+    ensures library { IfOk result (λ found. found.library ≡ sought.entry.library.now) }
+    ensures declared { IfOk result (λ found. TakesDeclared sought.entry.library.now found.certificate) }
+    ensures entry { IfOk result (λ found. found.certificate.entry ≡ sought.entry.entry) }
     ensures checksum { IfOk result (λ found. IsSome found.certificate.checksum) }
 {
+    let Sought {
+        library,
+        entry,
+        nodes,
+        needs,
+    } = sought;
     let lengths = lengths_of(alloc, library).map_err(LinearRefusal::from)?;
     let called = Called {
         nodes,
         lengths: &lengths,
         argument: library.argument(entry),
-        needs: effort.needs,
+        needs,
     };
-    let mut first: Option<Unverified> = None;
-    let mut next = Some(0);
-    for _ in 0..effort.ways {
+    let mut next = match &first {
+        None => Some(0),
+        Some(first) => next_behind::<S>(first.refusal, first.refusal, 0),
+    };
+    let mut first = first;
+    for _ in 0..ways {
         let Some(at) = next else {
             break;
         };
         match verify_by_way::<S>(library, entry, &called, at, alloc) {
             Ok(claimed) => return Ok(claimed),
-            Err(unverified) => {
+            Err(mut unverified) => {
+                unverified.needs = needs;
                 let refusal = unverified.refusal;
                 let of_first = first.as_ref().map_or(refusal, |first| first.refusal);
                 next = next_behind::<S>(of_first, refusal, at);
@@ -235,12 +244,17 @@ fn nodes_of<'l>(
     Ok(expand(alloc, library, entry)?)
 }
 
-// A macro of a library, by claims that are looked for in a number of ways. `A` alone wants an input, and
-// `nA` none: so where no input is known to be wanted, claims are looked for without one first.
-fn verify_in<'l, S: ClaimSearch>(
+/// A macro of a library, by claims that are looked for in the quickest way alone.
+///
+/// `A` alone wants an input, and `nA` none: where no input is known to be wanted, claims are looked for
+/// without one first.
+///
+/// # Errors
+///
+/// As of [`verify_linear`]; [`verify_further`] may find some.
+pub fn verify_quickly<'l, S: ClaimSearch>(
     library: &'l Library,
     entry: Reg,
-    ways: usize,
     alloc: Global,
 ) -> Result<Claimed<'l>, Unverified>
     ensures library { IfOk result (λ found. found.library ≡ library.now) }
@@ -250,16 +264,54 @@ fn verify_in<'l, S: ClaimSearch>(
 {
     let nodes = nodes_of(library, entry, alloc)?;
     let needs = needs_of(&nodes);
-    match verify_by_ways::<S>(library, entry, &nodes, Effort { needs, ways }, alloc) {
+    let sought = Sought {
+        library,
+        entry,
+        nodes: &nodes,
+        needs,
+    };
+    match verify_by_ways::<S>(sought, None, 1, alloc) {
         Err(unverified) if wants_file(unverified.refusal) && !needs.input => {
             let needs = Needs {
                 input: true,
                 output: needs.output,
             };
-            verify_by_ways::<S>(library, entry, &nodes, Effort { needs, ways }, alloc)
+            let sought = Sought {
+                library,
+                entry,
+                nodes: &nodes,
+                needs,
+            };
+            verify_by_ways::<S>(sought, None, 1, alloc)
         }
         answer => answer,
     }
+}
+
+/// A macro of a library, by claims that are looked for in the ways behind the quickest, which found none.
+///
+/// # Errors
+///
+/// That of the quickest way, if no other finds some.
+pub fn verify_further<'l, S: ClaimSearch>(
+    library: &'l Library,
+    entry: Reg,
+    quickest: Unverified,
+    alloc: Global,
+) -> Result<Claimed<'l>, Unverified>
+    ensures library { IfOk result (λ found. found.library ≡ library.now) }
+    ensures declared { IfOk result (λ found. TakesDeclared library.now found.certificate) }
+    ensures entry { IfOk result (λ found. found.certificate.entry ≡ entry) }
+    ensures checksum { IfOk result (λ found. IsSome found.certificate.checksum) }
+{
+    let nodes = nodes_of(library, entry, alloc)?;
+    let sought = Sought {
+        library,
+        entry,
+        nodes: &nodes,
+        needs: quickest.needs,
+    };
+    verify_by_ways::<S>(sought, Some(quickest), S::WAYS, alloc)
 }
 
 /// A macro of a library, by claims that are looked for and checked.
@@ -277,23 +329,8 @@ pub fn verify_linear<'l, S: ClaimSearch>(
     ensures entry { IfOk result (λ found. found.certificate.entry ≡ entry) }
     ensures checksum { IfOk result (λ found. IsSome found.certificate.checksum) }
 {
-    verify_in::<S>(library, entry, S::WAYS, alloc)
-}
-
-/// A macro of a library, by claims that are looked for in the quickest way alone.
-///
-/// # Errors
-///
-/// As of [`verify_linear`]; another way may find some.
-pub fn verify_quickly<'l, S: ClaimSearch>(
-    library: &'l Library,
-    entry: Reg,
-    alloc: Global,
-) -> Result<Claimed<'l>, Unverified>
-    ensures library { IfOk result (λ found. found.library ≡ library.now) }
-    ensures declared { IfOk result (λ found. TakesDeclared library.now found.certificate) }
-    ensures entry { IfOk result (λ found. found.certificate.entry ≡ entry) }
-    ensures checksum { IfOk result (λ found. IsSome found.certificate.checksum) }
-{
-    verify_in::<S>(library, entry, 1, alloc)
+    match verify_quickly::<S>(library, entry, alloc) {
+        Ok(claimed) => Ok(claimed),
+        Err(quickest) => verify_further::<S>(library, entry, quickest, alloc),
+    }
 }

@@ -474,7 +474,7 @@ fn fuzz_library<S: ClaimSearch, O: Write + Drop, E: Write + Drop>(
     let verdict = verified_by::<S>(alloc, &sourced.library, entry, sourced.method);
     match verdict.err() {
         None => fuzz_accepted::<S, _, _>(console, sourced, entry, case),
-        Some(refusal) => Ok(refuse_macro::<S, _, _>(console, sourced, entry, refusal)?),
+        Some(unaccepted) => Ok(refuse_macro::<S, _, _>(console, sourced, entry, unaccepted)?),
     }
 }
 

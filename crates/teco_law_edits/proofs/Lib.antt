@@ -4,3 +4,5 @@ mod Running
 mod Pages
 mod Strict
 mod Bounds
+mod Texting
+mod Changed

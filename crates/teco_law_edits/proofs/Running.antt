@@ -1,5 +1,6 @@
 -- What runs of command strings and of the macro come to in an edit.
-use Rattle.std.proofs.Common.{◌≡◌, ◌≤◌, inl, inr, ℕ, List, length, Bool, true, false, Option, Some, None, IsSome, Ok}
+use Rattle.std.proofs.Common.{◌≡◌, ◌≤◌, inl, inr, ℕ, List, length, Bool, true, false, Option, Some, None, IsSome}
+use Rattle.std.proofs.Common.{option_map, Ok}
 use Rattle.std.proofs.Common.{refl, sym, ap, ◌∙◌, subst, arith}
 use Rattle.teco_apply.specs.Apply.{AnswersText, IsNotRun, Lacks, TextStops, stop_of}
 use Rattle.teco_apply.specs.ByPages.{AdmittedStops, AnswersAdmitted, Order, steps_of}
@@ -83,7 +84,7 @@ sure_stopped most stop.Memory sure some = tt
 sure_stopped most (stop.HostFault fault) sure some = tt
 
 -- one that comes to none ends
-sure_ends : (most : ℕ) (answer : Stop) → IsSure most answer → false ≡ is_code (code_of answer)
+pub sure_ends : (most : ℕ) (answer : Stop) → IsSure most answer → false ≡ is_code (code_of answer)
     → (n : ℕ) × (answer ≡ stop.Ended n) × (n ≤ most)
 sure_ends most (stop.Ended n) sure none = (n, refl, sure)
 sure_ends most (stop.Exit n) sure none = absurd sure
@@ -107,8 +108,15 @@ not_run_beyond most call old new answer open_files n = by n.why n.stopped n.lack
     by not_ready.Argument is lacks = absurd lacks
     by not_ready.Memory is lacks = subst IsBeyond (sym is) tt
 
+-- what has the name of something is something
+still_some : {X Y : Type 0} (f : X → Y) (new old : Option X) → option_map f new ≡ option_map f old → IsSome old
+    → IsSome new
+still_some f None None same is = is
+still_some f None (Some x) same is = absurd (cc)
+still_some f (Some y) old same is = refl
+
 -- what stops a macro that is not run is a code
-not_run_code : (why : NotReady) → is_code (code_of (stop_of why)) ≡ true
+pub not_run_code : (why : NotReady) → is_code (code_of (stop_of why)) ≡ true
 not_run_code not_ready.NoInput = refl
 not_run_code not_ready.NoOutput = refl
 not_run_code not_ready.Argument = refl
@@ -134,8 +142,8 @@ module _ (order : Order) (strict : IsStrict order) (most : ℕ) (old new : World
     -- the files of a run that came to its end
     kept_open : (after : World) → AreAsOpen old.files after.files → IsOpen most after.files
     kept_open after left = record {
-      input = left.input ∙ open_files.input;
-      output = left.output ∙ open_files.output;
+      input = still_some _ after.files.input old.files.input left.input open_files.input;
+      output = still_some _ after.files.output old.files.output left.output open_files.output;
       few = omega (arith, left.unread, open_files.few);
     }
 

@@ -82,7 +82,7 @@ module _ (once : RunsEndOnce) (text : List ℕ) (old end : World)
     written = untold.writes;
   }
 
-  turning_ends : Turning text old new f g sink sunk (Ok false) → (unread old.files ≢ []) × (new ≡ without_typed end)
+  pub turning_ends : Turning text old new f g sink sunk (Ok false) → (unread old.files ≢ []) × (new ≡ without_typed end)
   turning_ends (inl more) = (more.some, text_ends once text old end (has more.some) new f g sink sunk more.answers)
   turning_ends (inr untold) =
       let coded = beyond_is_code untold.stop (untold_beyond old untold.after untold.stop fits untold.ran) in
@@ -130,7 +130,7 @@ module _ (once : RunsEndOnce) (texts : TextsEnd) (order : Order) (strict : IsStr
   once_well most old open_files = macro_well most nothing_done Closing old open_files (closes_well most)
 
   -- ---- page after page
-  turns : (old : World) → IsSome old.files.output → length (unread old.files) ≤ LIMIT
+  pub turns : (old : World) → IsSome old.files.output → length (unread old.files) ≤ LIMIT
       → HasEnd turning old (next_page old)
   turns old output few =
       let o = output_there old.files.output output in
@@ -152,9 +152,9 @@ module _ (once : RunsEndOnce) (texts : TextsEnd) (order : Order) (strict : IsStr
       (subst (λ line. Turning turning old new f g sink sunk line) is turned))
 
   -- so many pages are turned, and so much is unread
-  record IsAt (most pages : ℕ) (world : World) : Type 0 where
-    open_files : IsOpen most world.files
-    few : pages + length (unread world.files) ≤ most
+  pub record IsAt (most pages : ℕ) (world : World) : Type 0 where
+    pub open_files : IsOpen most world.files
+    pub few : pages + length (unread world.files) ≤ most
 
   turned_at : (most : ℕ) (old : World) → most ≤ LIMIT → IsOpen most old.files
       → (f : ℕ) (sink : Option (List ℕ)) (done : Tally)
@@ -199,11 +199,11 @@ module _ (once : RunsEndOnce) (texts : TextsEnd) (order : Order) (strict : IsStr
 
   -- ---- all pages as one
   -- so many pages are behind the first, and what is unread fits behind them, with a form feed between
-  record Gathered (most pages : ℕ) (world : World) : Type 0 where
-    at : IsAt most pages world
-    room : unread world.files ≢ [] → length world.kept.text + 1 + length (unread world.files) ≤ most
+  pub record Gathered (most pages : ℕ) (world : World) : Type 0 where
+    pub at : IsAt most pages world
+    pub room : unread world.files ≢ [] → length world.kept.text + 1 + length (unread world.files) ≤ most
 
-  gathers : (most pages : ℕ) (old : World) → most ≤ LIMIT → Gathered most pages old → unread old.files ≢ []
+  pub gathers : (most pages : ℕ) (old : World) → most ≤ LIMIT → Gathered most pages old → unread old.files ≢ []
       → HasEnd gathering old (gathered old)
   gathers most pages old small g some =
       let u = some_unread old.files.input some in
@@ -243,14 +243,15 @@ module _ (once : RunsEndOnce) (texts : TextsEnd) (order : Order) (strict : IsStr
             );
       }
 
-  untyped : (most pages : ℕ) (world : World) → Gathered most pages world → Gathered most pages (without_typed world)
+  pub untyped : (most pages : ℕ) (world : World) → Gathered most pages world → Gathered most pages (without_typed world)
   untyped most pages world g = record {
     at = record { open_files = g.at.open_files; few = g.at.few };
     room = g.room;
   }
 
-  gathered_at : (most : ℕ) (old : World) → most ≤ LIMIT → Gathered most 0 old → (f : ℕ) (sink : Option (List ℕ)) (n : ℕ)
-      (mid : World) (k : ℕ) (written : Option (List ℕ)) → PagesGathered old f sink n mid k written → Gathered most n mid
+  pub gathered_at : (most : ℕ) (old : World) → most ≤ LIMIT → Gathered most 0 old → (f : ℕ)
+      (sink : Option (List ℕ)) (n : ℕ) (mid : World) (k : ℕ) (written : Option (List ℕ))
+      → PagesGathered old f sink n mid k written → Gathered most n mid
   gathered_at most old small first f sink n mid k written PagesGathered.none = first
   gathered_at most old small first f sink n mid k written (PagesGathered.one_more before was _ m _ w _ turned turn) =
       let at = gathered_at most old small first f sink before was m w turned in
@@ -323,7 +324,7 @@ module _ (once : RunsEndOnce) (texts : TextsEnd) (order : Order) (strict : IsStr
       by false is = is
 
   -- where both are open, and the first page is in the buffer
-  opened_first : (source target bytes : List ℕ) (old : World)
+  pub opened_first : (source target bytes : List ℕ) (old : World)
       → Gathered (length bytes) 0 (opened source target bytes old)
   unfolding opened
   opened_first source target bytes old = record {
@@ -334,21 +335,13 @@ module _ (once : RunsEndOnce) (texts : TextsEnd) (order : Order) (strict : IsStr
     room = λ some. let parts = page_parts bytes some in omega (arith, parts);
   }
 
-  edit_well : (pages : PageChoice) (source target : List ℕ) (old : World) → CanBegin source target old
-      → GoesWell (EditsText pages order (opening source target)) old
-  unfolding GoesWell
-  edit_well pages [] target old can = absurd (can.names.given.0 refl)
-  edit_well pages (c ∷ front) [] old can = absurd (can.names.given.1 refl)
-  edit_well pages (c ∷ front) (d ∷ back) old can = goes
-    where
-      plain : (has_esc (c ∷ front) ≡ false) × (has_esc (d ∷ back) ≡ false)
-      plain = no_escape (has_esc (c ∷ front)) (has_esc (d ∷ back)) can.names.plain
-
-      begun : World
-      begun = opened (c ∷ front) (d ∷ back) can.bytes old
-
-      has : HasEnd (opening (c ∷ front) (d ∷ back)) old begun
-      has = record {
+  pub opening_has : (source target : List ℕ) (old : World) (can : CanBegin source target old)
+      → HasEnd (opening source target) old (opened source target can.bytes old)
+  opening_has [] target old can = absurd (can.names.given.0 refl)
+  opening_has (c ∷ front) [] old can = absurd (can.names.given.1 refl)
+  opening_has (c ∷ front) (d ∷ back) old can =
+      let plain = no_escape (has_esc (c ∷ front)) (has_esc (d ∷ back)) can.names.plain in
+      record {
         steps = 3;
         few = omega arith;
         ends = opening_ends c d front back can.bytes old plain.0 plain.1
@@ -356,17 +349,22 @@ module _ (once : RunsEndOnce) (texts : TextsEnd) (order : Order) (strict : IsStr
             can.there (omega (arith, can.fits, page_is_less can.bytes)) can.empty can.free;
       }
 
-      goes : GoesWell (EditsText pages order (opening (c ∷ front) (d ∷ back))) old
-      goes new f g sink sunk result (Behind.stops line not first told) =
-          ended_well nothing_done line result sunk told
-          (λ is. text_stops once (opening (c ∷ front) (d ∷ back)) old begun has new f g sink sunk
-          (subst (λ line. AnswersText (opening (c ∷ front) (d ∷ back)) old new f g sink sunk line) is first))
-      goes new f g sink sunk result (Behind.goes_on mid count written first rest) =
-          let is = text_ends once (opening (c ∷ front) (d ∷ back)) old begun has mid f count sink written first in
-          pages_well pages (length can.bytes) mid can.fits
-          (subst (Gathered (length can.bytes) 0) (sym is)
-          (untyped (length can.bytes) 0 begun (opened_first (c ∷ front) (d ∷ back) can.bytes old)))
-          new count g written sunk result rest
+  edit_well : (pages : PageChoice) (source target : List ℕ) (old : World) → CanBegin source target old
+      → GoesWell (EditsText pages order (opening source target)) old
+  unfolding GoesWell
+  edit_well pages source target old can new f g sink sunk result (Behind.stops line not first told) =
+      ended_well nothing_done line result sunk told
+      (λ is. text_stops once (opening source target) old (opened source target can.bytes old)
+      (opening_has source target old can) new f g sink sunk
+      (subst (λ line. AnswersText (opening source target) old new f g sink sunk line) is first))
+  edit_well pages source target old can new f g sink sunk result (Behind.goes_on mid count written first rest) =
+      let is = text_ends once (opening source target) old (opened source target can.bytes old)
+      (opening_has source target old can) mid f count sink written first in
+      pages_well pages (length can.bytes) mid can.fits
+      (subst (Gathered (length can.bytes) 0) (sym is)
+      (untyped (length can.bytes) 0 (opened source target can.bytes old)
+      (opened_first source target can.bytes old)))
+      new count g written sunk result rest
 
 pub strict_cannot_fail : RunsEndOnce → TextsEnd → (order : Order) → IsStrict order → CannotFail order
 unfolding GoesWell Well

@@ -1,3 +1,4 @@
 pub mod Texts
 pub mod Strict
 pub mod Bounds
+pub mod Changed

@@ -1,5 +1,6 @@
 //! Laws of edits.
 ghost use Rattle.teco_law_edits.specs.Bounds.{StrictEditsAreBounded};
+ghost use Rattle.teco_law_edits.specs.Changed.{StrictEditsMakeChanged};
 ghost use Rattle.teco_law_edits.specs.Strict.{StrictEditsCannotFail};
 ghost use Rattle.teco_law_edits.specs.Texts.{TextsEnd};
 
@@ -26,4 +27,14 @@ pub fn strict_edits_are_bounded()
     ensures { StrictEditsAreBounded }
 {
     values_grow();
+}
+
+/// Where it comes to no code and is not refused, the new text is got from the old one by no more than the
+/// macro's elements can do.
+pub fn strict_edits_make_changed()
+    ensures { StrictEditsMakeChanged }
+{
+    values_grow();
+    runs_end_once();
+    texts_end();
 }

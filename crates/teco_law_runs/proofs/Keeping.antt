@@ -34,6 +34,7 @@ onward a b c first next = record {
   input = next.input ∙ first.input;
   output = next.output ∙ first.output;
   unread = omega (arith, first.unread, next.unread);
+  named = next.named ∙ first.named;
 }
 
 module _ (first : State) (steps : ℕ) (none : NoFileCommands first steps) where

@@ -2,7 +2,6 @@
 use Rattle.teco_law_runs.proofs.Prelude.{◌≡◌, ℕ, ◌≤◌, suc, List, [], ◌∷◌, length, Bool, true, false, ◌==◌}
 use Rattle.teco_law_runs.proofs.Prelude.{if◌then◌else◌, arith, Option, Some, None, Ok, refl, sym, ap, ◌∙◌, subst, Kind}
 use Rattle.teco_law_runs.proofs.Prelude.{Element, World, changes_files, AreAsOpen, option_map, kept_by_step, Upkeep}
-use Rattle.std.proofs.Common.{is_some}
 use Rattle.teco_model.specs.Files.{Files, Input, Output, with_written}
 use Rattle.teco_model.specs.Macros.{Needs}
 use Rattle.teco_law_runs.specs.Ready.{AreOpen}
@@ -14,25 +13,28 @@ use Rattle.teco_model.specs.Paging.{files_behind_page, world_after_writing, unre
 use Rattle.teco_model.specs.laws.Upkeep.{Survives}
 
 pub same : (files : Files) → AreAsOpen files files
-same files = record { input = refl; output = refl; unread = omega arith }
+same files = record { input = refl; output = refl; unread = omega arith; named = refl }
 
-some_written : (bytes : List ℕ) (output : Option Output) → is_some (with_written bytes output) ≡ is_some output
-some_written bytes None = refl
-some_written bytes (Some output) = refl
+name_written : (bytes : List ℕ) (output : Option Output)
+    → option_map (λ (o : Output). o.name) (with_written bytes output) ≡ option_map (λ (o : Output). o.name) output
+name_written bytes None = refl
+name_written bytes (Some output) = refl
 
 written : (old : Files) (bytes : List ℕ) (world : World) → AreAsOpen old world.files
     → AreAsOpen old (world_after_writing bytes world).files
 written old bytes world h = record {
   input = h.input;
-  output = some_written bytes world.files.output ∙ h.output;
+  output = name_written bytes world.files.output ∙ h.output;
   unread = h.unread;
+  named = h.named;
 }
 
-some_behind : (input : Option Input)
-    → is_some (option_map (λ (input : Input). record input { unread = behind_first_page input.unread }) input) ≡ is_some
-    input
-some_behind None = refl
-some_behind (Some input) = refl
+name_behind : (input : Option Input)
+    → option_map (λ (i : Input). i.name)
+    (option_map (λ (input : Input). record input { unread = behind_first_page input.unread }) input)
+    ≡ option_map (λ (i : Input). i.name) input
+name_behind None = refl
+name_behind (Some input) = refl
 
 less_either : (ends : Bool) (bytes rest : List ℕ) → length rest ≤ length bytes
     → length (if ends then bytes else rest) ≤ suc (length bytes)
@@ -45,9 +47,10 @@ less_behind (b ∷ bytes) = less_either (b == FF) bytes (behind_first_page bytes
 
 read_on : (old files : Files) → AreAsOpen old files → AreAsOpen old (files_behind_page files)
 read_on old files h = record {
-  input = some_behind files.input ∙ h.input;
+  input = name_behind files.input ∙ h.input;
   output = h.output;
   unread = omega (arith, h.unread, less_unread files.input);
+  named = h.named;
 }
   where
     less_unread : (input : Option Input)
@@ -80,12 +83,13 @@ files_stay_open s t read none reads goes =
     (survives s.world.files read none) (same s.world.files) goes
 
 -- what is asked to be open is so, where all is as open as before
-some_there : {X : Type 0} (o : Option X) → is_some o ≡ true → (x : X) × (o ≡ Some x)
-some_there None h = absurd (cc)
-some_there (Some x) h = (x, refl)
+some_there : {X Y : Type 0} (f : X → Y) (new old : Option X) (x : X) → option_map f new ≡ option_map f old
+    → old ≡ Some x → (y : X) × (new ≡ Some y)
+some_there f None old x same is = absurd (let e = same ∙ ap (option_map f) is in cc)
+some_there f (Some y) old x same is = (y, refl)
 
 pub open_as_before : (need : Needs) (old new : Files) → AreAsOpen old new → AreOpen need old → AreOpen need new
 open_as_before need old new same files = record {
-  input = λ h. some_there new.input (same.input ∙ ap is_some (files.input h).1);
-  output = λ h. some_there new.output (same.output ∙ ap is_some (files.output h).1);
+  input = λ h. let i = files.input h in some_there _ new.input old.input i.0 same.input i.1;
+  output = λ h. let o = files.output h in some_there _ new.output old.output o.0 same.output o.1;
 }

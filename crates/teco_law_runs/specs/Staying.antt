@@ -1,7 +1,7 @@
 -- Files stay as open as they are, through each step whose element is no command of files.
-use Rattle.std.specs.Prelude.{◌≡◌, ℕ, ◌<◌, ◌≤◌, length, Bool, false, is_some, Option, Some, None, Ok}
+use Rattle.std.specs.Prelude.{◌≡◌, ℕ, ◌<◌, ◌≤◌, List, length, Bool, false, Option, Some, None, option_map, Ok}
 use Rattle.teco_model.specs.Element.{Element, element_at}
-use Rattle.teco_model.specs.Files.{Files}
+use Rattle.teco_model.specs.Files.{Files, Input, Output}
 pub use Rattle.teco_model.specs.Names.{is_of_files}
 use Rattle.teco_model.specs.Paging.{unread}
 use Rattle.teco_model.specs.Run.{Reaches}
@@ -22,11 +22,20 @@ ReadsNoFileCommand s =
 abbrev pub NoFileCommands : State → ℕ → Type 0
 NoFileCommands s steps = (k : ℕ) (t : State) → k < steps → Reaches k s t → ReadsNoFileCommand t
 
--- An input is open after it just where one was before, and so is an output; and no more is unread.
+-- the names under which an input and an output are open, if they are
+abbrev pub input_name : Files → Option (List ℕ)
+input_name files = option_map (λ (input : Input). input.name) files.input
+
+abbrev pub output_name : Files → Option (List ℕ)
+output_name files = option_map (λ (output : Output). output.name) files.output
+
+-- After it the input is open that was open before, if one was, and so is the output; no more is unread; and each file
+-- that has a name is as it was.
 pub record AreAsOpen (old new : Files) : Type 0 where
-  pub input : is_some new.input ≡ is_some old.input
-  pub output : is_some new.output ≡ is_some old.output
+  pub input : input_name new ≡ input_name old
+  pub output : output_name new ≡ output_name old
   pub unread : length (unread new) ≤ length (unread old)
+  pub named : new.named ≡ old.named
 
 abbrev pub FilesStayOpen : Type 0
 FilesStayOpen =

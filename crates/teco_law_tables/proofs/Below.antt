@@ -16,6 +16,7 @@ use Rattle.teco_law_tables.proofs.Stacking.{lies_below}
 use Rattle.teco_law_runs.proofs.Sure.{settle_goes}
 use Rattle.teco_law_tables.proofs.Underway.{ElementsGo, element_here}
 use Rattle.teco_law_tables.proofs.Verifying as verifying
+use Rattle.teco_law_tables.proofs.Called.{LeavesWorld, call_leaves}
 use Rattle.teco_law_tables.specs.Framing.{RunsLeaveBelow}
 
 -- ---- nothing is read where a run ends
@@ -50,16 +51,14 @@ module _ (laws : ending.Laws) (sound : NodesAreSound) (c : Course)
       absurd (not_long at.here.node.element _ here (end_reads u w e) amid.long)
   end_above u w e (described.Behind o above) = above
 
-abbrev LeavesBelow : State → Type 0
-LeavesBelow first =
-    (steps : ℕ) (new : World) → Ends first steps new
-    → LiesBelow first.world.kept.registers.stack new.kept.registers.stack
+abbrev IsBelow : World → World → Type 0
+IsBelow old new = LiesBelow old.kept.registers.stack new.kept.registers.stack
 
 module _ (laws : ending.Laws) (sound : NodesAreSound) (call : ClosedCall)
     (go : ElementsGo call.library call.entry call.nodes call.table call.n call.world.kept.registers.stack
     (start_given call.entry call.given call.world)) (files : AreOpen (needs_in call.nodes call.table) call.world.files)
   where
-    given_below : LeavesBelow (start_given call.entry call.given call.world)
+    given_below : LeavesWorld (IsBelow call.world) (start_given call.entry call.given call.world)
     given_below steps new ends =
         subst (λ (w : World). LiesBelow call.world.kept.registers.stack w.kept.registers.stack)
         (end_stays ends.last new ends.end)
@@ -67,47 +66,10 @@ module _ (laws : ending.Laws) (sound : NodesAreSound) (call : ClosedCall)
         (described.comes laws (course call) go (suc steps) steps 1 [] (course call).first ends.last
         (at_first laws call go files) (omega arith) ends.steps))
 
--- ---- with the argument before the call
-end_alike : (one other : Outcome) (new : World) → AreOutcomesAlike one other → one ≡ End new → other ≡ End new
-end_alike (End w) (End v) new a e = ap End (sym a) ∙ e
-end_alike one other new a e = absurd (grind arith)
-
-module _ (calls : CallLaws) (entry n : ℕ) (world : World) (named : entry < REGISTERS) (small : n < 2 ^ 31)
-    (leaves : LeavesBelow (start_pending entry n world)) where
-  digits : BeginsPending entry n world
-  digits = calls.pending entry n world named small
-
-  abbrev first : State
-  first = start (call_given entry (Some n)) world
-
-  digits_below : LeavesBelow first
-  digits_below zero new ends =
-      let same = reaches_none first ends.last ends.steps in
-      absurd (let k = sym digits.goes ∙ ap step same ∙ ends.end in cc)
-  digits_below (suc k) new ends =
-      let later : suc k ≡ 1 + k = omega arith in
-      let came = reaches_later 1 k first digits.behind ends.last (one_step first digits.behind digits.goes)
-      (subst (λ k. Reaches k first ends.last) later ends.steps) in
-      let other = other_next _ _ ends.last (calls.runs k digits.behind (start_pending entry n world) digits.alike) came
-      in
-      leaves k new (record {
-        last = other.state;
-        steps = other.is;
-        end = end_alike _ _ new (calls.steps ends.last other.state other.alike) ends.end;
-      })
-
-call_below : (calls : CallLaws) (entry : ℕ) (argument : Option ArgumentRange) (given : Option ℕ) (world : World)
-    → entry < REGISTERS → IsAsked argument given → LeavesBelow (start_given entry given world)
-    → LeavesBelow (start (call_given entry given) world)
-call_below calls entry None None world named asked leaves = leaves
-call_below calls entry (Some range) (Some n) world named asked leaves =
-    digits_below calls entry n world named asked.small leaves
-call_below calls entry argument given world named asked leaves = absurd (grind arith)
-
 pub runs_leave_below : ending.Laws → verifying.Laws → CallLaws → IterationsEnd → NodesAreSound → RunsLeaveBelow
 runs_leave_below laws facts calls ends sound library entry argument given nodes table commands most n world are
     printed asked ready files =
-    call_below calls entry argument given world ready.named asked
+    call_leaves (IsBelow world) calls entry argument given world ready.named asked
     (given_below laws sound (ready_call library entry argument given nodes table commands most n world are printed
     asked ready) (verifying.elements_go facts ends library entry argument given nodes table commands most n world
     are printed asked ready) files)

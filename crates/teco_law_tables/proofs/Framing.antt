@@ -35,20 +35,21 @@ module _ (laws : ending.Laws) (c : Course)
       read_here number turns begun u at (g.amid (suc k) u (omega arith) l came).frames
   reads_in u (described.Behind o above) = OfNone (ap read_at (sym o) ∙ over_reads entry)
 
-module _ (laws : ending.Laws) (keep : StepsKeep) (call : ClosedCall)
+module _ (laws : ending.Laws) (call : ClosedCall)
     (go : ElementsGo call.library call.entry call.nodes call.table call.n call.world.kept.registers.stack
     (start_given call.entry call.given call.world)) (files : AreOpen (needs_in call.nodes call.table) call.world.files)
   where
-    reads_there : (steps : ℕ) (s : State) → Reaches steps (course call).first s → ReadsIn call.nodes s
+    pub reads_there : (steps : ℕ) (s : State) → Reaches steps (course call).first s → ReadsIn call.nodes s
     reads_there steps s came =
         reads_in laws (course call) go s
         (described.comes laws (course call) go (suc steps) steps 1 [] (course call).first s
         (at_first laws call go files)
         (omega arith) came)
 
-    given_framed : (steps : ℕ) (s : State) → Reaches steps (start_given call.entry call.given call.world) s
+    given_framed : StepsKeep → (steps : ℕ) (s : State)
+        → Reaches steps (start_given call.entry call.given call.world) s
         → IsFramed call.nodes call.world.kept s.world.kept
-    given_framed steps s =
+    given_framed keep steps s =
         run_framed keep call.nodes (start_given call.entry call.given call.world) steps s
         (λ k u least. reads_there k u)
 
@@ -94,6 +95,6 @@ pub runs_are_framed : ending.Laws → verifying.Laws → CallLaws → Iterations
 runs_are_framed laws sound calls ends keep library entry argument given nodes table commands most n world are
     printed asked ready files =
     call_framed calls nodes entry argument given world ready.named asked
-    (given_framed laws keep (ready_call library entry argument given nodes table commands most n world are printed
+    (given_framed laws (ready_call library entry argument given nodes table commands most n world are printed
     asked ready) (verifying.elements_go sound ends library entry argument given nodes table commands most n world
-    are printed asked ready) files)
+    are printed asked ready) files keep)

@@ -26,5 +26,7 @@ mod Stacking
 mod Described
 mod Bounding
 mod Framing
+mod Called
 mod Below
+mod Told
 pub mod straight_text

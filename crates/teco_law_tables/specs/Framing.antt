@@ -1,6 +1,7 @@
 -- What a run of a macro with a closed table leaves: registers that no element of the macro names, the search
--- mode, where none may set it, and the push-down list of its entry.
+-- mode, where none may set it, and the push-down list of its entry; and what it changes.
 use Rattle.std.specs.Prelude.{ℕ, List, Option}
+use Rattle.teco_law_changes.specs.Runs.{ChangesAsTold}
 use Rattle.teco_law_runs.specs.Framing.{IsFramed, LiesBelow}
 use Rattle.teco_law_runs.specs.Given.{call_given}
 use Rattle.teco_law_runs.specs.Linked.{AreLinked}
@@ -32,3 +33,13 @@ RunsLeaveBelow =
     → IsAsked argument given → IsReady library entry most n world → AreOpen (needs_in nodes table) world.files
     → (steps : ℕ) (new : World) → Ends (start (call_given entry given) world) steps new
     → LiesBelow world.kept.registers.stack new.kept.registers.stack
+
+-- And the text is changed by what is told of the nodes.
+abbrev pub RunsChangeAsTold : Type 0
+RunsChangeAsTold =
+    (library : Library) (entry : ℕ) (argument : Option ArgumentRange) (given : Option ℕ)
+    (nodes : List Node) (table : Table) (commands most : Polynomial) (n : ℕ) (world : World)
+    → AreLinked library entry nodes → IsPrinted argument nodes table commands most
+    → IsAsked argument given → IsReady library entry most n world → AreOpen (needs_in nodes table) world.files
+    → (steps : ℕ) (new : World) → Ends (start (call_given entry given) world) steps new
+    → ChangesAsTold nodes world new

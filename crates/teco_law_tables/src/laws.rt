@@ -1,7 +1,7 @@
 //! Laws of closed tables.
 ghost use Rattle.teco_law_tables.specs.Bounded.{IterationsAreBounded, RunsAreDescribed};
 ghost use Rattle.teco_law_tables.specs.Ending.{RunsEndInTime};
-ghost use Rattle.teco_law_tables.specs.Framing.{RunsAreFramed, RunsLeaveBelow};
+ghost use Rattle.teco_law_tables.specs.Framing.{RunsAreFramed, RunsChangeAsTold, RunsLeaveBelow};
 ghost use Rattle.teco_law_tables.specs.Laws.{CommandsAreSteps, TablesAreClosed};
 ghost use Rattle.teco_law_tables.specs.Moving.{StepsMove};
 ghost use Rattle.teco_law_tables.specs.Rows.{WorkedTables};
@@ -139,6 +139,31 @@ pub fn runs_leave_below()
     teco_law_turns::laws::runs_are_bounded();
     teco_law_turns::laws::runs_are_covered();
     teco_law_runs::laws::files_stay_open();
+    tables_are_closed();
+    steps_move();
+}
+
+/// At the end of such a run the text is changed by what is told of the nodes.
+pub fn runs_change_as_told()
+    ensures { RunsChangeAsTold }
+{
+    teco_law_facts::sound::steps_are_sound();
+    teco_law_facts::sound::later_steps_are_sound();
+    teco_law_facts::sound::elements_are_named();
+    teco_law_runs::laws::whole_is_kept();
+    teco_law_runs::laws::steps_go_along_nodes();
+    teco_law_runs::laws::stays_loaded();
+    teco_law_runs::laws::nodes_are_sound();
+    teco_law_runs::laws::iterations_end();
+    teco_law_runs::laws::runs_end();
+    teco_law_runs::laws::steps_are_alike();
+    teco_law_runs::laws::runs_are_alike();
+    teco_law_runs::laws::readings_are_alike();
+    teco_law_runs::laws::numbers_are_pending();
+    teco_law_turns::laws::runs_are_bounded();
+    teco_law_turns::laws::runs_are_covered();
+    teco_law_runs::laws::files_stay_open();
+    teco_law_changes::laws::ends_are_told();
     tables_are_closed();
     steps_move();
 }

@@ -1,5 +1,6 @@
 -- What is promised of a macro, however it was found: each run of it ends in time, and without a code.
 use Rattle.std.specs.Prelude.{◌≡◌, ℕ, ◌+◌, ◌≤◌, ⊤, List, length, Option, Some, None, option_map, Ok}
+use Rattle.teco_law_changes.specs.Runs.{ChangesAsTold}
 use Rattle.teco_law_runs.specs.Framing.{LeavesFramed}
 use Rattle.teco_law_runs.specs.Given.{call_given}
 use Rattle.teco_law_runs.specs.Ready.{AreOpen, IsReady, n_of}
@@ -39,17 +40,20 @@ IsWithin None number = ⊤
 IsWithin (Some most) number = number ≤ most
 
 -- A run comes to its end within so many steps; on its way and at its end no more is in the buffer and unread, and at
--- its end no more bytes were typed, and what no node names is as it was.
+-- its end no more bytes were typed, what no node names is as it was, and the text is changed by what is told of the
+-- nodes.
 pub record EndsInBounds (nodes : List Node) (s : State) (most : ℕ) (held typed : Option ℕ) : Type 0 where
   pub ends : EndsWithin s most
   pub on_the_way : (k : ℕ) (t : State) → k ≤ ends.steps → Reaches k s t → IsWithin held (held_of t.world)
   pub at_the_end : IsWithin held (held_of ends.new)
   pub types : IsWithin typed (length ends.new.kept.typed)
   pub framed : LeavesFramed nodes s.world.kept ends.new.kept
+  pub changed : ChangesAsTold nodes s.world ends.new
 
 -- Each call with an argument that is asked for, where the library is loaded, the size may be held and the files that it
 -- needs are open, comes to its end within the commands, without a code, by no command of files; its text gets no longer
--- on the way, and it types no more bytes, than is told; and it leaves what no element of the macro names.
+-- on the way, and it types no more bytes, than is told; it leaves what no element of the macro names, and changes the
+-- text by no more than its elements can do.
 pub record EachRunEnds (promise : Promise) : Type 0 where
   pub nodes : List Node
   pub expanded : expansion promise.library promise.entry ≡ Ok nodes

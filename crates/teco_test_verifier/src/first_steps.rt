@@ -1,16 +1,17 @@
-//! The examples that stand in the documentation of verdicts and verified runs.
+//! The examples that stand in the documentation of verdicts, witnesses and verified runs.
 use crate::subjects::expect;
 use std::alloc::Global;
 use std::process::Abort;
 use std::test::*;
-use teco_base::{LIMIT, Reg};
+use teco_base::{Code, LIMIT, Reg};
 use teco_hosts::MemHost;
 use teco_library::Library;
-use teco_model::Stop;
+use teco_model::{Needs, Stop};
 use teco_run::Machine;
 use teco_text::GapText;
 use teco_verified_runs::run_verified;
 use teco_verify::{Verified, check_certificate, verify};
+use teco_witness::{Subject, WitnessEnd, find_witness};
 
 fn is_checked(alloc: Global, verified: &Verified<'_>) -> Option<bool> {
     let certificate = verified.certificate(alloc).ok()?;
@@ -44,6 +45,31 @@ fn runs_a_verified_macro(alloc: Global) -> Option<bool> {
     types_bnn(machine.as_mut(), &verified, &mut MemHost::new(alloc))
 }
 
+fn finds_a_witness(alloc: Global) -> Option<bool> {
+    let library = Library::read(alloc, b"@^UA/J<.-Z;2C>/").ok()?;
+    let subject = Subject {
+        library: &library,
+        entry: Reg::of(b'A')?,
+        argument: None,
+        needs: Needs {
+            input: false,
+            output: false,
+        },
+    };
+    let witness = find_witness(alloc, &subject, 1_000_000).ok()??;
+    let text = witness.world.text.as_slice();
+    Some(
+        text == b"a".as_slice()
+            && matches!(
+                witness.end,
+                WitnessEnd::Code {
+                    code: Code::Pop,
+                    ..
+                }
+            ),
+    )
+}
+
 #[test]
 fn examples_hold(rt: HostRuntime) {
     expect(
@@ -55,5 +81,10 @@ fn examples_hold(rt: HostRuntime) {
         &rt,
         runs_a_verified_macro(rt.alloc()) == Some(true),
         "a verified macro is run",
+    );
+    expect(
+        &rt,
+        finds_a_witness(rt.alloc()) == Some(true),
+        "a witness is found",
     );
 }

@@ -14,3 +14,9 @@ pub by_six : {A B C D F G E : Type 0} (make : A → B → C → D → F → G �
     → IfOk result (λ text. text.items ≡ make a' b' c' d' f' g')
 by_six make (Ok text) a a' b b' c c' d d' f f' g g' is_a is_b is_c is_d is_f is_g spelled = cc
 by_six make (Err fault) a a' b b' c c' d d' f f' g g' is_a is_b is_c is_d is_f is_g spelled = tt
+
+pub by_four : {A B C D E : Type 0} (make : A → B → C → D → List ℕ) (result : Result (Vec ℕ Global) E)
+    (a a' : A) (b b' : B) (c c' : C) (d d' : D) → a ≡ a' → b ≡ b' → c ≡ c' → d ≡ d'
+    → IfOk result (λ text. text.items ≡ make a b c d) → IfOk result (λ text. text.items ≡ make a' b' c' d')
+by_four make (Ok text) a a' b b' c c' d d' is_a is_b is_c is_d spelled = cc
+by_four make (Err fault) a a' b b' c c' d d' is_a is_b is_c is_d spelled = tt

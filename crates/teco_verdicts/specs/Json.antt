@@ -2,8 +2,9 @@
 use Rattle.std.specs.Prelude.{ℕ, ◌≡◌, ◌⊎◌, ⊤, List, [], ◌∷◌, ◌++◌, codes, Bool, true, false, IfSome, Option, Some, None}
 use Rattle.std.specs.Prelude.{Err, Vec, option_map}
 use Rattle.std.specs.Fmt.{decimal}
+use Rattle.std.specs.Option.{option_copied}
 use Rattle.teco_json.specs.Json.{array_or_null, array_text, byte_or_null, number_or_null, object_text, quoted_text}
-use Rattle.teco_json.specs.Json.{stated, truth_text}
+use Rattle.teco_json.specs.Json.{stated, text_or_null, truth_text}
 use Rattle.std.specs.declared.alloc.Global.{Global}
 use Rattle.teco_base.specs.Register.{register_name}
 use Rattle.teco_explain.specs.Numbers.{number_of}
@@ -88,6 +89,8 @@ refusal_by entry verdict reason remark = object_text (
     ∷ stated (codes "end_column") (number_or_null (column_in remark.end_position))
     ∷ stated (codes "message") (quoted_text remark.message.now)
     ∷ stated (codes "remedy") (quoted_text remark.remedy.now)
+    ∷ stated (codes "witness") (text_or_null (option_copied remark.witness))
+    ∷ stated (codes "witness_text") (text_or_null (option_copied remark.witness_text))
     ∷ [])
 
 abbrev pub refusal_text : Option ℕ → Verdict → Remark → List ℕ
@@ -101,6 +104,8 @@ remark_in told = record {
   end_position = told.end_position;
   message = told.message;
   remedy = told.remedy;
+  witness = told.witness;
+  witness_text = told.witness_text;
 }
 
 abbrev pub refusal_object : StatedRefusal → List ℕ

@@ -6,3 +6,4 @@ pub mod RoundTrip
 pub mod Linear
 pub mod Methods
 pub mod Json
+pub mod Changes

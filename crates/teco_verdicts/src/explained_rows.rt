@@ -25,14 +25,20 @@ fn print_row<O: Write + Drop, E: Write + Drop>(
     written(write_bytes(&mut console.out, &line))
 }
 
-// Prints the object of a verdict, which has no cells.
-fn print_verdict<O: Write + Drop, E: Write + Drop>(
+// Prints the object of what is said of the macro, which has no cells: what it can change, or the verdict.
+fn print_said<O: Write + Drop, E: Write + Drop>(
     console: &mut Console<O, E>,
-    verdict: &[u8],
+    said: &[u8],
 ) -> Result<(), AnswerFault> {
-    let member = Member {
-        key: "verdict",
-        value: Value::Text(verdict),
+    let member = match said.strip_prefix(b"changes: ") {
+        Some(changes) => Member {
+            key: "changes",
+            value: Value::Text(changes),
+        },
+        None => Member {
+            key: "verdict",
+            value: Value::Text(said),
+        },
     };
     let line = object(console.alloc, &[member])?;
     written(write_bytes(&mut console.out, &line))
@@ -50,14 +56,14 @@ fn print_rows<O: Write + Drop, E: Write + Drop>(
         if row.contains(&b'\t') {
             print_row(console, row)?;
         } else {
-            print_verdict(console, row)?;
+            print_said(console, row)?;
         }
     }
     Ok(())
 }
 
 /// Explains a macro of a library, an object of JSON in each line: the rows that `explain_macro` prints,
-/// and the verdict.
+/// what it can change, and the verdict.
 pub fn explain_macro_as_json<S: ClaimSearch, R: Shelf, O: Write + Drop, E: Write + Drop>(
     rt: &R,
     console: &mut Console<O, E>,

@@ -5,14 +5,16 @@ use crate::linear::tell_refused;
 use crate::listing::list_claimed;
 use std::alloc::{AllocError, Global};
 use std::io::Write;
-use teco_acceptance::{read_library, refuse, tell_premise, words_of, words_of_choice};
+use teco_acceptance::{
+    changes_in_words, claimed_by, read_library, refuse, tell_premise, words_of, words_of_choice,
+};
 use teco_base::Reg;
-use teco_claimed::verify_linear;
 use teco_console::{
     AnswerFault, Console, Edition, Method, Outcome, Request, Shelf, Sourced, element_at, written,
 };
 use teco_library::Library;
 use teco_paths::search::ClaimSearch;
+use teco_promise::Promise;
 use teco_source::{LineAndByte, Shown};
 use teco_verify::{Account, account_of};
 
@@ -124,6 +126,15 @@ fn list_elements<O: Write + Drop, E: Write + Drop>(
     Ok(())
 }
 
+/// Prints what an accepted macro can change, and that it is accepted.
+pub(crate) fn print_accepted<O: Write + Drop, E: Write + Drop>(
+    console: &mut Console<O, E>,
+    promise: &Promise<'_>,
+) -> Result<(), AnswerFault> {
+    let changes = changes_in_words(console.alloc, promise)?;
+    written(console.answer(format_args!("changes: {changes}\naccepted\n")))
+}
+
 // Prints the verdict behind the elements.
 fn conclude<O: Write + Drop, E: Write + Drop>(
     console: &mut Console<O, E>,
@@ -132,11 +143,12 @@ fn conclude<O: Write + Drop, E: Write + Drop>(
 ) -> Result<Outcome, AnswerFault> {
     match account.verdict() {
         Ok(verified) => {
-            console.answer("accepted\n")?;
+            let promise = verified.promise();
+            print_accepted(console, &promise)?;
             tell_premise(
                 &mut console.voice,
                 &sourced.source,
-                &verified.promise(),
+                &promise,
                 Edition::First,
             )?;
             Ok(Outcome::Done)
@@ -172,9 +184,9 @@ fn explain_by_either<S: ClaimSearch, O: Write + Drop, E: Write + Drop>(
     sourced: &Sourced,
     entry: Reg,
 ) -> Result<Outcome, AnswerFault> {
-    match verify_linear::<S>(&sourced.library, entry, console.alloc) {
+    match claimed_by::<S>(console.alloc, &sourced.library, entry) {
         Ok(claimed) => list_claimed(console, sourced, &claimed),
-        Err(unverified) => {
+        Err(unclaimed) => {
             let account = account_of(console.alloc, &sourced.library, entry)?;
             if account.verdict().is_ok() {
                 return list_account(console, sourced, &account);
@@ -184,7 +196,7 @@ fn explain_by_either<S: ClaimSearch, O: Write + Drop, E: Write + Drop>(
                 &sourced.source,
                 &sourced.library,
                 entry,
-                &unverified,
+                &unclaimed,
             )
         }
     }
@@ -196,14 +208,14 @@ fn explain_claims<S: ClaimSearch, O: Write + Drop, E: Write + Drop>(
     sourced: &Sourced,
     entry: Reg,
 ) -> Result<Outcome, AnswerFault> {
-    match verify_linear::<S>(&sourced.library, entry, console.alloc) {
+    match claimed_by::<S>(console.alloc, &sourced.library, entry) {
         Ok(claimed) => list_claimed(console, sourced, &claimed),
-        Err(unverified) => tell_refused::<S, _, _>(
+        Err(unclaimed) => tell_refused::<S, _, _>(
             console,
             &sourced.source,
             &sourced.library,
             entry,
-            &unverified,
+            &unclaimed,
         ),
     }
 }

@@ -9,9 +9,11 @@ ghost use Rattle.teco_verdicts.specs.Json.{ObjectBy, ObjectsFor, ObjectsOfText};
 
 use crate::checking::check_by_method;
 use crate::objects::{Remark, object_of, refusal_text};
+use std::alloc::{AllocError, Global};
 use std::io::Write;
 use teco_acceptance::{
-    Accepted, ClaimedCertificate, MENDING, Verdict, accepted, library_of, verified_by,
+    Accepted, ClaimedCertificate, MENDING, Unaccepted, Verdict, accepted, library_of, verified_by,
+    words_of_witness,
 };
 use teco_base::Reg;
 use teco_console::{
@@ -23,6 +25,7 @@ use teco_paths::search::ClaimSearch;
 use teco_source::Source;
 use teco_verifier::RefusalReason as Why;
 use teco_verify::Refusal;
+use teco_witness::Witness;
 
 // A certificate that is refused.
 const DENIED: Verdict = Verdict {
@@ -31,9 +34,9 @@ const DENIED: Verdict = Verdict {
     place: 0,
 };
 
-// Prints an object, and answers an outcome.
+/// Prints an object, and answers an outcome.
 #[tactic(auto, using(teco_console::proofs::Fronts::whole_front))]
-fn print<O: Write + Drop, E: Write + Drop>(
+pub(crate) fn print<O: Write + Drop, E: Write + Drop>(
     console: &mut Console<O, E>,
     object: &[u8],
     outcome: Outcome,
@@ -64,16 +67,42 @@ fn remark_of(source: &Source, text: &[u8], verdict: &Verdict) -> Remark<'static>
         end_position: end.and_then(|end| position_in(source, verdict.register, end)),
         message: note.summary.as_bytes(),
         remedy: note.remedy,
+        witness: None,
+        witness_text: None,
     }
 }
 
-// What is said of a verdict on a macro of a library.
-fn remark_on(sourced: &Sourced, verdict: &Verdict) -> Remark<'static> {
+// In words, on what small world a macro fails, if one was found.
+fn told_of(
+    alloc: Global,
+    sourced: &Sourced,
+    witness: Option<&Witness>,
+) -> Result<Option<String>, AllocError> {
+    match witness {
+        None => Ok(None),
+        Some(witness) => {
+            let words = words_of_witness(alloc, &sourced.source, &sourced.library, witness)?;
+            Ok(Some(words))
+        }
+    }
+}
+
+// What is said of a verdict on a macro of a library, which fails on a small world that is told so.
+fn remark_on<'a>(
+    sourced: &Sourced,
+    verdict: &Verdict,
+    witness: Option<&'a Witness>,
+    told: &'a Option<String>,
+) -> Remark<'a> {
     let text = verdict
         .register
         .and_then(|register| sourced.library.text(register))
         .unwrap_or(&[]);
-    remark_of(&sourced.source, text, verdict)
+    Remark {
+        witness: told.as_ref().map(|told| told.as_bytes()),
+        witness_text: witness.map(|witness| witness.world.text.as_slice()),
+        ..remark_of(&sourced.source, text, verdict)
+    }
 }
 
 // Prints what a macro that is accepted promises.
@@ -93,27 +122,29 @@ fn answer_accepted<O: Write + Drop, E: Write + Drop>(
     print(console, &object, Outcome::Done)
 }
 
-// Prints why a macro is refused, and where.
-fn answer_refused<O: Write + Drop, E: Write + Drop>(
+/// Prints why a macro is refused, and where.
+pub(crate) fn answer_refused<O: Write + Drop, E: Write + Drop>(
     console: &mut Console<O, E>,
     sourced: &Sourced,
     entry: Reg,
-    refusal: &Refusal,
+    unaccepted: &Unaccepted,
 ) -> Result<Outcome, AnswerFault>
-    requires { IsRefusedBy sourced.now.method sourced.now.library entry refusal.now }
+    requires { IsRefusedBy sourced.now.method sourced.now.library entry unaccepted.now.refusal }
     ensures { Answers (ObjectBy sourced.now.method sourced.now.library entry)
         (O.contents console.old.out) (O.contents console.new.out) result }
 {
-    let Some(verdict) = Verdict::of(refusal) else {
+    let Some(verdict) = Verdict::of(&unaccepted.refusal) else {
         return Err(AnswerFault::Memory);
     };
-    let remark = remark_on(sourced, &verdict);
+    let witness = unaccepted.witness();
+    let told = told_of(console.alloc, sourced, witness)?;
+    let remark = remark_on(sourced, &verdict, witness, &told);
     let object = refusal_text(console.alloc, Some(entry), &verdict, &remark)?;
     print(console, &object, Outcome::Refused)
 }
 
-// Prints that a source says no library, and where.
-fn answer_no_library<O: Write + Drop, E: Write + Drop>(
+/// Prints that a source says no library, and where.
+pub(crate) fn answer_no_library<O: Write + Drop, E: Write + Drop>(
     console: &mut Console<O, E>,
     source: &Source,
     refusal: &Refusal,
@@ -141,7 +172,7 @@ fn answer_verdict<S: ClaimSearch, O: Write + Drop, E: Write + Drop>(
 {
     match verified_by::<S>(console.alloc, &sourced.library, entry, sourced.method) {
         Ok(accepted) => answer_accepted(console, sourced, entry, &accepted),
-        Err(refusal) => answer_refused(console, sourced, entry, &refusal),
+        Err(unaccepted) => answer_refused(console, sourced, entry, &unaccepted),
     }
 }
 
@@ -237,6 +268,8 @@ fn remark_in(said: &[u8]) -> Remark<'_> {
         end_position: None,
         message: said.strip_suffix(b"\n").unwrap_or(said),
         remedy: MENDING.trim_ascii(),
+        witness: None,
+        witness_text: None,
     }
 }
 
@@ -278,8 +311,10 @@ fn answer_check<S: ClaimSearch, O: Write + Drop, E: Write + Drop>(
             let object = object_of(console.alloc, &accepted.promise())?;
             print(console, &object, Outcome::Done)
         }
-        Err(Refusal::Memory) => Err(AnswerFault::Memory),
-        Err(Refusal::No { .. }) => answer_denied(console, sourced, entry, claim),
+        Err(unaccepted) => match unaccepted.refusal {
+            Refusal::Memory => Err(AnswerFault::Memory),
+            Refusal::No { .. } => answer_denied(console, sourced, entry, claim),
+        },
     }
 }
 

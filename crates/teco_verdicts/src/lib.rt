@@ -1,6 +1,8 @@
 //! What `verify`, `check` and `explain` print of macros.
 #![tactic(auto)]
 
+mod change_objects;
+mod changing;
 mod checking;
 mod explained_rows;
 mod explaining;
@@ -11,6 +13,7 @@ mod listing;
 mod objects;
 mod verifying;
 
+pub use changing::{ChangesForm, tell_changes};
 pub use checking::check_macro;
 pub use explained_rows::explain_macro_as_json;
 pub use explaining::explain_macro;

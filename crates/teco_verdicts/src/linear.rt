@@ -10,11 +10,11 @@ ghost use Rattle.teco_console.specs.declared.outcome.Outcome.TheVariants.{Done, 
 
 use std::io::Write;
 use teco_acceptance::{
-    ClaimedCertificate, MENDING, RefusedMacro, accepted_by_claims, is_whole, other_edition,
-    reason_of, refusal_of, refusal_of_text, refuse, refuse_claim, tell_premise,
+    ClaimedCertificate, MENDING, RefusedMacro, Unclaimed, accepted_by_claims, claimed_by, is_whole,
+    other_edition, reason_of, refusal_of, refusal_of_text, refuse, refuse_claim, tell_premise,
 };
 use teco_base::Reg;
-use teco_claimed::{Claimed, LinearRefusal, Unverified, verify_linear};
+use teco_claimed::{Claimed, LinearRefusal};
 use teco_console::{AnswerFault, Console, Edition, Outcome, SearchDoubts, Sourced, write_bytes};
 use teco_library::Library;
 use teco_paths::search::ClaimSearch;
@@ -68,17 +68,18 @@ fn refuse_claims<O: Write + Drop, E: Write + Drop>(
     Ok(outcome)
 }
 
-/// Says why there are no claims of a macro of a library.
+/// Says why there are no claims of a macro of a library, and on what it fails, if that was found.
 pub fn tell_refused<S: ClaimSearch, O: Write + Drop, E: Write + Drop>(
     console: &mut Console<O, E>,
     source: &Source,
     library: &Library,
     entry: Reg,
-    unverified: &Unverified,
+    unclaimed: &Unclaimed,
 ) -> Result<Outcome, AnswerFault>
     ensures { Answers (VerdictByClaims library.now entry)
         (O.contents console.old.out) (O.contents console.new.out) result }
 {
+    let unverified = &unclaimed.unverified;
     let refusal = refusal_of(console.alloc, library, entry, &unverified.refusal);
     let refused = RefusedMacro {
         source,
@@ -86,7 +87,7 @@ pub fn tell_refused<S: ClaimSearch, O: Write + Drop, E: Write + Drop>(
         entry,
         refusal: &refusal,
     };
-    let reason = reason_of::<S>(console.alloc, &refused, &unverified.unshown);
+    let reason = reason_of::<S>(console.alloc, &refused, unclaimed);
     refuse_claims(
         console,
         source,
@@ -102,7 +103,7 @@ fn answer_claims<S: ClaimSearch, O: Write + Drop, E: Write + Drop>(
     source: &Source,
     library: &Library,
     entry: Reg,
-    found: Result<Claimed<'_>, Unverified>,
+    found: Result<Claimed<'_>, Unclaimed>,
 ) -> Result<Outcome, AnswerFault>
     requires library { IfOk found (λ claimed. claimed.library ≡ library.now) }
     requires declared { IfOk found (λ claimed. TakesDeclared library.now claimed.certificate) }
@@ -115,7 +116,7 @@ fn answer_claims<S: ClaimSearch, O: Write + Drop, E: Write + Drop>(
             claimed.is_checked();
             accept_claims(console, source, &claimed)
         }
-        Err(unverified) => tell_refused::<S, _, _>(console, source, library, entry, &unverified),
+        Err(unclaimed) => tell_refused::<S, _, _>(console, source, library, entry, &unclaimed),
     }
 }
 
@@ -129,7 +130,7 @@ pub fn verify_claims<S: ClaimSearch, O: Write + Drop, E: Write + Drop>(
     ensures { Answers (VerdictByClaims library.now entry)
         (O.contents console.old.out) (O.contents console.new.out) result }
 {
-    let found = verify_linear::<S>(library, entry, console.alloc);
+    let found = claimed_by::<S>(console.alloc, library, entry);
     answer_claims::<S, _, _>(console, source, library, entry, found)
 }
 

@@ -1,5 +1,5 @@
 //! What is claimed at the cut points of a macro, as `explain` lists it.
-use crate::explaining::{name_of, shown_place, text_of};
+use crate::explaining::{name_of, print_accepted, shown_place, text_of};
 use std::alloc::{AllocError, Global};
 use std::io::Write;
 use teco_acceptance::{register_at, tell_premise};
@@ -62,11 +62,12 @@ pub fn list_claimed<O: Write + Drop, E: Write + Drop>(
         }
         last = cut.point;
     }
-    console.answer("accepted\n")?;
+    let promise = claimed.promise();
+    print_accepted(console, &promise)?;
     tell_premise(
         &mut console.voice,
         &sourced.source,
-        &claimed.promise(),
+        &promise,
         Edition::Second,
     )?;
     Ok(Outcome::Done)

@@ -211,6 +211,10 @@ pub struct Remark<'a> {
     pub message: &'a [u8],
     /// How it is mended.
     pub remedy: &'a str,
+    /// On what small world the macro fails, in words, if one was found.
+    pub witness: Option<&'a [u8]>,
+    /// The text of that.
+    pub witness_text: Option<&'a [u8]>,
 }
 
 // The line of a position, if there is one.
@@ -244,6 +248,8 @@ struct StatedRefusal<'a> {
     end_position: Option<LineAndByte>,
     message: &'a [u8],
     remedy: &'a str,
+    witness: Option<&'a [u8]>,
+    witness_text: Option<&'a [u8]>,
 }
 
 // The object of a refusal whose reason is spelled so.
@@ -301,6 +307,14 @@ fn refusal_object(alloc: Global, stated: &StatedRefusal<'_>) -> Result<Vec<u8>, 
                 key: "remedy",
                 value: Value::Text(stated.remedy.as_bytes()),
             },
+            Member {
+                key: "witness",
+                value: Value::MaybeText(stated.witness),
+            },
+            Member {
+                key: "witness_text",
+                value: Value::MaybeText(stated.witness_text),
+            },
         ],
     )
 }
@@ -325,6 +339,8 @@ pub fn refusal_text(
         end_position: remark.end_position,
         message: remark.message,
         remedy: remark.remedy,
+        witness: remark.witness,
+        witness_text: remark.witness_text,
     };
     refusal_object(alloc, &stated)
 }

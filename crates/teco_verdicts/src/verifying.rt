@@ -10,11 +10,10 @@ ghost use Rattle.teco_console.specs.declared.outcome.Outcome.TheVariants.{Done, 
 use crate::linear::{accept_claims, tell_refused as tell_unclaimed, verify_claims};
 use std::io::Write;
 use teco_acceptance::{
-    Accepted, Held, Verdict, explained, library_of, read_library, refuse, refuse_known,
-    tell_premise, verified_by,
+    Accepted, Held, Unaccepted, Verdict, claimed_by, explained, library_of, read_library, refuse,
+    refuse_known, tell_premise, verified_by, words_of_witness,
 };
 use teco_base::Reg;
-use teco_claimed::verify_linear;
 use teco_console::{
     AnswerFault, Console, Edition, Method, NAMES, Outcome, Request, SearchDoubts, Shelf, Sourced,
     macro_named, read_source, tell_dollars, write_bytes,
@@ -120,12 +119,12 @@ fn verify_by_either<S: ClaimSearch, O: Write + Drop, E: Write + Drop>(
     ensures { Answers (VerdictBy Best library.now entry)
         (O.contents console.old.out) (O.contents console.new.out) result }
 {
-    let unverified = match verify_linear::<S>(library, entry, console.alloc) {
+    let unclaimed = match claimed_by::<S>(console.alloc, library, entry) {
         Ok(claimed) => {
             claimed.is_checked();
             return accept_claims(console, source, &claimed);
         }
-        Err(unverified) => unverified,
+        Err(unclaimed) => unclaimed,
     };
     match verify(console.alloc, library, entry) {
         Ok(verified) => {
@@ -133,7 +132,7 @@ fn verify_by_either<S: ClaimSearch, O: Write + Drop, E: Write + Drop>(
             accept(console, source, &verified)
         }
         Err(Refusal::No { .. }) => {
-            tell_unclaimed::<S, _, _>(console, source, library, entry, &unverified)
+            tell_unclaimed::<S, _, _>(console, source, library, entry, &unclaimed)
         }
         Err(Refusal::Memory) => Err(AnswerFault::Memory),
     }
@@ -206,20 +205,35 @@ fn tell_accepted<O: Write + Drop, E: Write + Drop>(
     Ok(Outcome::Done)
 }
 
-// Prints why one macro of several is refused.
-fn tell_refused<O: Write + Drop, E: Write + Drop>(
+// Says on what small world a macro fails that is refused, if one was found.
+fn tell_witness<O: Write + Drop, E: Write + Drop>(
+    console: &mut Console<O, E>,
+    sourced: &Sourced,
+    unaccepted: &Unaccepted,
+) -> Result<(), AnswerFault> {
+    if let Some(witness) = unaccepted.witness() {
+        let words = words_of_witness(console.alloc, &sourced.source, &sourced.library, witness)?;
+        console.say(format_args!("  {words}"));
+    }
+    Ok(())
+}
+
+/// Prints why one macro of several is refused.
+pub(crate) fn tell_refused<O: Write + Drop, E: Write + Drop>(
     console: &mut Console<O, E>,
     sourced: &Sourced,
     name: char,
-    refusal: Refusal,
+    unaccepted: &Unaccepted,
 ) -> Result<Outcome, AnswerFault> {
-    let Some(verdict) = Verdict::of(&refusal) else {
+    let refusal = &unaccepted.refusal;
+    let Some(verdict) = Verdict::of(refusal) else {
         return Err(AnswerFault::Memory);
     };
     console.answer(format_args!("{name}: {verdict}\n"))?;
-    if let Some(told) = explained(&sourced.source, &refusal, sourced.method.newest()) {
+    if let Some(told) = explained(&sourced.source, refusal, sourced.method.newest()) {
         console.say(told);
     }
+    tell_witness(console, sourced, unaccepted)?;
     Ok(Outcome::Refused)
 }
 
@@ -238,7 +252,7 @@ fn verify_one<S: ClaimSearch, O: Write + Drop, E: Write + Drop>(
             findings.tell(&mut console.voice, library, entry);
             Ok(outcome)
         }
-        Err(refusal) => tell_refused(console, sourced, name, refusal),
+        Err(unaccepted) => tell_refused(console, sourced, name, &unaccepted),
     }
 }
 

@@ -4,7 +4,7 @@ use Rattle.teco_law_runs.proofs.Keeping.{end_stays}
 use Rattle.teco_law_runs.specs.Framing.{IsFramed}
 use Rattle.teco_law_runs.specs.Linked.{ExpansionsAreLinked}
 use Rattle.teco_law_runs.specs.Ready.{AreOpen, n_of}
-use Rattle.teco_law_tables.specs.Framing.{RunsAreFramed, RunsLeaveBelow}
+use Rattle.teco_law_tables.specs.Framing.{RunsAreFramed, RunsChangeAsTold, RunsLeaveBelow}
 use Rattle.teco_law_tables.specs.Verified.{RunsAreVerified}
 use Rattle.teco_model.specs.State.{World}
 use Rattle.teco_promise.specs.Promise.{EachRunEnds}
@@ -16,6 +16,7 @@ pub record Laws : Type 0 where
   pub verified : RunsAreVerified
   pub framed : RunsAreFramed
   pub below : RunsLeaveBelow
+  pub changed : RunsChangeAsTold
 
 pub certified_ends : Laws → (found : Finding) → IsCertified found.library found.fields → EachRunEnds (promise_of found)
 certified_ends laws found certified = record {
@@ -44,5 +45,8 @@ certified_ends laws found certified = record {
               laws.below found.library fields.entry fields.argument given nodes certified.table fields.commands
               fields.size (n_of world) world linked certified.printed asked ready open' ends.steps ends.new ends.ends;
         };
+        changed =
+            laws.changed found.library fields.entry fields.argument given nodes certified.table fields.commands
+            fields.size (n_of world) world linked certified.printed asked ready open' ends.steps ends.new ends.ends;
       };
 }

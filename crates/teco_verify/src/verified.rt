@@ -11,7 +11,9 @@ use std::marker::Model;
 use teco_base::{REGISTERS, Reg};
 use teco_certificate::Certificate;
 use teco_law_runs::laws::expansions_are_linked;
-use teco_law_tables::laws::{runs_are_framed, runs_are_verified, runs_leave_below};
+use teco_law_tables::laws::{
+    runs_are_framed, runs_are_verified, runs_change_as_told, runs_leave_below,
+};
 use teco_library::Library;
 use teco_model::Needs;
 use teco_poly::Poly;
@@ -53,6 +55,7 @@ impl<'l> Verified<'l> {
         runs_are_verified();
         runs_are_framed();
         runs_leave_below();
+        runs_change_as_told();
         let certificate = &self.certificate;
         Promise::of(Statement {
             library: self.library,

@@ -32,8 +32,9 @@ pub const VERIFY_PAGE: HelpPage = HelpPage {
     examples: "Examples:\n\
         \x20 teco verify -e 'J<FSfoo$bar$;>'\n\
         \x20 teco verify trim.tes A\n\
+        \x20 teco verify --changes trim.tes\n\
         \x20 teco verify --json lib.tes",
-    options: &[MACRO, FROM, CALLED, JSON, RULES, ESCAPE],
+    options: &[MACRO, FROM, CALLED, CHANGES, JSON, RULES, ESCAPE],
     library: &[LIBRARY, OF_EACH],
     words: &[],
 };
@@ -243,6 +244,12 @@ const SCRIPTS: Parameter = Parameter {
     id: "FILE",
     kind: ParameterKind::Words,
     help: "Files of command strings; standard input where neither a file nor a text is given",
+};
+
+const CHANGES: Parameter = Parameter {
+    id: "changes",
+    kind: ParameterKind::Flag,
+    help: "Print what each macro can change in a text, in words, in the place of its certificate",
 };
 
 const JSON: Parameter = Parameter {

@@ -225,6 +225,29 @@ pub fn setting_files<'m>(words: &'m ArgMatches<'_>) -> &'m [&'m str] {
     words.get_strs("set-file").unwrap_or(&[])
 }
 
+/// What `verify` prints of a macro that is accepted.
+#[derive(Clone, Copy)]
+pub enum VerdictForm {
+    /// Its certificate.
+    Certificate,
+    /// An object of JSON.
+    Object,
+    /// What it can change, in words.
+    Changes,
+    /// What it can change, as an object of JSON.
+    ChangesObject,
+}
+
+/// What `verify` is to print.
+pub fn verdict_form(words: &ArgMatches<'_>) -> VerdictForm {
+    match (words.get_flag("changes"), words.get_flag("json")) {
+        (false, false) => VerdictForm::Certificate,
+        (false, true) => VerdictForm::Object,
+        (true, false) => VerdictForm::Changes,
+        (true, true) => VerdictForm::ChangesObject,
+    }
+}
+
 /// How searches treat case at first.
 pub fn case(words: &ArgMatches<'_>) -> Result<Option<LetterCase>, WordsFault> {
     match (words.get_flag("exact"), words.get_flag("any-case")) {

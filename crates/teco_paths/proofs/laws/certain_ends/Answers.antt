@@ -11,4 +11,5 @@ returns c = certain_end (record {
   };
   keep = c.steps_keep.ensures;
   shift = c.steps_shift.ensures;
+  told = c.ends_are_told.ensures;
 })

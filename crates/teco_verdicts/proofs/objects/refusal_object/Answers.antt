@@ -1,6 +1,8 @@
 use Rattle.std.proofs.Common.{ℕ, List, [], ◌∷◌, codes, false, Option, refl}
 use Rattle.std.specs.Fmt.{decimal}
-use Rattle.teco_json.specs.Json.{byte_or_null, number_or_null, object_text, quoted_text, stated, truth_text}
+use Rattle.std.specs.Option.{option_copied}
+use Rattle.teco_json.specs.Json.{byte_or_null, number_or_null, object_text, quoted_text, stated, text_or_null}
+use Rattle.teco_json.specs.Json.{truth_text}
 use Rattle.teco_verdicts.proofs.Spelling.{by_six}
 use Rattle.teco_verdicts.specs.declared.objects.StatedRefusal.{StatedRefusal}
 use Rattle.teco_verdicts.proofs.objects.refusal_object.Goals as goal
@@ -21,6 +23,8 @@ spelled told reason remedy name register line column end_line end_column = objec
     ∷ stated (codes "end_column") (number_or_null end_column)
     ∷ stated (codes "message") (quoted_text told.message.now)
     ∷ stated (codes "remedy") (quoted_text remedy)
+    ∷ stated (codes "witness") (text_or_null (option_copied told.witness))
+    ∷ stated (codes "witness_text") (text_or_null (option_copied told.witness_text))
     ∷ [])
 
 pub returns : goal.returns

@@ -10,6 +10,7 @@ of-requires c =
       verified = c.runs_are_verified.ensures;
       framed = c.runs_are_framed.ensures;
       below = c.runs_leave_below.ensures;
+      changed = c.runs_change_as_told.ensures;
     })
     (record { library = library; fields = _ })
     (subst (λ (fields : Fields). IsCertified library fields) (sym c.certificate.view_is) c.self.invariant)

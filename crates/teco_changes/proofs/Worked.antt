@@ -1,0 +1,29 @@
+-- Rows worked by hand.
+use Rattle.std.proofs.Common.{refl}
+use Rattle.teco_changes.specs.Rows.{ElementRows}
+use Rattle.teco_model.specs.Element.{element_from}
+use Rattle.teco_model.specs.Letters.{letters}
+
+pub element_rows : ElementRows
+unfolding element_from letters
+element_rows = record {
+  inserts = refl;
+  inserts_byte = refl;
+  inserts_tab = refl;
+  inserts_number = refl;
+  gets = refl;
+  types_text = refl;
+  deletes = refl;
+  deletes_lines = refl;
+  replaces = refl;
+  replaces_last = refl;
+  finds = refl;
+  turns = refl;
+  writes_range = refl;
+  writes = refl;
+  yanks = refl;
+  appends = refl;
+  moves = refl;
+  calls = refl;
+  copies = refl;
+}

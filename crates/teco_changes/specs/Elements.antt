@@ -1,0 +1,73 @@
+-- What each element of a macro can do to a text at most. The text of a world is what is written to the output, then the
+-- page in the buffer, then what is unread.
+use Rattle.std.specs.Prelude.{ℕ, zero, List, [], ◌∷◌, Bool, false, Option, Some, None}
+use Rattle.teco_base.specs.declared.bytes.TheConstants.{FF, TAB}
+use Rattle.teco_changes.specs.declared.change.Change.{Change}
+use Rattle.teco_changes.specs.declared.change.Change.TheVariants as change
+use Rattle.teco_model.specs.Element.{Element}
+use Rattle.teco_model.specs.declared.kind.Command.{Command}
+use Rattle.teco_model.specs.declared.kind.Command.TheVariants as command
+use Rattle.teco_model.specs.declared.kind.Insertion.{Insertion}
+use Rattle.teco_model.specs.declared.kind.Insertion.TheVariants as insertion
+use Rattle.teco_model.specs.declared.kind.Kind.{Kind}
+use Rattle.teco_model.specs.declared.kind.Kind.TheVariants as kind
+use Rattle.teco_model.specs.declared.kind.Page.{Page}
+use Rattle.teco_model.specs.declared.kind.Page.TheVariants as page
+use Rattle.teco_model.specs.declared.kind.Query.{Query}
+use Rattle.teco_model.specs.declared.kind.Query.TheVariants as query
+use Rattle.teco_model.specs.declared.kind.Search.{Search}
+use Rattle.teco_model.specs.declared.kind.Search.TheVariants as search
+use Rattle.teco_model.specs.declared.kind.Storage.{Storage}
+use Rattle.teco_model.specs.declared.kind.Storage.TheVariants as storage
+
+-- I puts its text; without one, nI puts a character. TAB puts itself and its text.
+abbrev pub inserted : Insertion → List ℕ → List Change
+inserted insertion.Text [] = change.PutsByte ∷ []
+inserted insertion.Text (b ∷ text) = change.Puts (b ∷ text) ∷ []
+inserted insertion.Tab text = change.Puts (TAB ∷ text) ∷ []
+
+-- G puts the text of a register; with a colon it types that. The others change registers alone.
+abbrev pub stored : Storage → ℕ → List Change
+stored (storage.Get register) zero = change.PutsText register ∷ []
+stored s colons = []
+
+-- D and K take any piece
+abbrev pub commanded : Command → Element → List Change
+commanded (command.Insertion i) element = inserted i element.text
+commanded (command.Deletion unit) element = change.TakesAny ∷ []
+commanded (command.Storage s) element = stored s element.colons
+commanded c element = []
+
+-- n\ puts a number
+abbrev pub asked : Query → List Change
+asked query.Conversion = change.PutsNumber ∷ []
+asked q = []
+
+-- FS and FN put their second text in the stead of a match of the first. Without a first, it is not known of which.
+abbrev pub swapped : List ℕ → List ℕ → List Change
+swapped [] put = change.TakesAny ∷ change.Puts put ∷ []
+swapped (b ∷ wanted) put = change.Swaps (b ∷ wanted) put ∷ []
+
+abbrev pub sought : Search → Element → List Change
+sought search.Replace element = swapped element.text element.second
+sought search.ReplaceInPages element = swapped element.text element.second
+sought s element = []
+
+-- A may take the form feed that ended the page. P leaves the text as it is, unless it writes a range of the buffer; of
+-- that, and of Y and PW, nothing is told.
+abbrev pub turned : Page → Bool → Option (List Change)
+turned page.Append ranged = Some (change.Takes (record { first = FF; last = FF } ∷ []) ∷ [])
+turned page.Next false = Some []
+turned p ranged = None
+
+-- What an element can do, behind two arguments or not; none where nothing is told, as of files.
+abbrev pub changes_told : Kind → Element → Bool → Option (List Change)
+changes_told (kind.Query q) element ranged = Some (asked q)
+changes_told (kind.Command c) element ranged = Some (commanded c element)
+changes_told (kind.Search s) element ranged = Some (sought s element)
+changes_told (kind.Page p) element ranged = turned p ranged
+changes_told (kind.File f) element ranged = None
+changes_told k element ranged = Some []
+
+abbrev pub changes_of : Element → Bool → Option (List Change)
+changes_of element ranged = changes_told element.kind element ranged

@@ -1,0 +1,3 @@
+-- Laws of what a run changes.
+pub mod Steps
+pub mod Runs

@@ -1,0 +1,4 @@
+//! Laws of what a run changes.
+#![tactic(auto)]
+
+pub mod laws;

@@ -1,0 +1,103 @@
+//! What is told of macros, by the table of elements.
+use crate::following::Given;
+use std::alloc::Global;
+use std::test::*;
+use teco_base::{LIMIT, Reg};
+use teco_changes::Change;
+use teco_expansion::expand;
+use teco_library::Library;
+use teco_told::changes_of_macro;
+
+// A library with the macro A, and what A can do, in the order of its elements; `None` where nothing is told.
+type Row = (&'static [u8], Option<&'static [Given]>);
+
+const ROWS: &[Row] = &[
+    // What puts and takes.
+    (b"@^UA/Ix\x1b/", Some(&[Given::Puts(b"x")])),
+    (b"@^UA/65I\x1b/", Some(&[Given::PutsByte])),
+    (b"@^UA/\tx\x1b/", Some(&[Given::Puts(b"\tx")])),
+    (b"@^UA/5\\/", Some(&[Given::PutsNumber])),
+    (b"@^UA/GB/", Some(&[Given::PutsText])),
+    (b"@^UA/:GB/", Some(&[])),
+    (b"@^UA/HK/", Some(&[Given::TakesAny])),
+    (b"@^UA/D/", Some(&[Given::TakesAny])),
+    (b"@^UA/A/", Some(&[Given::Takes(12, 12)])),
+    // What swaps.
+    (
+        b"@^UA/FSfoo\x1bbar\x1b/",
+        Some(&[Given::Swaps(b"foo", b"bar")]),
+    ),
+    (
+        b"@^UA/FNfoo\x1bbar\x1b/",
+        Some(&[Given::Swaps(b"foo", b"bar")]),
+    ),
+    (
+        b"@^UA/FS\x1bbar\x1b/",
+        Some(&[Given::TakesAny, Given::Puts(b"bar")]),
+    ),
+    // What changes no text.
+    (b"@^UA/J<Sa\x1b;XB=>/", Some(&[])),
+    (b"@^UA/NEND\x1bP/", Some(&[])),
+    // Each once, those of macros that are called too.
+    (
+        b"@^UA/Ix\x1bDIx\x1bD/",
+        Some(&[Given::Puts(b"x"), Given::TakesAny]),
+    ),
+    (
+        b"@^UA/MBIx\x1b/@^UB/D/",
+        Some(&[Given::TakesAny, Given::Puts(b"x")]),
+    ),
+    // Of what writes a range or a page twice, reads a page over another or names files, nothing is told.
+    (b"@^UA/0,5P/", None),
+    (b"@^UA/P^YT/", None),
+    (b"@^UA/PW/", None),
+    (b"@^UA/IxY\x1bY/", None),
+    (b"@^UA/EF/", None),
+];
+
+fn is_given(change: &Change, given: Given) -> bool {
+    match (change, given) {
+        (Change::Puts(text), Given::Puts(bytes)) => text.as_slice() == bytes,
+        (Change::PutsNumber, Given::PutsNumber) => true,
+        (Change::PutsByte, Given::PutsByte) => true,
+        (Change::PutsText(_), Given::PutsText) => true,
+        (Change::Takes(class), Given::Takes(first, last)) => match class.as_slice() {
+            [range] => range.first == first && range.last == last,
+            _ => false,
+        },
+        (Change::TakesAny, Given::TakesAny) => true,
+        (Change::Swaps(wanted, text), Given::Swaps(from, into)) => {
+            wanted.as_slice() == from && text.as_slice() == into
+        }
+        _ => false,
+    }
+}
+
+fn are_given(changes: &[Change], given: &[Given]) -> bool {
+    changes.len() == given.len()
+        && changes
+            .iter()
+            .zip(given.iter())
+            .all(|(change, expected)| is_given(change, *expected))
+}
+
+fn is_told(alloc: Global, row: &Row) -> Option<bool> {
+    if row.0.len() > LIMIT {
+        return None;
+    }
+    let library = Library::read(alloc, row.0).ok()?;
+    let nodes = expand(alloc, &library, Reg::of(b'A')?).ok()?;
+    let told = changes_of_macro(alloc, &nodes).ok()?;
+    Some(match (told, row.1) {
+        (Some(changes), Some(given)) => are_given(changes.as_slice(), given),
+        (None, None) => true,
+        _ => false,
+    })
+}
+
+#[test]
+fn changes_are_told(rt: HostRuntime) {
+    for (number, row) in ROWS.iter().enumerate() {
+        assert!(rt; is_told(rt.alloc(), row) == Some(true), "row {number}");
+    }
+}

@@ -1,0 +1,4 @@
+-- Lemmas of the list.
+mod Grown
+mod Telling
+mod Holding

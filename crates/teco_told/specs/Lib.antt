@@ -1,0 +1,3 @@
+-- Words of the list of changes.
+pub mod Growing
+pub mod Facts
