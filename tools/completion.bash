@@ -1,10 +1,10 @@
 # Completion of teco's commands, options and their values for bash.
 
 # BEGIN of the lists that tools/completions writes
-_teco_commands="run verify check apply edit trace test show explain help"
+_teco_commands="run verify check apply edit trace test list show explain help"
 _teco_general="-h --help -V --version"
-_teco_valued="--limit --memory --set --set-file --esc -e -f --library -r --register --rules --arg --pages --cert --keep
-  --add --take --most --color --files-from --include --exclude --backup"
+_teco_valued="--limit --memory --set --set-file --esc -e -f --library -r --register --rules --effort --arg --pages
+  --cert --keep --add --take --most --color --files-from --include --exclude --backup"
 _teco_words="ARG NAC NCA DIV POP DTB IIA ILL IQN ICE SRH TAG SNI BNI PES UTC UTM NFI NFO YCA OFO FUL LIM MEM FNF INP
   OUT X1 X2 X3 X4 X5 X6 X7 X8 X9 X10 X11 X12 X13 X14 X15 X16 X17 X18 ESC B Z H A C R J L I TAB D K T V ^A ^T Q U ^U X G
   M ^S ^Y S FS ^X O N FN Y P PW ER EW EC EF EK EX"
@@ -14,33 +14,36 @@ _teco_options() {
       echo "--limit --memory --stop --set --set-file --exact --any-case --esc -e -h --help"
       ;;
     verify)
-      echo "-e -f --library -r --register --changes --json --rules --esc -h --help"
+      echo "-e -f --library -r --register --changes --json --rules --effort --esc -h --help"
       ;;
     check)
       echo "-e -f --library -r --register --json --rules --esc -h --help"
       ;;
     apply)
-      echo "-e -f --library -r --register --memory --arg --set --set-file --exact --any-case --rules --esc --pages
-        --strict --stats --json --cert --keep --add --take --most -q --quiet -h --help"
+      echo "-e -f --library -r --register --memory --arg --set --set-file --exact --any-case --rules --effort --esc
+        --pages --strict --stats --json --cert --keep --add --take --most -q --quiet -h --help"
       ;;
     edit)
-      echo "-e -f --library -r --register --memory --arg --set --set-file --exact --any-case --rules --esc --pages
-        --strict --beyond-promise --stats --cert --tested --dry-run --check -0 --null --json --keep --add --take --most
-        --diff --color --files-from --recursive --include --exclude --binary --backup --force-backup --durable
-        --with-names --no-names -q --quiet -h --help"
+      echo "-e -f --library -r --register --memory --arg --set --set-file --exact --any-case --rules --effort --esc
+        --pages --strict --beyond-promise --stats --cert --tested --dry-run --check -0 --null --json --keep --add
+        --take --most --diff --color --files-from --recursive --include --exclude --binary --backup --force-backup
+        --durable --with-names --no-names -q --quiet -h --help"
       ;;
     trace)
-      echo "-e -f --library -r --register --limit --memory --arg --set --set-file --exact --any-case --rules --esc
-        --pages --beyond-promise -h --help"
+      echo "-e -f --library -r --register --limit --memory --arg --set --set-file --exact --any-case --rules --effort
+        --esc --pages --beyond-promise -h --help"
       ;;
     test)
-      echo "-e -f --library -r --register --fuzz --exact --any-case --color --json --rules --esc -h --help"
+      echo "-e -f --library -r --register --fuzz --exact --any-case --color --json --rules --effort --esc -h --help"
+      ;;
+    list)
+      echo "-h --help"
       ;;
     show)
       echo "--source --esc -h --help"
       ;;
     explain)
-      echo "-e -f --library -r --register --json --rules --esc -h --help"
+      echo "-e -f --library -r --register --json --rules --effort --esc -h --help"
       ;;
   esac
 }
@@ -60,6 +63,18 @@ _teco_registers() {
     echo A
     LC_ALL=C grep -aoE "(\\^U|"$'\025'")[A-Za-z0-9]" -- "$1" 2>/dev/null | LC_ALL=C grep -aoE '[A-Za-z0-9]$'
   } | sort -u
+}
+
+# The names of macros, and the keys of the texts that one takes.
+_teco_names() {
+  teco list 2>/dev/null | sed 's/[ :].*//'
+}
+_teco_keys() {
+  teco list 2>/dev/null | awk -v name="$1" '$1 == name { for (at = 2; at <= NF; at++) {
+    key = $at; sub(/[=:].*/, "", key); print key "="; if ($at ~ /:$/) exit } }'
+}
+_teco_is_name() {
+  [[ $1 =~ ^[A-Za-z][A-Za-z0-9_-]*$ && ! -f $1 ]]
 }
 
 # Offers the words of a list that begin with a text, behind what stands before an equals sign.
@@ -155,6 +170,19 @@ _teco_offer_operand() {
     explain)
       if [ "$count" -eq 0 ] && [ -z "$by_option" ]; then
         mapfile -t COMPREPLY < <(compgen -f -- "$current"; compgen -W "$_teco_words" -- "$current")
+        return
+      fi
+      ;;
+  esac
+  case $command in
+    verify | edit | test | show)
+      if [ "$count" -eq 0 ] && [ -z "$by_option" ]; then
+        mapfile -t COMPREPLY < <(compgen -f -- "$current"; compgen -W "$(_teco_names)" -- "$current")
+        return
+      fi
+      if [ "$command" = edit ] && [ -z "$by_option" ] && _teco_is_name "$first"; then
+        mapfile -t COMPREPLY < <(compgen -f -- "$current"; compgen -W "$(_teco_keys "$first")" -- "$current")
+        [[ ${COMPREPLY[*]} != *= ]] || compopt -o nospace 2>/dev/null
         return
       fi
       ;;

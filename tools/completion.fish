@@ -38,6 +38,28 @@ function __teco_wants_register
     test "$(__teco_operands)" = operand
 end
 
+function __teco_wants_name
+    __teco_of verify edit test show; and test -z "$(__teco_operands)"
+end
+
+# The words behind the command that are no options, with the first one a name: edit NAME KEY=TEXT ..
+function __teco_wants_text
+    __teco_of edit; and contains -- operand (__teco_operands); and not contains -- option (__teco_operands)
+end
+
+function __teco_names
+    teco list 2>/dev/null | string replace -r '[ :].*' ''
+end
+
+# The keys of the texts that the macros named in the line take.
+function __teco_keys
+    set -l words (commandline -opc)
+    for row in (teco list 2>/dev/null | string replace -r ':( .*)?$' '')
+        set -l parts (string split ' ' -- $row)
+        contains -- $parts[1] $words[3..-1]; and string replace -r '=?$' '=' -- (string replace -r '=.*' '' -- $parts[2..-1])
+    end
+end
+
 function __teco_wants_word
     __teco_of explain; and test -z "$(__teco_operands)"
 end
@@ -70,7 +92,8 @@ complete -c teco -n __fish_use_subcommand -x -a apply -d 'Edits a file by a veri
 complete -c teco -n __fish_use_subcommand -x -a edit -d 'Edits files in place by a verified macro'
 complete -c teco -n __fish_use_subcommand -x -a trace -d 'Lists the steps of a macro on a file, and writes no file'
 complete -c teco -n __fish_use_subcommand -x -a test -d 'Tries the examples in the comments of a library'
-complete -c teco -n __fish_use_subcommand -x -a show -d 'Prints a file of TECO text as its elements'
+complete -c teco -n __fish_use_subcommand -x -a list -d 'Prints the names of macros'
+complete -c teco -n __fish_use_subcommand -x -a show -d 'Prints a macro, or a file of TECO text, as its elements'
 complete -c teco -n __fish_use_subcommand -x -a explain \
   -d 'Says what a code or a refusal means and how to mend what causes it'
 complete -c teco -n __fish_use_subcommand -x -a help -d 'Print this message or the help of the given subcommand(s)'
@@ -89,7 +112,7 @@ complete -c teco -n '__teco_of run apply edit trace test' -l any-case -d 'Begin 
 complete -c teco -n '__teco_of run verify check apply edit trace test show explain' -l esc -x -a 'none' \
   -d 'The character that stands for ESC'
 complete -c teco -n '__teco_of run' -s e -x -d 'Command strings in the readable form, with $ for ESC'
-complete -c teco -n '__teco_of run verify check apply edit trace test show explain' -s h -l help -d 'Print help'
+complete -c teco -n '__teco_of run verify check apply edit trace test list show explain' -s h -l help -d 'Print help'
 complete -c teco -n '__teco_of verify check apply edit trace test explain' -s e -x \
   -d 'A line of the macro A, in the readable form, with $ for ESC'
 complete -c teco -n '__teco_of verify check apply edit trace test explain' -s f -l library -r -F \
@@ -100,6 +123,8 @@ complete -c teco -n '__teco_of verify' -l changes -d 'Print what each macro can 
 complete -c teco -n '__teco_of verify' -l json -d 'Print each verdict as an object of JSON in a line'
 complete -c teco -n '__teco_of verify check apply edit trace test explain' -l rules -x -a '1 2' \
   -d 'The edition of the rules that macros are verified by: 1 or 2'
+complete -c teco -n '__teco_of verify apply edit trace test explain' -l effort -x \
+  -d 'Look N times as long for what shows that a macro ends'
 complete -c teco -n '__teco_of check' -l json -d 'Print what the macro promises, or the refusal'
 complete -c teco -n '__teco_of apply edit trace' -l arg -x \
   -d 'The argument of the macro, where its library declares one'
@@ -144,13 +169,15 @@ complete -c teco -n '__teco_of trace' -l limit -x -d 'Steps that are listed at m
 complete -c teco -n '__teco_of test' -l fuzz -d 'Run the macro on short texts of what it looks for'
 complete -c teco -n '__teco_of test explain' -l json -d 'Print an object of JSON in each line'
 complete -c teco -n '__teco_of show' -l source -d 'Print a source that reads as the same bytes: readable'
-set -g __teco_valued --limit --memory --set --set-file --esc -e -f --library -r --register --rules --arg --pages \
-  --cert --keep --add --take --most --color --files-from --include --exclude --backup
+set -g __teco_valued --limit --memory --set --set-file --esc -e -f --library -r --register --rules --effort --arg \
+  --pages --cert --keep --add --take --most --color --files-from --include --exclude --backup
 set -g __teco_words ARG NAC NCA DIV POP DTB IIA ILL IQN ICE SRH TAG SNI BNI PES UTC UTM NFI NFO YCA OFO FUL LIM MEM \
   FNF INP OUT X1 X2 X3 X4 X5 X6 X7 X8 X9 X10 X11 X12 X13 X14 X15 X16 X17 X18 ESC B Z H A C R J L I TAB D K T V '^A' \
   '^T' Q U '^U' X G M '^S' '^Y' S FS '^X' O N FN Y P PW ER EW EC EF EK EX
 # END of the lists
 
 complete -c teco -n '__teco_wants_word' -a '$__teco_words'
+complete -c teco -n '__teco_wants_name' -a '(__teco_names)'
+complete -c teco -n '__teco_wants_text' -a '(__teco_keys)'
 complete -c teco -n '__teco_wants_register' -x -a '(__teco_registers)'
-complete -c teco -n '__teco_of help' -x -a 'run verify check apply edit trace show explain'
+complete -c teco -n '__teco_of help' -x -a 'run verify check apply edit trace test list show explain'

@@ -11,7 +11,8 @@ _teco_lists() {
     'edit:Edits files in place by a verified macro'
     'trace:Lists the steps of a macro on a file, and writes no file'
     'test:Tries the examples in the comments of a library'
-    'show:Prints a file of TECO text as its elements'
+    'list:Prints the names of macros'
+    'show:Prints a macro, or a file of TECO text, as its elements'
     'explain:Says what a code or a refusal means and how to mend what causes it'
     'help:Print this message or the help of the given subcommand(s)'
   )
@@ -43,6 +44,7 @@ _teco_options() {
         '--changes[Print what each macro can change in a text, in words]'
         '--json[Print each verdict as an object of JSON in a line]'
         '--rules=[The edition of the rules that macros are verified by\: 1 or 2]:N:(1 2)'
+        '--effort=[Look N times as long for what shows that a macro ends]:N: '
         '--esc=[The character that stands for ESC]:C:(none)'
         '(-h --help)'{-h,--help}'[Print help]'
       )
@@ -70,6 +72,7 @@ _teco_options() {
         '--exact[Begin with 1^X\: a letter of a search finds itself alone]'
         '--any-case[Begin with 0^X, as without it]'
         '--rules=[The edition of the rules that macros are verified by\: 1 or 2]:N:(1 2)'
+        '--effort=[Look N times as long for what shows that a macro ends]:N: '
         '--esc=[The character that stands for ESC]:C:(none)'
         '--pages=[The pages that are edited, which form feeds end\: first]:WHICH:(first each whole)'
         '--strict[Leave OUT as it was where the promise does not hold]'
@@ -96,6 +99,7 @@ _teco_options() {
         '--exact[Begin with 1^X\: a letter of a search finds itself alone]'
         '--any-case[Begin with 0^X, as without it]'
         '--rules=[The edition of the rules that macros are verified by\: 1 or 2]:N:(1 2)'
+        '--effort=[Look N times as long for what shows that a macro ends]:N: '
         '--esc=[The character that stands for ESC]:C:(none)'
         '--pages=[The pages that are edited, which form feeds end\: whole]:WHICH:(first each whole)'
         '--strict[Leave a file as it was where the promise does not hold for it]'
@@ -140,6 +144,7 @@ _teco_options() {
         '--exact[Begin with 1^X\: a letter of a search finds itself alone]'
         '--any-case[Begin with 0^X, as without it]'
         '--rules=[The edition of the rules that macros are verified by\: 1 or 2]:N:(1 2)'
+        '--effort=[Look N times as long for what shows that a macro ends]:N: '
         '--esc=[The character that stands for ESC]:C:(none)'
         '--pages=[The pages that are edited, which form feeds end\: first]:WHICH:(first each whole)'
         '--beyond-promise[Run the macro also where its promise does not hold]'
@@ -157,7 +162,13 @@ _teco_options() {
         '--color=[Colours of --diff\: always, never, or auto]:WHEN:(always never auto)'
         '--json[Print an object of JSON in each line]'
         '--rules=[The edition of the rules that macros are verified by\: 1 or 2]:N:(1 2)'
+        '--effort=[Look N times as long for what shows that a macro ends]:N: '
         '--esc=[The character that stands for ESC]:C:(none)'
+        '(-h --help)'{-h,--help}'[Print help]'
+      )
+      ;;
+    list)
+      options=(
         '(-h --help)'{-h,--help}'[Print help]'
       )
       ;;
@@ -175,6 +186,7 @@ _teco_options() {
         '(-r --register)'{-r,--register=}'[The register of the macro, where -e or -f is given]:REGISTER:_teco_registers'
         '--json[Print an object of JSON in each line]'
         '--rules=[The edition of the rules that macros are verified by\: 1 or 2]:N:(1 2)'
+        '--effort=[Look N times as long for what shows that a macro ends]:N: '
         '--esc=[The character that stands for ESC]:C:(none)'
         '(-h --help)'{-h,--help}'[Print help]'
       )
@@ -204,6 +216,24 @@ _teco_file_of_register() {
   fi
 }
 
+# The names of macros, and the keys of the texts that one takes.
+_teco_name_or_file() {
+  local -a names=(${(f)"$(teco list 2>/dev/null | sed 's/[ :].*//')"})
+  _alternative 'names:name:compadd -a names' 'files:library:_files'
+}
+_teco_text_or_file() {
+  local -a keys=(${(f)"$(teco list 2>/dev/null | awk -v name=${line[1]} '$1 == name { for (at = 2; at <= NF; at++) {
+    key = $at; sub(/[=:].*/, "", key); print key "="; if ($at ~ /:$/) exit } }')"})
+  _alternative 'texts:text:compadd -S "" -a keys' 'files:file:_files'
+}
+_teco_register_or_text() {
+  if [[ -f ${line[1]} || ${line[1]} != [A-Za-z]* || ${line[1]} == *[^A-Za-z0-9_-]* ]]; then
+    _teco_registers
+  else
+    _teco_text_or_file
+  fi
+}
+
 _teco_word_or_file() {
   _alternative 'words:word:compadd -a _teco_words' 'files:library:_files'
 }
@@ -213,8 +243,11 @@ _teco_operands() {
   local -a library
   case $1 in
     run) operands=('*:file:_files'); return ;;
-    show) operands=('1:file:_files'); return ;;
+    list) operands=(); return ;;
+    show) operands=('1:name or file:_teco_name_or_file'); return ;;
     explain) library=('1:word or library:_teco_word_or_file' '2:register:_teco_registers') ;;
+    edit) library=('1:name or library:_teco_name_or_file' '2:register or text:_teco_register_or_text') ;;
+    verify | test) library=('1:name or library:_teco_name_or_file' '2:register:_teco_registers') ;;
     *) library=('1:library:_files' '2:register:_teco_registers') ;;
   esac
   if (( ${words[(I)(-e*|-f*|-r*|--library*|--register*)]} )); then
@@ -223,7 +256,7 @@ _teco_operands() {
   case $1 in
     check) operands=($library ':certificate:_files') ;;
     apply) operands=($library ':input:_files' ':output:_files') ;;
-    edit) operands=($library '*:file:_files') ;;
+    edit) operands=($library '*:file:_teco_text_or_file') ;;
     trace) operands=($library ':input:_files') ;;
     *) operands=($library) ;;
   esac

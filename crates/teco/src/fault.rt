@@ -2,6 +2,7 @@
 use std::alloc::{AllocError, AllocFailed};
 use std::io;
 use teco_console::AnswerFault;
+use teco_named::NamedFault;
 use teco_tools::ToolFault;
 use teco_words::WordsFault;
 use thiserror::Error;
@@ -12,6 +13,9 @@ pub enum ProgramFault {
     /// The command line is not valid.
     #[error("{0}")]
     Words(WordsFault),
+    /// A macro is called by a name, and there is none, or one that takes other texts.
+    #[error("{0}")]
+    Named(NamedFault),
     /// What was asked for can't be done.
     #[error("{0}")]
     Tool(ToolFault),
@@ -39,6 +43,15 @@ impl ProgramFault {
 impl From<WordsFault> for ProgramFault {
     fn from(fault: WordsFault) -> ProgramFault {
         ProgramFault::Words(fault)
+    }
+}
+
+impl From<NamedFault> for ProgramFault {
+    fn from(fault: NamedFault) -> ProgramFault {
+        match fault {
+            NamedFault::System(error) => ProgramFault::System(error),
+            other => ProgramFault::Named(other),
+        }
     }
 }
 

@@ -6,14 +6,17 @@ ghost use Rattle.teco_hosts.specs.HostFiles.{Notes};
 ghost use Rattle.teco_options.specs.declared.editing.TheConstants.{NAME};
 
 mod fault;
+mod named;
 
 use crate::fault::ProgramFault;
+use crate::named::{behind, called, called_by, settings_of, tell_file};
 use clap::ArgMatches;
 use std::alloc::Global;
 use std::io::{Input, IsTerminal, Write};
 use std::process::ExitCode;
 use std::{env, io};
 use teco_applied::{Errand, apply_macro, edit_files, trace_macro};
+use teco_base::Reg;
 use teco_console::{
     Console, Outcome, Request, Setting, explain, explain_all, explain_as_json, method_for, show,
     show_source,
@@ -26,6 +29,7 @@ use teco_hosts::Host;
 use teco_infer::Inference;
 use teco_jobs::{CountsForm, Listing, Names, Task};
 use teco_judging::Judged;
+use teco_named::{CalledMacro, GivenTexts, MacroFolders, list_macros, show_macro};
 use teco_pages::FileHost;
 use teco_policy::Policy;
 use teco_tools::{
@@ -35,7 +39,7 @@ use teco_verdicts::{
     ChangesForm, check_macro, check_macro_as_json, explain_macro, explain_macro_as_json,
     tell_changes, verify_library, verify_library_as_json, verify_macro, verify_macro_as_json,
 };
-use teco_words::{CommandLine, VerdictForm, WordsFault};
+use teco_words::{BehindName, CommandLine, VerdictForm, WordsFault};
 
 /// The command line names no command, or a file of macros, a certificate, standard input, standard
 /// output or memory failed.
@@ -100,8 +104,15 @@ fn run<O: Write + Drop, E: Write + Drop>(
 }
 
 // The library that is named, how it writes ESC, and by which rules it is verified.
-fn request<'m>(given: &'m ArgMatches<'_>, is_best: bool) -> Result<Request<'m>, WordsFault> {
-    let library = teco_words::origin(given)?;
+fn request<'m>(
+    given: &'m ArgMatches<'_>,
+    called: Option<&'m CalledMacro>,
+    is_best: bool,
+) -> Result<Request<'m>, WordsFault> {
+    let library = match called {
+        Some(called) => called.origin(),
+        None => teco_words::origin(given)?,
+    };
     let escape = teco_words::escape_of(given)?;
     let is_best = is_best || library.is_readable(escape);
     Ok(Request {
@@ -111,17 +122,56 @@ fn request<'m>(given: &'m ArgMatches<'_>, is_best: bool) -> Result<Request<'m>, 
     })
 }
 
-// `show`, in a form that people read or that reads as the same bytes.
+// The register of the macro.
+fn entry(given: &ArgMatches<'_>, called: Option<&CalledMacro>) -> Result<Reg, WordsFault> {
+    match called {
+        Some(called) => Ok(called.entry()),
+        None => teco_words::entry(given),
+    }
+}
+
+// The register of the macro, if one is named.
+fn named_entry(
+    given: &ArgMatches<'_>,
+    called: Option<&CalledMacro>,
+    is_named: bool,
+) -> Result<Option<Reg>, WordsFault> {
+    if called.is_some() {
+        teco_words::check_name(given)?;
+    } else if !is_named {
+        return Ok(None);
+    }
+    Ok(Some(entry(given, called)?))
+}
+
+// `list`.
+fn list<O: Write + Drop, E: Write + Drop>(
+    rt: &HostRuntime,
+    console: &mut Console<O, E>,
+) -> Result<Outcome, ProgramFault> {
+    let folders = MacroFolders::read(rt)?;
+    Ok(list_macros(rt, console, &folders)?)
+}
+
+// `show`, in a form that people read or that reads as the same bytes; a macro that is called by its name
+// as it is written.
 fn show_file<O: Write + Drop, E: Write + Drop>(
     rt: &HostRuntime,
     console: &mut Console<O, E>,
     given: &ArgMatches<'_>,
 ) -> Result<Outcome, ProgramFault> {
     let escape = teco_words::escape_of(given)?;
-    let name = teco_words::word(given, "FILE");
+    let called = called_by(rt, teco_words::name_in(given, "FILE"))?;
+    let name = match &called {
+        Some(called) => called.path(),
+        None => teco_words::word(given, "FILE"),
+    };
     if given.get_flag("source") {
         let form = teco_words::form_of_source(escape);
         return Ok(show_source(rt, console, name, form)?);
+    }
+    if let Some(called) = &called {
+        return Ok(show_macro(rt, console, called)?);
     }
     let mark = teco_words::mark_of(escape);
     Ok(show(rt, console, name, mark)?)
@@ -133,12 +183,10 @@ fn verify<O: Write + Drop, E: Write + Drop>(
     console: &mut Console<O, E>,
     given: &ArgMatches<'_>,
 ) -> Result<Outcome, ProgramFault> {
-    let entry = if teco_words::names_macro(given) {
-        Some(teco_words::entry(given)?)
-    } else {
-        None
-    };
-    let request = request(given, entry.is_none())?;
+    console.effort = teco_words::effort_of(given)?;
+    let called = called(rt, given)?;
+    let entry = named_entry(given, called.as_ref(), teco_words::names_macro(given))?;
+    let request = request(given, called.as_ref(), entry.is_none())?;
     Ok(match (teco_words::verdict_form(given), entry) {
         (VerdictForm::Changes, entry) => {
             tell_changes::<Inference, _, _, _>(rt, console, request, entry, ChangesForm::Words)?
@@ -167,7 +215,7 @@ fn check<O: Write + Drop, E: Write + Drop>(
     console: &mut Console<O, E>,
     given: &ArgMatches<'_>,
 ) -> Result<Outcome, ProgramFault> {
-    let request = request(given, false)?;
+    let request = request(given, None, false)?;
     let entry = teco_words::entry(given)?;
     let certificate = teco_words::word(given, "CERT");
     if given.get_flag("json") {
@@ -194,12 +242,13 @@ fn counts(given: &ArgMatches<'_>) -> Option<CountsForm> {
 // How a macro edits files.
 fn task<'m, 's>(
     given: &'m ArgMatches<'_>,
+    called: Option<&'m CalledMacro>,
     settings: &'s [Setting],
     is_best: bool,
 ) -> Result<Task<'m, 's>, ProgramFault> {
     Ok(Task {
-        library: request(given, is_best)?,
-        entry: teco_words::entry(given)?,
+        library: request(given, called, is_best)?,
+        entry: entry(given, called)?,
         certificate: given.get_str("cert"),
         argument: teco_words::given(given)?,
         pages: teco_words::pages(given)?,
@@ -212,10 +261,17 @@ fn task<'m, 's>(
     })
 }
 
+// How an answer is given aside: what is said, and how many times the usual steps a search may take.
+#[derive(Clone, Copy)]
+struct AsideManner {
+    is_quiet: bool,
+    effort: u32,
+}
+
 // Applies a macro, and tells on standard error what there is to tell.
 fn apply_aside<'p, H: Host + Reporting + Drop>(
     rt: &HostRuntime,
-    is_quiet: bool,
+    manner: AsideManner,
     task: &Task<'_, '_>,
     errand: Errand<'_>,
     host: &mut Judged<'p, H>,
@@ -224,7 +280,8 @@ fn apply_aside<'p, H: Host + Reporting + Drop>(
 {
     let errors = rt.stderr();
     let mut aside = Console::new(rt.alloc(), io::writer(&errors), io::writer(&errors));
-    if is_quiet {
+    aside.effort = manner.effort;
+    if manner.is_quiet {
         aside.voice.hush();
     }
     apply_macro::<Inference, _, _, _, _>(rt, &mut aside, task, errand, host)
@@ -234,7 +291,7 @@ fn apply_aside<'p, H: Host + Reporting + Drop>(
 fn apply_over<O: Write + Drop, E: Write + Drop>(
     rt: &HostRuntime,
     console: &mut Console<O, E>,
-    is_quiet: bool,
+    manner: AsideManner,
     task: &Task<'_, '_>,
     errand: Errand<'_>,
 ) -> Result<Outcome, ToolFault> {
@@ -243,7 +300,7 @@ fn apply_over<O: Write + Drop, E: Write + Drop>(
     let streams = Streams::new(rt.alloc(), files, rt.reader(), io::writer(rt));
     let mut host = Judged::new(rt.alloc(), streams, errand.policies);
     if errand.names.target == OUTPUT {
-        apply_aside(rt, is_quiet, task, errand, &mut host)
+        apply_aside(rt, manner, task, errand, &mut host)
     } else {
         apply_macro::<Inference, _, _, _, _>(rt, console, task, errand, &mut host)
     }
@@ -296,12 +353,16 @@ fn apply<'a, O: Write + Drop, E: Write + Drop>(
     if given.get_flag("quiet") {
         console.voice.hush();
     }
+    console.effort = teco_words::effort_of(given)?;
     let settings = settings(rt, given)?;
-    let task = task(given, &settings, false)?;
+    let task = task(given, None, &settings, false)?;
     teco_words::check_streams(given, task.is_strict)?;
     let named = NamedErrand::read(rt.alloc(), given, arguments)?;
-    let is_quiet = given.get_flag("quiet");
-    Ok(apply_over(rt, console, is_quiet, &task, named.errand())?)
+    let manner = AsideManner {
+        is_quiet: given.get_flag("quiet"),
+        effort: console.effort,
+    };
+    Ok(apply_over(rt, console, manner, &task, named.errand())?)
 }
 
 // Are colours shown where the words leave that open?
@@ -323,29 +384,31 @@ fn test<O: Write + Drop, E: Write + Drop>(
     console: &mut Console<O, E>,
     given: &ArgMatches<'_>,
 ) -> Result<Outcome, ProgramFault> {
-    if given.get_flag("fuzz") {
-        let entry = teco_words::entry(given)?;
+    console.effort = teco_words::effort_of(given)?;
+    let called = called(rt, given)?;
+    let called = called.as_ref();
+    let is_named = given.get_flag("fuzz") || teco_words::names_register(given);
+    let entry = named_entry(given, called, is_named)?;
+    if given.get_flag("fuzz")
+        && let Some(entry) = entry
+    {
         let case = teco_words::case(given)?;
         return Ok(fuzz_macro::<Inference, _, _, _>(
             rt,
             console,
-            request(given, true)?,
+            request(given, called, true)?,
             entry,
             case,
         )?);
     }
-    let entry = if teco_words::names_register(given) {
-        Some(teco_words::entry(given)?)
-    } else {
-        None
-    };
     let tests = Tests {
         entry,
         case: teco_words::case(given)?,
         look: teco_words::look(given, shows_colours(rt))?,
         prints_objects: given.get_flag("json"),
     };
-    Ok(test_examples::<Inference, _, _, _>(rt, console, request(given, true)?, tests)?)
+    let request = request(given, called, true)?;
+    Ok(test_examples::<Inference, _, _, _>(rt, console, request, tests)?)
 }
 
 // Do the examples of the library stand? One from standard input can't be read twice.
@@ -353,6 +416,7 @@ fn is_tested<O: Write + Drop, E: Write + Drop>(
     rt: &HostRuntime,
     console: &mut Console<O, E>,
     given: &ArgMatches<'_>,
+    called: Option<&CalledMacro>,
 ) -> Result<bool, ProgramFault> {
     teco_words::check_tested(given)?;
     let tests = Tests {
@@ -361,7 +425,8 @@ fn is_tested<O: Write + Drop, E: Write + Drop>(
         look: teco_words::look(given, shows_colours(rt))?,
         prints_objects: false,
     };
-    let outcome = test_examples::<Inference, _, _, _>(rt, console, request(given, true)?, tests)?;
+    let request = request(given, called, true)?;
+    let outcome = test_examples::<Inference, _, _, _>(rt, console, request, tests)?;
     Ok(matches!(outcome, Outcome::Done))
 }
 
@@ -370,10 +435,9 @@ fn chosen_files<'a, O: Write + Drop, E: Write + Drop>(
     rt: &HostRuntime,
     console: &mut Console<O, E>,
     given: &ArgMatches<'a>,
-    arguments: &'a CommandLine,
+    names: &[&[u8]],
 ) -> Result<Vec<ChosenFile>, ProgramFault> {
-    let names = teco_words::file_names(rt.alloc(), given, arguments)?;
-    let choice = teco_words::choice(given, &names)?;
+    let choice = teco_words::choice(given, names)?;
     Ok(choose(rt, &mut console.voice, &choice)?)
 }
 
@@ -381,6 +445,56 @@ fn chosen_files<'a, O: Write + Drop, E: Write + Drop>(
 // names, or differences, it is for programs or safe as it is.
 fn prints_names(rt: &HostRuntime, given: &ArgMatches<'_>) -> bool {
     rt.stdout().is_terminal() && !given.get_flag("null") && !given.get_flag("diff")
+}
+
+// Edits files by a macro, with what stands behind it in the command line.
+fn edit_behind<O: Write + Drop, E: Write + Drop>(
+    rt: &HostRuntime,
+    console: &mut Console<Escaping<O>, E>,
+    given: &ArgMatches<'_>,
+    called: Option<&CalledMacro>,
+    behind: BehindName<'_>,
+) -> Result<EditOutcome, ProgramFault> {
+    let texts = GivenTexts {
+        words: behind.given,
+        settings: settings(rt, given)?,
+    };
+    let settings = settings_of(rt, called, teco_words::escape_of(given)?, texts)?;
+    let task = Task {
+        is_strict: !given.get_flag("beyond-promise"),
+        wants_all: false,
+        tells_promise: called.is_some() || teco_words::has_macro_options(given),
+        // objects have the counts
+        counts: given.get_flag("stats").then_some(CountsForm::InWords),
+        ..task(given, called, &settings, true)?
+    };
+    let files = chosen_files(rt, console, given, &behind.files)?;
+    let policies = teco_words::policies_of(rt.alloc(), given)?;
+    let edit = in_place(rt, given, &files)?;
+    tell_file(console, called);
+    Ok(edit_files::<Inference, _, _, _>(rt, console, &task, &edit, policies)?)
+}
+
+// How files are edited in place.
+fn in_place<'m>(
+    rt: &HostRuntime,
+    given: &'m ArgMatches<'_>,
+    files: &'m [ChosenFile],
+) -> Result<InPlaceEdits<'m>, WordsFault> {
+    let look = teco_words::look(given, shows_colours(rt))?;
+    Ok(InPlaceEdits {
+        files,
+        policies: &[],
+        takes_binary: given.get_flag("binary"),
+        diff: given.get_flag("diff").then_some(look),
+        shows_progress: rt.stderr().is_terminal() && !given.get_flag("quiet"),
+        change: teco_words::change(given),
+        ends_by_nul: given.get_flag("null"),
+        prints_objects: given.get_flag("json"),
+        keeping: teco_words::keeping(given),
+        is_durable: given.get_flag("durable"),
+        naming: teco_words::naming(given),
+    })
 }
 
 // `edit`.
@@ -393,38 +507,17 @@ fn edit<'a, O: Write + Drop, E: Write + Drop>(
     if given.get_flag("quiet") {
         console.voice.hush();
     }
+    console.effort = teco_words::effort_of(given)?;
     if prints_names(rt, given) {
         console.out.turn_on();
     }
-    if given.get_flag("tested") && !is_tested(rt, console, given)? {
+    let called = called(rt, given)?;
+    let called = called.as_ref();
+    let behind = behind(rt.alloc(), called, given, arguments)?;
+    if given.get_flag("tested") && !is_tested(rt, console, given, called)? {
         return Ok(EditOutcome::Refused);
     }
-    let settings = settings(rt, given)?;
-    let task = Task {
-        is_strict: !given.get_flag("beyond-promise"),
-        wants_all: false,
-        tells_promise: teco_words::has_macro_options(given),
-        // objects have the counts
-        counts: given.get_flag("stats").then_some(CountsForm::InWords),
-        ..task(given, &settings, true)?
-    };
-    let files = chosen_files(rt, console, given, arguments)?;
-    let look = teco_words::look(given, shows_colours(rt))?;
-    let policies = teco_words::policies_of(rt.alloc(), given)?;
-    let edit = InPlaceEdits {
-        files: &files,
-        policies: &[],
-        takes_binary: given.get_flag("binary"),
-        diff: given.get_flag("diff").then_some(look),
-        shows_progress: rt.stderr().is_terminal() && !given.get_flag("quiet"),
-        change: teco_words::change(given),
-        ends_by_nul: given.get_flag("null"),
-        prints_objects: given.get_flag("json"),
-        keeping: teco_words::keeping(given),
-        is_durable: given.get_flag("durable"),
-        naming: teco_words::naming(given),
-    };
-    Ok(edit_files::<Inference, _, _, _>(rt, console, &task, &edit, policies)?)
+    edit_behind(rt, console, given, called, behind)
 }
 
 // Traces a macro over files of the system, or standard input. What it writes to files is dropped.
@@ -447,9 +540,10 @@ fn trace<'a, O: Write + Drop, E: Write + Drop>(
     given: &ArgMatches<'a>,
     arguments: &'a CommandLine,
 ) -> Result<Outcome, ProgramFault> {
+    console.effort = teco_words::effort_of(given)?;
     let settings = settings(rt, given)?;
     let task = Task {
-        library: request(given, true)?,
+        library: request(given, None, true)?,
         entry: teco_words::entry(given)?,
         certificate: None,
         argument: teco_words::given(given)?,
@@ -478,10 +572,11 @@ fn explain_what<O: Write + Drop, E: Write + Drop>(
     console: &mut Console<O, E>,
     given: &ArgMatches<'_>,
 ) -> Result<Outcome, ProgramFault> {
+    console.effort = teco_words::effort_of(given)?;
     let is_json = given.get_flag("json");
     if teco_words::names_macro(given) {
         let entry = teco_words::entry(given)?;
-        let request = request(given, true)?;
+        let request = request(given, None, true)?;
         return Ok(if is_json {
             explain_macro_as_json::<Inference, _, _, _>(rt, console, request, entry)?
         } else {
@@ -523,7 +618,7 @@ fn obey_and_hint<'a, O: Write + Drop, E: Write + Drop>(
 ) -> Result<u8, ProgramFault> {
     let status = obey(rt, console, matches, arguments)?;
     match matches.subcommand() {
-        Some((name, given)) if name != "show" && status > 0 => {
+        Some((name, given)) if name != "show" && name != "list" && status > 0 => {
             tell_hint(rt, console, given);
         }
         _ => {}
@@ -550,6 +645,7 @@ fn obey<'a, O: Write + Drop, E: Write + Drop>(
         "edit" => Ok(edit(rt, console, given, arguments)?.status()),
         "test" => Ok(test(rt, console, given)?.status()),
         "trace" => Ok(trace(rt, console, given, arguments)?.status()),
+        "list" => Ok(list(rt, console)?.status()),
         "show" => Ok(show_file(rt, console, given)?.status()),
         "explain" => Ok(explain_what(rt, console, given)?.status()),
         _ => Err(WordsFault::Unknown.into()),

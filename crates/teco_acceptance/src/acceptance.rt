@@ -11,7 +11,7 @@ use crate::unaccepted::Unaccepted;
 use std::alloc::{AllocError, Global};
 use teco_base::Reg;
 use teco_claimed::Claimed;
-use teco_console::{Edition, Method};
+use teco_console::{Edition, Means, Method};
 use teco_library::Library;
 use teco_paths::search::ClaimSearch;
 use teco_promise::Promise;
@@ -102,30 +102,30 @@ fn by_table<'l>(alloc: Global, library: &'l Library, entry: Reg) -> Result<Accep
 
 // Verified by claims.
 fn by_claims<'l, S: ClaimSearch>(
-    alloc: Global,
+    means: Means,
     library: &'l Library,
     entry: Reg,
 ) -> Result<Accepted<'l>, Unaccepted>
     ensures is { IfOk result (IsOf library.now entry) }
     ensures edition { IfOk result (λ accepted. edition_of accepted ≡ Second) }
 {
-    let claimed = verified_by_claims::<S>(alloc, library, entry)?;
+    let claimed = verified_by_claims::<S>(means, library, entry)?;
     Ok(Accepted::Claims(claimed))
 }
 
 // Verified by claims, or by a table where there are none. Where both editions refuse it, the second
 // says why. Want of memory is no refusal.
 fn by_either<'l, S: ClaimSearch>(
-    alloc: Global,
+    means: Means,
     library: &'l Library,
     entry: Reg,
 ) -> Result<Accepted<'l>, Unaccepted>
     ensures is { IfOk result (IsOf library.now entry) }
     ensures refused { IfErr result (λ unaccepted. IsRefusedBy Best library.now entry unaccepted.refusal) }
 {
-    match by_claims::<S>(alloc, library, entry) {
+    match by_claims::<S>(means, library, entry) {
         Ok(accepted) => Ok(accepted),
-        Err(unaccepted) => match by_table(alloc, library, entry) {
+        Err(unaccepted) => match by_table(means.alloc, library, entry) {
             Ok(accepted) => Ok(accepted),
             Err(Refusal::No { .. }) => Err(unaccepted),
             Err(Refusal::Memory) => Err(Unaccepted::from(Refusal::Memory)),
@@ -135,7 +135,7 @@ fn by_either<'l, S: ClaimSearch>(
 
 /// A macro of a library, if it is accepted by a method.
 pub fn verified_by<'l, S: ClaimSearch>(
-    alloc: Global,
+    means: Means,
     library: &'l Library,
     entry: Reg,
     method: Method,
@@ -145,8 +145,8 @@ pub fn verified_by<'l, S: ClaimSearch>(
     ensures refused { IfErr result (λ unaccepted. IsRefusedBy method library.now entry unaccepted.refusal) }
 {
     match method {
-        Method::Only(Edition::First) => Ok(by_table(alloc, library, entry)?),
-        Method::Only(Edition::Second) => by_claims::<S>(alloc, library, entry),
-        Method::Best => by_either::<S>(alloc, library, entry),
+        Method::Only(Edition::First) => Ok(by_table(means.alloc, library, entry)?),
+        Method::Only(Edition::Second) => by_claims::<S>(means, library, entry),
+        Method::Best => by_either::<S>(means, library, entry),
     }
 }

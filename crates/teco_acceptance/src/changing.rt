@@ -1,8 +1,8 @@
 //! What an accepted macro can change, in words.
 use std::alloc::{AllocError, Global};
 use std::fmt::Write;
+use teco_change_policies::Facts;
 use teco_change_words::{NOTHING_TOLD, in_words};
-use teco_changes::Facts;
 use teco_promise::Promise;
 use teco_told::changes_of_promise;
 

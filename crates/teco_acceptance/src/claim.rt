@@ -16,7 +16,7 @@ use crate::unaccepted::Unaccepted;
 use std::alloc::Global;
 use teco_base::Reg;
 use teco_base::bytes::LF;
-use teco_console::{AnswerFault, Edition, Method, Shelf, read_file};
+use teco_console::{AnswerFault, Edition, Means, Method, Shelf, read_file};
 use teco_library::Library;
 use teco_paths::search::ClaimSearch;
 use teco_verify::{Refusal, Verified, check_certificate};
@@ -163,7 +163,7 @@ fn accepted_by<'l>(
 
 /// A macro of a library, by its certificate if there is one, or verified anew.
 pub fn accepted<'l, S: ClaimSearch>(
-    alloc: Global,
+    means: Means,
     library: &'l Library,
     entry: Reg,
     method: Method,
@@ -174,7 +174,7 @@ pub fn accepted<'l, S: ClaimSearch>(
         (λ accepted. certificate_of accepted ≡ claim.now.bytes.items)) }
 {
     match claim {
-        None => verified_by::<S>(alloc, library, entry, method),
-        Some(claim) => accepted_by(alloc, library, entry, method, claim),
+        None => verified_by::<S>(means, library, entry, method),
+        Some(claim) => accepted_by(means.alloc, library, entry, method, claim),
     }
 }

@@ -11,7 +11,7 @@ use crate::unaccepted::Unaccepted;
 use std::alloc::Global;
 use teco_base::Reg;
 use teco_claimed::{Claimed, LinearRefusal, NodePlace, check_linear};
-use teco_console::NAMES;
+use teco_console::{Means, NAMES};
 use teco_expansion::ExpandFault;
 use teco_library::Library;
 use teco_paths::search::{ClaimSearch, SearchRefusal as Unfound};
@@ -137,7 +137,7 @@ pub fn refusal_of_text(refused: &LinearRefusal) -> Refusal
 
 /// A macro of a library, by claims that are found and checked.
 pub fn verified_by_claims<'l, S: ClaimSearch>(
-    alloc: Global,
+    means: Means,
     library: &'l Library,
     entry: Reg,
 ) -> Result<Claimed<'l>, Unaccepted>
@@ -145,10 +145,10 @@ pub fn verified_by_claims<'l, S: ClaimSearch>(
     ensures declared { IfOk result (λ claimed. TakesDeclared library.now claimed.certificate) }
     ensures entry { IfOk result (λ claimed. claimed.certificate.entry ≡ entry) }
 {
-    match claimed_by::<S>(alloc, library, entry) {
+    match claimed_by::<S>(means, library, entry) {
         Ok(claimed) => Ok(claimed),
         Err(unclaimed) => Err(Unaccepted {
-            refusal: refusal_of(alloc, library, entry, &unclaimed.unverified.refusal),
+            refusal: refusal_of(means.alloc, library, entry, &unclaimed.unverified.refusal),
             unclaimed: Some(unclaimed),
         }),
     }

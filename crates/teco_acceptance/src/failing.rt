@@ -7,9 +7,10 @@ ghost use Rattle.teco_claimed.specs.Claimed.{TakesDeclared};
 use std::alloc::Global;
 use teco_base::Reg;
 use teco_claimed::{Claimed, LinearRefusal, Unverified, verify_further, verify_quickly};
+use teco_console::Means;
 use teco_library::Library;
 use teco_model::Needs;
-use teco_paths::search::ClaimSearch;
+use teco_paths::search::{ClaimSearch, Effort};
 use teco_witness::{Subject, Witness, WitnessEnd, find_witness};
 
 /// How many steps of the machine small worlds are tried in.
@@ -20,6 +21,8 @@ const STEPS: u64 = 5_000_000;
 pub struct Unclaimed {
     pub unverified: Unverified,
     pub witness: Option<Witness>,
+    /// How many times the usual number of steps the search might take.
+    pub effort: u32,
 }
 
 // A small world on which a macro fails that needs these files; none where memory is refused.
@@ -50,7 +53,7 @@ fn is_decided(witness: &Option<Witness>) -> bool {
 ///
 /// Why the quickest way finds none, with the small world. There may be some all the same.
 pub fn claimed_by<'l, S: ClaimSearch>(
-    alloc: Global,
+    means: Means,
     library: &'l Library,
     entry: Reg,
 ) -> Result<Claimed<'l>, Unclaimed>
@@ -59,7 +62,8 @@ pub fn claimed_by<'l, S: ClaimSearch>(
     ensures entry { IfOk result (λ claimed. claimed.certificate.entry ≡ entry) }
     ensures fails { IfErr result (λ unclaimed. IfSome unclaimed.witness (FailsOn library.now entry)) }
 {
-    let unverified = match verify_quickly::<S>(library, entry, alloc) {
+    let (alloc, effort) = (means.alloc, Effort::of(means.effort));
+    let unverified = match verify_quickly::<S>(library, entry, effort, alloc) {
         Ok(claimed) => return Ok(claimed),
         Err(unverified) => unverified,
     };
@@ -71,13 +75,15 @@ pub fn claimed_by<'l, S: ClaimSearch>(
         return Err(Unclaimed {
             unverified,
             witness,
+            effort: means.effort,
         });
     }
-    match verify_further::<S>(library, entry, unverified, alloc) {
+    match verify_further::<S>(library, entry, unverified, effort, alloc) {
         Ok(claimed) => Ok(claimed),
         Err(unverified) => Err(Unclaimed {
             unverified,
             witness,
+            effort: means.effort,
         }),
     }
 }

@@ -11,7 +11,7 @@ use std::alloc::Global;
 use std::io::Write;
 use teco_base::{LIMIT, Reg};
 use teco_console::{
-    AnswerFault, Console, Edition, Method, ReadLibrary, Request, Setting, Shelf, Sourced,
+    AnswerFault, Console, Edition, Means, Method, ReadLibrary, Request, Setting, Shelf, Sourced,
     read_source,
 };
 use teco_explain::Explained;
@@ -103,15 +103,15 @@ fn is_written(refusal: &Refusal) -> bool {
 
 // Is a library better that has the texts which registers are given? Not where the macro writes one of
 // them, and not where it alone is refused.
-fn is_better<S: ClaimSearch>(alloc: Global, fixed: &Sourced, plain: &Sourced, entry: Reg) -> bool {
-    let found = verified_by::<S>(alloc, &fixed.library, entry, fixed.method);
+fn is_better<S: ClaimSearch>(means: Means, fixed: &Sourced, plain: &Sourced, entry: Reg) -> bool {
+    let found = verified_by::<S>(means, &fixed.library, entry, fixed.method);
     let Some(unaccepted) = found.err() else {
         return true;
     };
     if is_written(&unaccepted.refusal) {
         return false;
     }
-    verified_by::<S>(alloc, &plain.library, entry, plain.method).is_err()
+    verified_by::<S>(means, &plain.library, entry, plain.method).is_err()
 }
 
 // A library with the texts that registers are given, if they and it are one.
@@ -143,7 +143,7 @@ pub fn read_library_for<S: ClaimSearch, R: Shelf, O: Write + Drop, E: Write + Dr
         return Ok(Some(plain));
     }
     match fixed_library(console, &written, setup.settings, request.method)? {
-        Some(fixed) if is_better::<S>(console.alloc, &fixed, &plain, setup.entry) => Ok(Some(
+        Some(fixed) if is_better::<S>(console.means(), &fixed, &plain, setup.entry) => Ok(Some(
             fixed,
         )),
         _ => Ok(Some(plain)),

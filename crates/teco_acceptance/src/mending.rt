@@ -4,7 +4,7 @@ use teco_base::{LIMIT, Reg};
 use teco_claimed::verify_quickly;
 use teco_explain::place_in;
 use teco_library::Library;
-use teco_paths::search::ClaimSearch;
+use teco_paths::search::{ClaimSearch, Effort};
 use teco_source::Source;
 
 /// What may be put in before an element.
@@ -67,7 +67,7 @@ pub fn is_mended<S: ClaimSearch>(
         return false;
     }
     match Library::read(alloc, &text) {
-        Ok(library) => verify_quickly::<S>(&library, entry, alloc).is_ok(),
+        Ok(library) => verify_quickly::<S>(&library, entry, Effort::usual(), alloc).is_ok(),
         Err(_) => false,
     }
 }

@@ -296,13 +296,27 @@ fn push_unshown<S: ClaimSearch>(
     }
 }
 
-// Says on what small world the macro fails, if one was found, what is known, and what would do.
+// How many times as long a search may look that was given up.
+const MORE: u32 = 10;
+
+// Says that the search was given up, if it was, on what small world the macro fails, if one was found,
+// what is known, and what would do.
 fn lines_of<S: ClaimSearch>(
     alloc: Global,
     refused: &RefusedMacro<'_>,
     unclaimed: &Unclaimed,
 ) -> Result<String, AllocError> {
     let mut lines = String::new(alloc);
+    if unclaimed.unverified.is_given_up {
+        let more = unclaimed.effort.saturating_mul(MORE);
+        push_line(
+            alloc,
+            &mut lines,
+            format_args!(
+                "no verdict: the search was given up (--effort {more} looks ten times as long)"
+            ),
+        )?;
+    }
     if let Some(witness) = &unclaimed.witness {
         let words = words_of_witness(alloc, refused.source, refused.library, witness)?;
         push_line(alloc, &mut lines, words.as_str())?;

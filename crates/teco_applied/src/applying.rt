@@ -94,7 +94,7 @@ fn apply_subject<'p, S: ClaimSearch, H: Host + Reporting + Drop, O: Write + Drop
         (trace_of (⟦<Judged<'p, H> as Host>⟧.failures host.old) (O.contents console.old.out))
         (trace_of (⟦<Judged<'p, H> as Host>⟧.failures host.new) (O.contents console.new.out)) result }
 {
-    match subject.accepted::<S>(console.alloc, task.entry) {
+    match subject.accepted::<S>(console.means(), task.entry) {
         Ok(_) if files.are_one => refuse_names(console),
         Ok(accepted) => {
             warn_empty(console, &subject.sourced, &accepted)?;

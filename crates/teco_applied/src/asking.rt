@@ -20,7 +20,8 @@ pub fn noted_policies<E: Write + Drop>(
 ) -> Result<Option<Vec<Policy>>, ToolFault> {
     let is_exact = matches!(task.start.case, Some(LetterCase::Exact));
     let source = &sourced.source;
-    match policies_of(voice.alloc(), source.text(), task.entry, is_exact) {
+    let settings = task.start.settings;
+    match policies_of(voice.alloc(), source.text(), task.entry, is_exact, settings) {
         Ok(policies) => Ok(Some(policies)),
         Err(AskingFault::Memory) => Err(AllocError.into()),
         Err(AskingFault::Unread { place, refusal }) => {

@@ -102,7 +102,7 @@ where
     ensures { EditsSubject given.now task.now subject.now.sourced.library
         (O.contents console.old.out) (O.contents console.new.out) result }
 {
-    match subject.accepted::<S>(console.alloc, task.entry) {
+    match subject.accepted::<S>(console.means(), task.entry) {
         Ok(accepted) => {
             let found = AcceptedMacro {
                 sourced: &subject.sourced,
@@ -196,7 +196,7 @@ where
         (O.contents console.old.out) (O.contents console.new.out) result }
 {
     check_keeping(rt, console.alloc, given)?;
-    let mut apart = heard(console.alloc);
+    let mut apart = heard(console.means());
     match read_subject::<S, _, _, _>(rt, &mut apart, task)? {
         Some(subject) => {
             say_unless_quiet(&mut console.voice, apart);

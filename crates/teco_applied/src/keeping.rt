@@ -1,7 +1,7 @@
 //! Policies that a macro keeps in every text.
 use std::alloc::AllocError;
 use std::io::Write;
-use teco_changes::always_keep;
+use teco_change_policies::always_keep;
 use teco_console::Voice;
 use teco_policy::Policy;
 use teco_promise::Promise;

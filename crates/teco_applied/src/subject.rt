@@ -4,7 +4,6 @@ ghost use Rattle.teco_applied.specs.Tasks.{IsAccepted, ReadsSubject, Refuses};
 ghost use Rattle.teco_jobs.specs.Edits.{Prints};
 ghost use Rattle.teco_console.specs.declared.outcome.Outcome.TheVariants.{Refused};
 
-use std::alloc::Global;
 use std::io::{Input, Write};
 use std::rt::Files;
 use std::{fmt, str};
@@ -14,7 +13,7 @@ use teco_acceptance::{
     tell_no_text, warn_no_text,
 };
 use teco_base::Reg;
-use teco_console::{AnswerFault, Console, Edition, Outcome, Sourced, Voice, lint};
+use teco_console::{AnswerFault, Console, Edition, Means, Outcome, Sourced, Voice, lint};
 use teco_jobs::Task;
 use teco_options::LetterCase;
 use teco_paths::search::ClaimSearch;
@@ -32,14 +31,14 @@ impl Subject<'_> {
     /// The macro, by its certificate if there is one, or verified.
     pub fn accepted<S: ClaimSearch>(
         &self,
-        alloc: Global,
+        means: Means,
         entry: Reg,
     ) -> Result<Accepted<'_>, Unaccepted>
         ensures { IfOk result (IsAccepted self.now.sourced.library entry) }
     {
         let claim = self.claim.as_ref();
         let library = &self.sourced.library;
-        match accepted::<S>(alloc, library, entry, self.sourced.method, claim) {
+        match accepted::<S>(means, library, entry, self.sourced.method, claim) {
             Ok(accepted) => {
                 accepted.is_proved();
                 Ok(accepted)
@@ -68,8 +67,11 @@ fn say_apart<E: Write + Drop>(voice: &mut Voice<E>, apart: Console<Vec<u8>, Vec<
 
 /// A console that keeps what is printed and said there, and is never quiet: a refusal is told with its
 /// reasons in any case.
-pub fn heard(alloc: Global) -> Console<Vec<u8>, Vec<u8>> {
-    Console::new(alloc, Vec::new(alloc), Vec::new(alloc))
+pub fn heard(means: Means) -> Console<Vec<u8>, Vec<u8>> {
+    let Means { alloc, effort } = means;
+    let mut heard = Console::new(alloc, Vec::new(alloc), Vec::new(alloc));
+    heard.effort = effort;
+    heard
 }
 
 /// Says what was printed and said on a console apart, and prints nothing.
@@ -120,7 +122,7 @@ pub fn read_subject<'a, S: ClaimSearch, R: Files + Input, O: Write + Drop, E: Wr
     ensures { ReadsSubject (O.contents console.old.out) (O.contents console.new.out) result }
 {
     let claim = read_claim(rt, console.alloc, task.certificate)?;
-    let mut apart = heard(console.alloc);
+    let mut apart = heard(console.means());
     match read_library_for::<S, _, _, _>(rt, &mut apart, task.library, setup_of(task)) {
         Ok(Some(sourced)) => {
             say_unless_quiet(&mut console.voice, apart);
@@ -143,7 +145,7 @@ pub fn refuse_empty<O: Write + Drop, E: Write + Drop>(
     ensures printed { console.new.out ≡ console.old.out }
     ensures outcome { IfOk result (λ outcome. outcome ≡ Refused) }
 {
-    let mut apart = heard(console.alloc);
+    let mut apart = heard(console.means());
     let outcome = tell_no_text(&mut apart, sourced, accepted)?;
     say_apart(&mut console.voice, apart);
     Ok(outcome)
@@ -243,7 +245,7 @@ pub fn say_refused<S: ClaimSearch, O: Write + Drop, E: Write + Drop>(
     ensures printed { console.new.out ≡ console.old.out }
     ensures outcome { IfOk result (λ outcome. outcome ≡ Refused) }
 {
-    let mut apart = heard(console.alloc);
+    let mut apart = heard(console.means());
     let outcome = refuse_subject::<S, _, _>(&mut apart, subject, entry, unaccepted)?;
     say_all(&mut console.voice, apart);
     Ok(outcome)

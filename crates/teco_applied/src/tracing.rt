@@ -21,8 +21,12 @@ fn is_refused<S: ClaimSearch, O: Write + Drop, E: Write + Drop>(
     if !task.is_strict {
         return Ok(false);
     }
-    let Ok(accepted) = verified_by::<S>(console.alloc, &sourced.library, task.entry, sourced.method)
-    else {
+    let Ok(accepted) = verified_by::<S>(
+        console.means(),
+        &sourced.library,
+        task.entry,
+        sourced.method,
+    ) else {
         return Ok(false);
     };
     if Premise::of_promise(&accepted.promise()).is_empty() {

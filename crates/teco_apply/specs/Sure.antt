@@ -9,15 +9,13 @@ use Rattle.teco_model.specs.Run.{Stops, IsSure}
 use Rattle.teco_model.specs.State.{Kept, World, start}
 use Rattle.teco_model.specs.declared.stop.Stop.TheVariants as stop
 use Rattle.teco_model.specs.declared.stop.Stop.{Stop}
-use Rattle.teco_changes.specs.Changes.{Changes}
 use Rattle.teco_changes.specs.Worlds.{text_of}
-use Rattle.teco_changes.specs.declared.change.Change.{Change}
-use Rattle.teco_law_changes.specs.Runs.{TellsOf}
 use Rattle.teco_law_runs.specs.Framing.{LeavesFramed}
 use Rattle.teco_law_runs.specs.Keeping.{LeavesOpen}
 use Rattle.teco_law_runs.specs.Ready.{n_of}
 use Rattle.teco_hosts.specs.Held.{Held}
 use Rattle.teco_poly.specs.Polynomial.{value}
+use Rattle.teco_law_changes.specs.Runs.{IsGot}
 use Rattle.teco_promise.specs.Promise.{IsWithin, Promise, held_of, most_with}
 use Rattle.teco_verifier.specs.expansion.Expansion.{expansion}
 use Rattle.teco_verifier.specs.expansion.Node.{Node}
@@ -82,8 +80,7 @@ KeepsUnnamed promise answer old new = ⊤
 -- the text is changed by whatever list has all that the elements of the macro can do
 abbrev pub ChangesByElements : Promise → Stop → World → World → Type 0
 ChangesByElements promise (stop.Ended n) old new =
-    (changes : List Change) → TellsOf promise.library promise.entry changes
-    → Changes changes (text_of old) (text_of new)
+    IsGot promise.library promise.entry (text_of old) (text_of new)
 ChangesByElements promise answer old new = ⊤
 
 -- The macro is called as the command machine does it, with an argument that it takes. Where it is ready, it is sure to

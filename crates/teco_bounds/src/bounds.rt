@@ -194,24 +194,46 @@ impl Bounds {
         bounds
     }
 
-    // Makes the row and the column of a symbol, where there are none.
-    fn make(&mut self, symbol: u32, space: &mut Workspace) {
-        if self.symbols.contains(&symbol) {
+    // The bounds of a row, where there are so many columns.
+    fn row_of(&self, row: usize, size: usize) -> &[i64] {
+        let first = row.saturating_mul(size);
+        let bounds = self.table.get(first..first.saturating_add(size));
+        bounds.unwrap_or(&[])
+    }
+
+    // The bounds of a row.
+    pub fn row(&self, row: usize) -> &[i64] {
+        self.row_of(row, self.size())
+    }
+
+    // Adds the symbols of a form that have no row yet; the table is then to be widened.
+    fn add_symbols(&mut self, form: &Form, space: &mut Workspace) {
+        for symbol in form.terms().iter().filter_map(|term| term.symbol) {
+            if !self.symbols.contains(&symbol) {
+                space.push(&mut self.symbols, symbol);
+            }
+        }
+    }
+
+    // Makes the rows and the columns of the symbols behind the first ones, of which there were so many.
+    fn widen(&mut self, before: usize, space: &mut Workspace) {
+        let size = self.size();
+        let count = size.saturating_sub(before);
+        if count == 0 {
             return;
         }
-        let size = self.size();
+        let more = space.repeated(NONE, count);
         let mut table = Vec::new(space.alloc);
-        for row in 0..size {
-            let first = row.saturating_mul(size);
-            let bounds = self.table.get(first..first.saturating_add(size));
-            space.extend(&mut table, bounds.unwrap_or(&[]));
-            space.push(&mut table, NONE);
+        for row in 0..before {
+            space.extend(&mut table, self.row_of(row, before));
+            space.extend(&mut table, &more);
         }
-        let last = space.repeated(NONE, size);
-        space.extend(&mut table, &last);
-        space.push(&mut table, 0);
+        let rest = space.repeated(NONE, count.saturating_mul(size));
+        space.extend(&mut table, &rest);
         self.table = table;
-        space.push(&mut self.symbols, symbol);
+        for row in before..size {
+            self.set(row, row, 0);
+        }
     }
 
     // Lowers all bounds by one, in rows that there are. A row stays where the bound does not lower what
@@ -399,24 +421,32 @@ impl Bounds {
 
     // Takes it that a form is at least 0.
     pub fn add(&mut self, form: &Form, space: &mut Workspace) {
-        for term in form.terms() {
-            if let Some(symbol) = term.symbol {
-                self.make(symbol, space);
-            }
+        let before = self.size();
+        self.add_symbols(form, space);
+        self.widen(before, space);
+        self.add_known(form);
+    }
+
+    // Takes it that forms are at least 0.
+    pub fn add_all(&mut self, forms: &[Form], space: &mut Workspace) {
+        let before = self.size();
+        for form in forms {
+            self.add_symbols(form, space);
         }
+        self.widen(before, space);
+        for form in forms {
+            self.add_known(form);
+        }
+    }
+
+    // Takes it of a form whose symbols have rows.
+    fn add_known(&mut self, form: &Form) {
         if self.is_void {
             return;
         }
         match Difference::of(form) {
             Some(difference) => self.add_difference(&difference),
             None => self.add_other(form),
-        }
-    }
-
-    // Takes it that forms are at least 0.
-    pub fn add_all(&mut self, forms: &[Form], space: &mut Workspace) {
-        for form in forms {
-            self.add(form, space);
         }
     }
 

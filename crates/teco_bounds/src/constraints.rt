@@ -28,12 +28,12 @@ pub fn bound_form(bounds: &Bounds, row: usize, column: usize, space: &mut Worksp
 // Whether a bound follows from two others.
 fn follows(bounds: &Bounds, row: usize, column: usize) -> bool {
     let most = bounds.at(row, column);
-    for other in 0..bounds.size() {
-        if other != row && other != column {
-            let through = plus(bounds.at(row, other), bounds.at(other, column));
-            if through <= most {
-                return true;
-            }
+    for (other, ahead) in bounds.row(row).iter().enumerate() {
+        if *ahead == NONE || other == row || other == column {
+            continue;
+        }
+        if plus(*ahead, bounds.at(other, column)) <= most {
+            return true;
         }
     }
     false

@@ -54,15 +54,24 @@ fn speaks(form: &Form) -> bool {
     form.terms().iter().any(|term| term.symbol.is_some())
 }
 
-// By how much a form is more than another, where they differ by a number at most.
-fn excess(form: &Form, other: &Form, space: &mut Workspace) -> Option<i128> {
-    if form.terms().len().abs_diff(other.terms().len()) > 1 {
-        return None;
+// The number of a form, and the terms behind it.
+fn apart(form: &Form) -> (i128, &[Term]) {
+    match form.terms() {
+        [first, behind @ ..] if first.symbol.is_none() && first.power == 0 => {
+            (first.coefficient, behind)
+        }
+        terms => (0, terms),
     }
-    match space.difference(form, other).terms() {
-        [] => Some(0),
-        [term] if term.symbol.is_none() && term.power == 0 => Some(term.coefficient),
-        _ => None,
+}
+
+// By how much a form is more than another, where they differ by a number at most.
+fn excess(form: &Form, other: &Form) -> Option<i128> {
+    let (number, terms) = apart(form);
+    let (other_number, other_terms) = apart(other);
+    if terms == other_terms {
+        number.checked_sub(other_number)
+    } else {
+        None
     }
 }
 
@@ -72,7 +81,7 @@ fn add(forms: &mut Vec<Form>, form: Form, space: &mut Workspace) {
         return;
     }
     for known in forms.iter_mut() {
-        if let Some(more) = excess(&form, known, space) {
+        if let Some(more) = excess(&form, known) {
             if more < 0 {
                 *known = form;
             }

@@ -49,6 +49,20 @@ impl Web {
         }
     }
 
+    // The number of the node from a key of which most paths lead, or 0.
+    pub fn busiest(&self) -> usize {
+        let mut found = 0;
+        let mut most = 0;
+        for (key, start) in self.starts.iter().enumerate() {
+            let count = self.legs.iter().filter(|leg| leg.source == key).count();
+            if count > most {
+                most = count;
+                found = start.number;
+            }
+        }
+        found
+    }
+
     // The number of the node of a key, or 0.
     fn number(&self, key: usize) -> usize {
         self.starts.get(key).map_or(0, |start| start.number)

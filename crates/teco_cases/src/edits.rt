@@ -1,12 +1,13 @@
 //! Cases of edits: files that a verified macro edits.
-use crate::case_file::{CaseKeys, NamedCase};
-use crate::editing::{EditTask, ExpectedEdit, try_edit};
-use crate::fault::CaseFault;
-use crate::findings::Findings;
-use crate::subject::{MacroSubject, library_of};
 use std::alloc::Global;
 use teco_acceptance::{Verdict, verified_by};
 use teco_apply::PageChoice;
+use teco_case_kinds::case_file::{CaseKeys, NamedCase};
+use teco_case_kinds::editing::{EditTask, ExpectedEdit, try_edit};
+use teco_case_kinds::fault::CaseFault;
+use teco_case_kinds::findings::Findings;
+use teco_case_kinds::subject::{MacroSubject, library_of};
+use teco_console::Means;
 use teco_infer::Inference;
 use teco_promise::Promise;
 use teco_verify::Refusal;
@@ -73,7 +74,7 @@ pub fn run_edit(rt: &HostRuntime, case: &NamedCase<'_>) -> Result<Findings, Case
     case.check(CaseKeys::of_texts(KEYS))?;
     let MacroSubject { entry, method } = MacroSubject::of(case)?;
     let library = library_of(rt.alloc(), case)?;
-    match verified_by::<Inference>(rt.alloc(), &library, entry, method) {
+    match verified_by::<Inference>(Means::usual(rt.alloc()), &library, entry, method) {
         Ok(accepted) => edit_promised(rt, case, &accepted.promise()),
         Err(unaccepted) => refused(rt.alloc(), &unaccepted.refusal),
     }

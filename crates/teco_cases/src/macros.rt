@@ -1,16 +1,17 @@
 //! Cases of macros: by which edition each is accepted, what it promises, and what it makes of a file.
-use crate::case_file::{CaseKeys, NamedCase};
-use crate::editing::{EditTask, ExpectedEdit, try_edit};
 use crate::edits::refused;
-use crate::fault::CaseFault;
-use crate::findings::Findings;
-use crate::subject::{METHODS, MacroSubject, library_of};
 use crate::verdicts::accepted_by;
 use std::alloc::Global;
 use std::str;
 use teco_acceptance::{Accepted, Unaccepted, Verdict, verified_by};
 use teco_apply::PageChoice;
 use teco_base::Reg;
+use teco_case_kinds::case_file::{CaseKeys, NamedCase};
+use teco_case_kinds::editing::{EditTask, ExpectedEdit, try_edit};
+use teco_case_kinds::fault::CaseFault;
+use teco_case_kinds::findings::Findings;
+use teco_case_kinds::subject::{METHODS, MacroSubject, library_of};
+use teco_console::Means;
 use teco_infer::Inference;
 use teco_library::Library;
 use teco_poly::Poly;
@@ -112,7 +113,7 @@ fn compare_verdicts(
         let Some(wanted) = case.named_text("verdict", name.as_bytes()) else {
             continue;
         };
-        let accepted = verified_by::<Inference>(alloc, library, entry, *method);
+        let accepted = verified_by::<Inference>(Means::usual(alloc), library, entry, *method);
         if let Some(bound) = case.named_text("bound", name.as_bytes()) {
             compare_bound(alloc, findings, bound, most_of(&accepted))?;
         }
@@ -232,7 +233,12 @@ fn run_promise(
     library: &Library,
     subject: MacroSubject,
 ) -> Result<Findings, CaseFault> {
-    match verified_by::<Inference>(rt.alloc(), library, subject.entry, subject.method) {
+    match verified_by::<Inference>(
+        Means::usual(rt.alloc()),
+        library,
+        subject.entry,
+        subject.method,
+    ) {
         Ok(accepted) => run_accepted(rt, case, library, subject, &accepted),
         Err(unaccepted) => refused(rt.alloc(), &unaccepted.refusal),
     }

@@ -1,45 +1,26 @@
 //! Runs files of cases, and says which cases fail.
 #![tactic(auto)]
 
-mod case_file;
-mod claims;
-mod editing;
 mod edits;
-mod fault;
-mod findings;
-mod folder;
-mod formats;
-mod implications;
 mod macros;
-mod outcomes;
-mod paths;
-mod phrase;
-mod pieces;
-mod programs;
-mod running;
-mod sessions;
-mod settings;
-mod spelling;
-mod subject;
-mod sums;
 mod verdicts;
 
-use crate::case_file::{CaseFile, CaseKind, NamedCase};
-use crate::claims::run_claims;
 use crate::edits::run_edit;
-use crate::fault::CaseFault;
-use crate::findings::Findings;
-use crate::formats::run_format;
-use crate::implications::run_implication;
 use crate::macros::run_macro;
-use crate::outcomes::run_outcomes;
-use crate::paths::run_paths;
-use crate::programs::run_program;
-use crate::sessions::run_session;
-use crate::settings::Extent;
 use crate::verdicts::{run_certificate, run_verdict};
 use std::process::ExitCode;
 use std::{env, fs, io};
+use teco_case_kinds::case_file::{CaseFile, CaseKind, NamedCase};
+use teco_case_kinds::claims::run_claims;
+use teco_case_kinds::fault::CaseFault;
+use teco_case_kinds::findings::Findings;
+use teco_case_kinds::formats::run_format;
+use teco_case_kinds::implications::run_implication;
+use teco_case_kinds::outcomes::run_outcomes;
+use teco_case_kinds::paths::run_paths;
+use teco_case_kinds::programs::run_program;
+use teco_case_kinds::sessions::run_session;
+use teco_case_kinds::settings::Extent;
 
 /// What the names of files of cases end in.
 const SUFFIX: &str = ".cases";

@@ -1,12 +1,12 @@
 //! Cases of verdicts: what `teco verify` and `teco check` print.
-use crate::case_file::{CaseKeys, NamedCase};
-use crate::fault::CaseFault;
-use crate::findings::Findings;
-use crate::subject::{MacroSubject, library_of};
 use std::alloc::Global;
 use std::fs;
 use teco_acceptance::{Accepted, Unaccepted, accepted, read_claim};
-use teco_console::{AnswerFault, Console, Escape, Method, Origin, Outcome, Request};
+use teco_case_kinds::case_file::{CaseKeys, NamedCase};
+use teco_case_kinds::fault::CaseFault;
+use teco_case_kinds::findings::Findings;
+use teco_case_kinds::subject::{MacroSubject, library_of};
+use teco_console::{AnswerFault, Console, Escape, Means, Method, Origin, Outcome, Request};
 use teco_infer::Inference;
 use teco_library::Library;
 use teco_verdicts::{check_macro, verify_macro};
@@ -109,7 +109,13 @@ pub fn accepted_by<'l>(
     fs::write(rt, CERTIFICATE_FILE, certificate)?;
     let claim = read_claim(rt, rt.alloc(), Some(CERTIFICATE_FILE));
     fs::remove_file(rt, CERTIFICATE_FILE)?;
-    Ok(accepted::<Inference>(rt.alloc(), library, entry, method, claim?.as_ref()))
+    Ok(accepted::<Inference>(
+        Means::usual(rt.alloc()),
+        library,
+        entry,
+        method,
+        claim?.as_ref(),
+    ))
 }
 
 // Compares a certificate with the one that is printed of an accepted macro.

@@ -5,7 +5,8 @@ use std::alloc::{AllocError, Global};
 use std::fmt;
 use std::fmt::Write;
 use teco_base::bytes::is_letter;
-use teco_changes::{Change, Facts};
+use teco_change_policies::Facts;
+use teco_changes::Change;
 use teco_source::Shown;
 
 /// What stands where no list of changes is told.

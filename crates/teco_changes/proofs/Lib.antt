@@ -1,15 +1,7 @@
--- Lemmas of the laws, and of what is decided.
-mod Turns
-mod Subsequent
-mod LineEnds
-mod Cases
-mod Characters
-mod Matches
-mod Plainly
-mod Others
-mod Found
-mod EitherMode
+-- Lemmas of the laws.
 mod Worked
+pub mod Turns
+pub mod Matches
 pub mod Elements
 pub mod Replaced
 pub mod Unchanged

@@ -26,4 +26,14 @@ element_rows = record {
   moves = refl;
   calls = refl;
   copies = refl;
+  appends_behind_operator = refl;
+  appends_alone = refl;
+  inserts_known = refl;
+  inserts_unknown = refl;
+  inserts_text = refl;
+  digits = refl;
+  digits_behind_operator = refl;
+  operator = refl;
+  takes = refl;
+  passes = refl;
 }

@@ -1,5 +1,5 @@
 -- What the elements of a macro can do to a text.
-use Rattle.std.specs.Prelude.{◌≡◌, ◌≢◌, ℕ, zero, suc, List, [], ◌∷◌, ◌++◌, codes, Bool, IsTrue, All, Contains}
+use Rattle.std.specs.Prelude.{◌≡◌, ◌≢◌, ℕ, zero, suc, List, [], ◌∷◌, ◌++◌, codes, Bool, ◌==◌, IsTrue, All, Contains}
 use Rattle.std.specs.Prelude.{Some, Ok, ⊤}
 use Rattle.std.specs.Int.{is_in_range}
 use Rattle.std.specs.List.{list_any}
@@ -9,7 +9,6 @@ use Rattle.teco_changes.specs.declared.change.Range.{Range}
 use Rattle.teco_model.specs.Match.{match_rest}
 use Rattle.teco_model.specs.Pattern.{Pattern, pattern}
 use Rattle.teco_model.specs.Registers.{Registers}
-use Rattle.teco_policy.specs.Subsequences.{is_one_of}
 
 -- is a character of a class, which is given by ranges?
 abbrev pub is_of_class : List Range → ℕ → Bool
@@ -17,7 +16,7 @@ is_of_class ranges b = list_any (λ range. is_in_range range.first range.last b)
 
 -- each character of a text is one of these
 abbrev pub AreOneOf : List ℕ → List ℕ → Type 0
-AreOneOf characters text = All (λ b. IsTrue (is_one_of characters b)) text
+AreOneOf characters text = All (λ b. IsTrue (list_any (λ c. c == b) characters)) text
 
 -- what a number is written with
 abbrev pub numeral : List ℕ

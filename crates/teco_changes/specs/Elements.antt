@@ -1,7 +1,10 @@
 -- What each element of a macro can do to a text at most. The text of a world is what is written to the output, then the
 -- page in the buffer, then what is unread.
 use Rattle.std.specs.Prelude.{ℕ, zero, List, [], ◌∷◌, Bool, false, Option, Some, None}
+use Rattle.teco_base.specs.Arithmetic.{byte_of}
 use Rattle.teco_base.specs.declared.bytes.TheConstants.{FF, TAB}
+use Rattle.teco_changes.specs.declared.argument.NumericArgument.{NumericArgument}
+use Rattle.teco_changes.specs.declared.argument.NumericArgument.TheVariants as known
 use Rattle.teco_changes.specs.declared.change.Change.{Change}
 use Rattle.teco_changes.specs.declared.change.Change.TheVariants as change
 use Rattle.teco_model.specs.Element.{Element}
@@ -71,3 +74,21 @@ changes_told k element ranged = Some []
 
 abbrev pub changes_of : Element → Bool → Option (List Change)
 changes_of element ranged = changes_told element.kind element ranged
+
+-- nA gives a character, and leaves the text as it is. nI puts the character n.
+abbrev pub told_with : Kind → List ℕ → NumericArgument → Option (List Change)
+told_with (kind.Page page.Append) text known.Number = Some []
+told_with (kind.Page page.Append) text known.Value = Some []
+told_with (kind.Page page.Append) text (known.Exactly n) = Some []
+told_with (kind.Command (command.Insertion insertion.Text)) [] (known.Exactly n) =
+    Some (change.Puts (byte_of n ∷ []) ∷ [])
+told_with k text before = None
+
+abbrev pub either_told : Option (List Change) → Option (List Change) → Option (List Change)
+either_told None other = other
+either_told (Some changes) other = Some changes
+
+-- What an element can do where so much is known of the argument before it.
+abbrev pub changes_with : Element → Bool → NumericArgument → Option (List Change)
+changes_with element ranged before =
+    either_told (told_with element.kind element.text before) (changes_of element ranged)

@@ -1,10 +1,8 @@
--- What the elements of a macro can do to a text, and what follows.
+-- What the elements of a macro can do to a text.
+pub mod Arguments
 pub mod Changes
 pub mod Elements
-pub mod Facts
 pub mod Laws
-pub mod Manners
-pub mod Plain
 pub mod Rows
 pub mod Told
 pub mod Worlds

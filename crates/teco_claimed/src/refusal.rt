@@ -144,7 +144,8 @@ fn number_unfound(why: Unfound) -> Option<usize> {
         | Unfound::Condition(number)
         | Unfound::Steps(number) => Some(number),
         Unfound::NotAccepted(fault) => number_in(fault),
-        Unfound::Size | Unfound::TooMuch | Unfound::Memory => None,
+        Unfound::TooMuch(number) => number,
+        Unfound::Size | Unfound::Memory => None,
     }
 }
 

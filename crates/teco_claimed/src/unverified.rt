@@ -6,7 +6,7 @@ use std::alloc::Global;
 use teco_expansion::Nodes;
 use teco_model::Needs;
 use teco_paths::claimed::Called;
-use teco_paths::search::{SearchFailure, Shortfall};
+use teco_paths::search::{SearchFailure, SearchRefusal, Shortfall};
 
 /// What more would show a condition of a macro.
 #[derive(Drop)]
@@ -26,6 +26,10 @@ pub struct Unverified {
     pub unshown: Option<Unshown>,
     /// The files that were open in the call of which none are found.
     pub needs: Needs,
+    /// How many steps of the search are left.
+    pub left: usize,
+    /// Whether a way of looking was given up at its limit: with more effort it may find claims.
+    pub is_given_up: bool,
 }
 
 impl From<LinearRefusal> for Unverified {
@@ -39,6 +43,8 @@ impl From<LinearRefusal> for Unverified {
                 input: false,
                 output: false,
             },
+            left: 0,
+            is_given_up: false,
         }
     }
 }
@@ -55,6 +61,8 @@ impl Unverified {
             refusal: LinearRefusal::of_search(called.nodes, refusal),
             unshown: unshown_by(called.nodes, shortfall, alloc),
             needs: called.needs,
+            left: 0,
+            is_given_up: matches!(refusal, SearchRefusal::TooMuch(_)),
         }
     }
 }

@@ -16,7 +16,9 @@ use teco_library::Library;
 use teco_model::kind::{Page, Search};
 use teco_model::{Kind, Needs};
 use teco_paths::claimed::Called;
-use teco_paths::search::{ClaimSearch, SearchRefusal as Unfound};
+use teco_paths::search::{
+    Attempt, Budget, ClaimSearch, Effort, SearchFailure, SearchRefusal as Unfound,
+};
 
 // The files that an element wants.
 fn wanted_by(kind: Kind) -> Needs {
@@ -102,13 +104,22 @@ fn claims_more(claims: &Claims) -> bool {
     claims.grows.is_some() || claims.types.is_some()
 }
 
-// The macro by the claims that one way of looking for them finds. Where they are not certain, those of
+// The macro of a library that claims are looked for, its nodes, and the files that are open.
+#[derive(Clone, Copy)]
+struct Sought<'n, 'l> {
+    library: &'l Library,
+    entry: Reg,
+    nodes: &'n Nodes<'l>,
+    needs: Needs,
+}
+
+// The macro by the claims that one way of looking for them has found. Where they are not certain, those of
 // typed bytes and of the text's growth are left out: no bound on these is owed.
-fn verify_by_way<'l, S: ClaimSearch>(
+fn verify_found<'l>(
     library: &'l Library,
     entry: Reg,
     called: &Called<'_>,
-    way: usize,
+    found: Result<Claims, SearchFailure>,
     alloc: Global,
 ) -> Result<Claimed<'l>, Unverified>
     ensures library { IfOk result (λ found. found.library ≡ library.now) }
@@ -116,7 +127,7 @@ fn verify_by_way<'l, S: ClaimSearch>(
     ensures entry { IfOk result (λ found. found.certificate.entry ≡ entry) }
     ensures checksum { IfOk result (λ found. IsSome found.certificate.checksum) }
 {
-    let claims = match S::find(called, way, alloc) {
+    let claims = match found {
         Ok(claims) => claims,
         Err(failure) => return Err(Unverified::of_search(called, failure, alloc)),
     };
@@ -166,13 +177,29 @@ fn next_behind<S: ClaimSearch>(
     S::next_way(unfound(first).unwrap_or(why), why, way)
 }
 
-// The macro of a library that claims are looked for, its nodes, and the files that are open.
-#[derive(Clone, Copy)]
-struct Sought<'n, 'l> {
-    library: &'l Library,
-    entry: Reg,
-    nodes: &'n Nodes<'l>,
-    needs: Needs,
+// Is it that claims were found that are not certain?
+fn is_doubt(refused: LinearRefusal) -> bool {
+    matches!(refused, LinearRefusal::NotCertain { .. })
+}
+
+// Notes what one more way of looking says of a macro that is not verified: the reason is the first one's.
+fn note(first: &mut Option<Unverified>, next: Unverified) {
+    match first {
+        None => *first = Some(next),
+        Some(first) => {
+            first.needs = next.needs;
+            first.left = next.left;
+            first.is_given_up = first.is_given_up || next.is_given_up;
+        }
+    }
+}
+
+// The refusal of the first way, which may be this one.
+fn first_of(first: &Option<Unverified>, refusal: LinearRefusal) -> LinearRefusal {
+    match first {
+        None => refusal,
+        Some(first) => first.refusal,
+    }
 }
 
 // The macro by claims that are looked for in a number of ways: from the first on, or behind the first, which
@@ -181,6 +208,7 @@ fn verify_by_ways<'l, S: ClaimSearch>(
     sought: Sought<'_, 'l>,
     first: Option<Unverified>,
     ways: usize,
+    budget: &mut Budget,
     alloc: Global,
 ) -> Result<Claimed<'l>, Unverified>
     ensures library { IfOk result (λ found. found.library ≡ sought.entry.library.now) }
@@ -201,23 +229,32 @@ fn verify_by_ways<'l, S: ClaimSearch>(
         argument: library.argument(entry),
         needs,
     };
-    let mut next = match &first {
-        None => Some(0),
-        Some(first) => next_behind::<S>(first.refusal, first.refusal, 0),
+    let (mut next, mut is_behind_doubt) = match &first {
+        None => (Some(0), false),
+        Some(first) => (
+            next_behind::<S>(first.refusal, first.refusal, 0),
+            is_doubt(first.refusal),
+        ),
     };
     let mut first = first;
     for _ in 0..ways {
-        let Some(at) = next else {
+        let Some(way) = next else {
             break;
         };
-        match verify_by_way::<S>(library, entry, &called, at, alloc) {
+        let attempt = Attempt {
+            way,
+            is_behind_doubt,
+        };
+        let found = S::find(&called, attempt, budget, alloc);
+        match verify_found(library, entry, &called, found, alloc) {
             Ok(claimed) => return Ok(claimed),
             Err(mut unverified) => {
                 unverified.needs = needs;
+                unverified.left = budget.left;
                 let refusal = unverified.refusal;
-                let of_first = first.as_ref().map_or(refusal, |first| first.refusal);
-                next = next_behind::<S>(of_first, refusal, at);
-                first = first.or(Some(unverified));
+                next = next_behind::<S>(first_of(&first, refusal), refusal, way);
+                is_behind_doubt = is_behind_doubt || is_doubt(refusal);
+                note(&mut first, unverified);
             }
         }
     }
@@ -255,6 +292,7 @@ fn nodes_of<'l>(
 pub fn verify_quickly<'l, S: ClaimSearch>(
     library: &'l Library,
     entry: Reg,
+    effort: Effort,
     alloc: Global,
 ) -> Result<Claimed<'l>, Unverified>
     ensures library { IfOk result (λ found. found.library ≡ library.now) }
@@ -270,7 +308,8 @@ pub fn verify_quickly<'l, S: ClaimSearch>(
         nodes: &nodes,
         needs,
     };
-    match verify_by_ways::<S>(sought, None, 1, alloc) {
+    let mut budget = Budget::of(effort, S::STEPS);
+    match verify_by_ways::<S>(sought, None, 1, &mut budget, alloc) {
         Err(unverified) if wants_file(unverified.refusal) && !needs.input => {
             let needs = Needs {
                 input: true,
@@ -282,7 +321,7 @@ pub fn verify_quickly<'l, S: ClaimSearch>(
                 nodes: &nodes,
                 needs,
             };
-            verify_by_ways::<S>(sought, None, 1, alloc)
+            verify_by_ways::<S>(sought, None, 1, &mut budget, alloc)
         }
         answer => answer,
     }
@@ -297,6 +336,7 @@ pub fn verify_further<'l, S: ClaimSearch>(
     library: &'l Library,
     entry: Reg,
     quickest: Unverified,
+    effort: Effort,
     alloc: Global,
 ) -> Result<Claimed<'l>, Unverified>
     ensures library { IfOk result (λ found. found.library ≡ library.now) }
@@ -311,10 +351,14 @@ pub fn verify_further<'l, S: ClaimSearch>(
         nodes: &nodes,
         needs: quickest.needs,
     };
-    verify_by_ways::<S>(sought, Some(quickest), S::WAYS, alloc)
+    let mut budget = Budget {
+        effort,
+        left: quickest.left,
+    };
+    verify_by_ways::<S>(sought, Some(quickest), S::WAYS, &mut budget, alloc)
 }
 
-/// A macro of a library, by claims that are looked for and checked.
+/// A macro of a library, by claims that are looked for with an effort, and checked.
 ///
 /// # Errors
 ///
@@ -322,6 +366,7 @@ pub fn verify_further<'l, S: ClaimSearch>(
 pub fn verify_linear<'l, S: ClaimSearch>(
     library: &'l Library,
     entry: Reg,
+    effort: Effort,
     alloc: Global,
 ) -> Result<Claimed<'l>, Unverified>
     ensures library { IfOk result (λ found. found.library ≡ library.now) }
@@ -329,8 +374,8 @@ pub fn verify_linear<'l, S: ClaimSearch>(
     ensures entry { IfOk result (λ found. found.certificate.entry ≡ entry) }
     ensures checksum { IfOk result (λ found. IsSome found.certificate.checksum) }
 {
-    match verify_quickly::<S>(library, entry, alloc) {
+    match verify_quickly::<S>(library, entry, effort, alloc) {
         Ok(claimed) => Ok(claimed),
-        Err(quickest) => verify_further::<S>(library, entry, quickest, alloc),
+        Err(quickest) => verify_further::<S>(library, entry, quickest, effort, alloc),
     }
 }

@@ -134,11 +134,29 @@ pub fn write_bytes<W: Write>(writer: &mut W, bytes: &[u8]) -> io::Result<()>
     Err(unwritten())
 }
 
+/// What a verdict may take.
+#[derive(Clone, Copy)]
+pub struct Means {
+    /// Where memory comes from.
+    pub alloc: Global,
+    /// How many times the usual number of steps a search may take: once or more.
+    pub effort: u32,
+}
+
+impl Means {
+    /// The usual effort.
+    pub fn usual(alloc: Global) -> Means {
+        Means { alloc, effort: 1 }
+    }
+}
+
 /// A writer for what was asked for, and a voice for what is said of it.
 #[derive(Drop)]
 pub struct Console<O: Write + Drop, E: Write + Drop> {
     /// Where memory comes from.
     pub alloc: Global,
+    /// How many times the usual number of steps a search may take: once or more.
+    pub effort: u32,
     pub out: O,
     pub voice: Voice<E>,
 }
@@ -150,8 +168,17 @@ impl<O: Write + Drop, E: Write + Drop> Console<O, E> {
     {
         Console {
             alloc,
+            effort: 1,
             out,
             voice: Voice::new(alloc, messages),
+        }
+    }
+
+    /// What a verdict may take.
+    pub fn means(&self) -> Means {
+        Means {
+            alloc: self.alloc,
+            effort: self.effort,
         }
     }
 
@@ -160,6 +187,7 @@ impl<O: Write + Drop, E: Write + Drop> Console<O, E> {
         let alloc = self.alloc;
         let mut apart = Console::new(alloc, Vec::new(alloc), Vec::new(alloc));
         apart.voice.is_quiet = self.voice.is_quiet;
+        apart.effort = self.effort;
         apart
     }
 
@@ -176,6 +204,7 @@ impl<O: Write + Drop, E: Write + Drop> Console<O, E> {
     {
         let Console {
             alloc: _,
+            effort: _,
             out,
             voice,
         } = self;

@@ -20,7 +20,7 @@ mod sourced;
 mod stated_words;
 mod stating;
 
-pub use console::{Console, Voice, write_bytes};
+pub use console::{Console, Means, Voice, write_bytes};
 pub use dollars::tell_dollars;
 pub use fault::{AnswerFault, written};
 pub use files::{STREAM, Shelf, read_file};

@@ -1,4 +1,6 @@
 //! What came of a word of the program.
+ghost use Rattle.std.specs.Prelude.{◌≡◌};
+ghost use Rattle.teco_console.specs.Outcomes as outcomes;
 
 /// What came of a word of the program, beside faults.
 #[derive(Clone, Copy)]
@@ -13,7 +15,9 @@ pub enum Outcome {
 
 impl Outcome {
     /// The status that the program ends with.
-    pub fn status(self) -> u8 {
+    pub fn status(self) -> u8
+        ensures { result ≡ outcomes.status self }
+    {
         match self {
             Outcome::Done => 0,
             Outcome::Coded => 1,
@@ -22,7 +26,9 @@ impl Outcome {
     }
 
     /// The one of the greater status.
-    pub fn worse(self, other: Outcome) -> Outcome {
+    pub fn worse(self, other: Outcome) -> Outcome
+        ensures { result ≡ outcomes.worse self other }
+    {
         if self.status() < other.status() {
             other
         } else {

@@ -1,4 +1,7 @@
 //! Libraries with their sources.
+ghost use Rattle.std.specs.Prelude.{◌≡◌};
+ghost use Rattle.teco_console.specs.Macros as macros;
+
 use crate::method::Method;
 use teco_base::Reg;
 use teco_library::Library;
@@ -16,7 +19,9 @@ pub struct Sourced {
 pub const NAMES: &[u8; 36] = b"ABCDEFGHIJKLMNOPQRSTUVWXYZ0123456789";
 
 /// The register of a name, if a library gives it a text.
-pub fn macro_named(library: &Library, name: u8) -> Option<Reg> {
+pub fn macro_named(library: &Library, name: u8) -> Option<Reg>
+    ensures { result ≡ macros.macro_named library.now.texts name }
+{
     match Reg::of(name) {
         Some(register) if library.contains(register) => Some(register),
         _ => None,

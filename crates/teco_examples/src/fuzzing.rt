@@ -1,17 +1,17 @@
 //! Texts made of what a macro looks for, on which it may do what was not meant.
 use crate::keeping::{first_broken, is_exact};
-use crate::running::{Came, TextRun, run_on};
+use crate::running::{Came, TextRun, run_on_text};
 use memchr::memmem;
 use std::alloc::{AllocError, Global};
 use std::io::{Input, Write};
 use std::rt::Files;
 use teco_acceptance::{read_library, refuse_macro, verified_by};
 use teco_base::Reg;
-use teco_console::{Console, Outcome, Request, Sourced};
+use teco_console::{Console, Outcome, Request, Setting, Sourced};
 use teco_edit_parts::changed_lines;
 use teco_library::Library;
 use teco_model::{Element, Kind};
-use teco_notes::{Example, FoundNote, NoPolicy, Note, element_at, notes_of};
+use teco_notes::{Example, FoundNote, NoPolicy, Note, element_at, notes_of, prototype_of};
 use teco_options::LetterCase;
 use teco_paths::search::ClaimSearch;
 use teco_source::Shown;
@@ -22,6 +22,9 @@ const LONGEST: u32 = 4;
 
 /// How many pieces there are that come of what the macro looks for.
 const PIECES: usize = 5;
+
+/// How many texts of registers are pieces, at most.
+const GIVEN: usize = 3;
 
 // What the macros of a library look for.
 #[derive(Drop)]
@@ -126,6 +129,16 @@ impl SoughtTexts {
         push_all_pieces(alloc, &mut self.pieces, &self.texts)
     }
 
+    // The texts of registers as pieces too, of which some may be looked for.
+    fn take_settings(&mut self, alloc: Global, settings: &[Setting]) -> Result<(), AllocError> {
+        for setting in settings.iter().take(GIVEN) {
+            if !setting.text().is_empty() {
+                push_copy(alloc, &mut self.pieces, setting.text())?;
+            }
+        }
+        Ok(())
+    }
+
     // What the macros of a library look for.
     fn of(alloc: Global, library: &Library) -> Result<SoughtTexts, AllocError> {
         let mut wanted = SoughtTexts {
@@ -188,11 +201,10 @@ fn text_of(
 fn made_of(
     library: &Library,
     subject: &TextRun,
+    example: &Example,
     text: &[u8],
 ) -> Result<Option<Vec<u8>>, ToolFault> {
-    let before = text.to_vec(subject.alloc)?;
-    let example = Example::of(subject.alloc, before, Vec::new(subject.alloc));
-    match run_on(library, subject, &example)? {
+    match run_on_text(library, subject, example, text)? {
         Came::Text(made) => Ok(Some(made)),
         Came::Code(_) => Ok(None),
     }
@@ -217,13 +229,13 @@ fn keep(kept: &mut Option<Doubt>, doubt: Doubt) {
     }
 }
 
-// A macro that is run on texts, what it looks for, and the notes of its library.
+// A macro that is run on texts, what it looks for, and how it is run, with the policies that it keeps.
 #[derive(Clone, Copy)]
 struct Trial<'a> {
     library: &'a Library,
     subject: &'a TextRun,
     wanted: &'a SoughtTexts,
-    notes: &'a [FoundNote],
+    example: &'a Example,
 }
 
 // The shortest texts on which a macro may do what was not meant.
@@ -245,7 +257,7 @@ impl Doubts {
         text: &[u8],
         made: &[u8],
     ) -> Result<(), AllocError> {
-        if first_broken(trial.notes, trial.subject.entry, text, made).is_some() {
+        if first_broken(&trial.example.policies, text, made).is_some() {
             let alloc = trial.subject.alloc;
             let (text, first) = (text.to_vec(alloc)?, made.to_vec(alloc)?);
             let second = Vec::new(alloc);
@@ -295,7 +307,7 @@ impl Doubts {
         text: &[u8],
         first: Vec<u8>,
     ) -> Result<(), ToolFault> {
-        let Some(second) = made_of(trial.library, trial.subject, &first)? else {
+        let Some(second) = made_of(trial.library, trial.subject, trial.example, &first)? else {
             return Ok(());
         };
         if second != first {
@@ -314,7 +326,7 @@ impl Doubts {
 
     // Runs the macro on a text, and once more on what it made.
     fn try_text(&mut self, trial: Trial<'_>, text: &[u8]) -> Result<(), ToolFault> {
-        let Some(first) = made_of(trial.library, trial.subject, text)? else {
+        let Some(first) = made_of(trial.library, trial.subject, trial.example, text)? else {
             return Ok(());
         };
         self.look_at_policies(trial, text, &first)?;
@@ -379,7 +391,8 @@ fn tell_breach<O: Write + Drop, E: Write + Drop>(
     doubt: &Doubt,
 ) -> Result<(), ToolFault> {
     let entry = trial.subject.entry;
-    let Some(breaking) = first_broken(trial.notes, entry, &doubt.text, &doubt.first) else {
+    let policies = &trial.example.policies;
+    let Some(breaking) = first_broken(policies, &doubt.text, &doubt.first) else {
         return Ok(());
     };
     let name = char::from(entry.name());
@@ -452,13 +465,15 @@ fn fuzz_accepted<S: ClaimSearch, O: Write + Drop, E: Write + Drop>(
     if tells_no_policy(console, &notes, entry)? {
         return Ok(Outcome::Coded);
     }
-    let subject = TextRun::of::<S>(alloc, sourced, entry, case);
-    let wanted = SoughtTexts::of(alloc, &sourced.library)?;
+    let example = prototype_of(alloc, sourced.source.text(), entry, is_exact(case))?;
+    let subject = TextRun::of::<S>(console.means(), sourced, entry, case);
+    let mut wanted = SoughtTexts::of(alloc, &sourced.library)?;
+    wanted.take_settings(alloc, &example.settings)?;
     let trial = Trial {
         library: &sourced.library,
         subject: &subject,
         wanted: &wanted,
-        notes: &notes,
+        example: &example,
     };
     Doubts::of(trial)?.tell(console, trial)
 }
@@ -470,8 +485,7 @@ fn fuzz_library<S: ClaimSearch, O: Write + Drop, E: Write + Drop>(
     entry: Reg,
     case: Option<LetterCase>,
 ) -> Result<Outcome, ToolFault> {
-    let alloc = console.alloc;
-    let verdict = verified_by::<S>(alloc, &sourced.library, entry, sourced.method);
+    let verdict = verified_by::<S>(console.means(), &sourced.library, entry, sourced.method);
     match verdict.err() {
         None => fuzz_accepted::<S, _, _>(console, sourced, entry, case),
         Some(unaccepted) => Ok(refuse_macro::<S, _, _>(console, sourced, entry, unaccepted)?),

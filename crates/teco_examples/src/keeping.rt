@@ -1,24 +1,19 @@
 //! Policies that the comments of a library ask for, where a macro is run on texts in memory.
 use std::io;
 use std::io::Write;
-use teco_base::Reg;
 use teco_console::Console;
 use teco_judging::Breaking;
-use teco_notes::{FoundNote, Note};
 use teco_options::LetterCase;
+use teco_policy::Policy;
 
-/// The first policy of a macro that the edit of a text would break.
+/// The first of these policies that the edit of a text would break.
 pub fn first_broken<'a>(
-    notes: &'a [FoundNote],
-    register: Reg,
+    policies: &'a [Policy],
     old: &'a [u8],
     new: &'a [u8],
 ) -> Option<Breaking<'a>> {
-    for found in notes {
-        if let Note::Keeps(Ok(policy)) = &found.note
-            && found.register.index() == register.index()
-            && let Some(breach) = policy.breach(old, new)
-        {
+    for policy in policies {
+        if let Some(breach) = policy.breach(old, new) {
             return Some(Breaking {
                 policy,
                 breach,

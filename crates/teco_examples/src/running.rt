@@ -2,7 +2,7 @@
 use std::alloc::{AllocError, Global};
 use teco_acceptance::verified_by;
 use teco_base::{Code, Reg};
-use teco_console::Sourced;
+use teco_console::{Means, Sourced};
 use teco_hosts::MemHost;
 use teco_jobs::{Names, call, open_pages};
 use teco_library::Library;
@@ -41,14 +41,14 @@ pub struct TextRun {
 impl TextRun {
     /// A macro of a library. Where it is refused it is not known whether it turns pages.
     pub fn of<S: ClaimSearch>(
-        alloc: Global,
+        means: Means,
         sourced: &Sourced,
         entry: Reg,
         case: Option<LetterCase>,
     ) -> TextRun {
-        let pages = pages_of::<S>(alloc, sourced, entry);
+        let pages = pages_of::<S>(means, sourced, entry);
         TextRun {
-            alloc,
+            alloc: means.alloc,
             entry,
             case,
             pages,
@@ -57,8 +57,8 @@ impl TextRun {
 }
 
 // The pages that a macro of a library is run on.
-fn pages_of<S: ClaimSearch>(alloc: Global, sourced: &Sourced, entry: Reg) -> PageChoice {
-    match verified_by::<S>(alloc, &sourced.library, entry, sourced.method) {
+fn pages_of<S: ClaimSearch>(means: Means, sourced: &Sourced, entry: Reg) -> PageChoice {
+    match verified_by::<S>(means, &sourced.library, entry, sourced.method) {
         Ok(accepted) => pages_for(accepted.promise().needs()),
         Err(_) => PageChoice::Whole,
     }
@@ -173,8 +173,18 @@ fn came_on(
     }
 }
 
+/// Runs a macro of a library on a text, in the manner of an example.
+pub fn run_on_text(
+    library: &Library,
+    subject: &TextRun,
+    example: &Example,
+    text: &[u8],
+) -> Result<Came, ToolFault> {
+    let mut host = host_with(subject.alloc, text)?;
+    came_on(library, subject, example, &mut host)
+}
+
 /// Runs a macro of a library on the text of an example.
 pub fn run_on(library: &Library, subject: &TextRun, example: &Example) -> Result<Came, ToolFault> {
-    let mut host = host_with(subject.alloc, &example.before)?;
-    came_on(library, subject, example, &mut host)
+    run_on_text(library, subject, example, &example.before)
 }

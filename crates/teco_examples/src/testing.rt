@@ -10,7 +10,7 @@ use teco_base::{Code, Reg};
 use teco_console::{Console, Outcome, Request, Sourced, letters};
 use teco_edit_parts::write_diff;
 use teco_explain::note_of_code;
-use teco_notes::{Example, FoundNote, NoPolicy, Note, NoteSite, notes_of};
+use teco_notes::{Example, FoundNote, NoPolicy, NoTakes, Note, NoteSite, notes_of};
 use teco_options::{LetterCase, Look};
 use teco_paths::search::ClaimSearch;
 use teco_source::{LineAndByte, Source};
@@ -110,12 +110,11 @@ fn tell_code<O: Write + Drop, E: Write + Drop>(
 fn tell_broken<O: Write + Drop, E: Write + Drop>(
     console: &mut Console<O, E>,
     source: &Source,
-    notes: &[FoundNote],
     finding: &FoundNote,
-    texts: (&[u8], &[u8]),
+    example: &Example,
+    made: &[u8],
 ) -> Result<bool, ToolFault> {
-    let (old, new) = texts;
-    let Some(breaking) = first_broken(notes, finding.register, old, new) else {
+    let Some(breaking) = first_broken(&example.policies, &example.before, made) else {
         return Ok(true);
     };
     tell_failed(console, source, finding, breaking)?;
@@ -141,12 +140,11 @@ impl Trial<'_> {
     ) -> Result<bool, ToolFault> {
         let source = &self.sourced.source;
         let Tests { case, look, .. } = *self.tests;
-        let subject = TextRun::of::<S>(console.alloc, self.sourced, finding.register, case);
+        let subject = TextRun::of::<S>(console.means(), self.sourced, finding.register, case);
         match run_on(&self.sourced.library, &subject, example)? {
             Came::Text(made) => {
                 let wanted = tell_text(console, source, finding, look, (&example.after, &made))?;
-                let texts = (example.before.as_slice(), made.as_slice());
-                Ok(tell_broken(console, source, self.notes, finding, texts)? && wanted)
+                Ok(tell_broken(console, source, finding, example, &made)? && wanted)
             }
             Came::Code(code) => tell_code(console, source, finding, code),
         }
@@ -174,7 +172,11 @@ impl Trial<'_> {
                 tell_failed(console, source, finding, NoPolicy(*refusal))?;
                 Ok(tally.with(false))
             }
-            Note::Keeps(Ok(_)) => Ok(tally),
+            Note::Takes(None) => {
+                tell_failed(console, source, finding, NoTakes)?;
+                Ok(tally.with(false))
+            }
+            Note::Keeps(Ok(_)) | Note::Takes(Some(_)) => Ok(tally),
         }
     }
 

@@ -14,19 +14,31 @@ use teco_model::{Kind, Operator};
 use teco_paths::claimed::Called;
 use teco_paths::course::MacroGraph;
 use teco_paths::fault::PathFault;
-use teco_paths::search::{ClaimSearch, SearchFailure, Shortfall};
+use teco_paths::search::{Attempt, Budget, ClaimSearch, SearchFailure, Shortfall};
 use teco_potentials::known_claims::KnownClaims;
 use teco_potentials::promises::all_promises;
-use teco_trails::cuts::{Cuts, first_cuts, kind_at};
+use teco_trails::cuts::{Cuts, first_cuts, iteration_of, kind_at};
 use teco_trails::fault::{SearchRefusal, SearchStop};
 use teco_trails::pushes::check_pushes;
+use teco_trails::rounds::SettledKeys;
 use teco_trails::search::PathSearch;
 use teco_trails::spoken::{spoken_of, used_of};
 
-// What the search may take in a way: steps of paths, and rows that programs go through.
-const FUEL: usize = 80_000;
+// How many steps all ways together may take.
+const STEPS: usize = 120_000;
+
+// What the first and the last way may take: steps of paths, and rows that programs go through.
+const PATH_STEPS: usize = 80_000;
 
 const WORK: usize = 6_000_000;
+
+// What the others may.
+const FEW_PATH_STEPS: usize = 20_000;
+
+const FEW_WORK: usize = 3_000_000;
+
+// How many rows count as one step.
+const ROWS_A_STEP: usize = 256;
 
 // A way to search.
 #[derive(Clone, Copy)]
@@ -38,6 +50,8 @@ struct Strategy {
     is_tame: bool,
     // Whether no more is taken of constraints than multipliers show.
     is_exact: bool,
+    // Whether it is of use only where it differs from the first two ways in more than that.
+    wants_new: bool,
     // Whether it is of use only where more nodes become cut points than in the first way.
     wants_cuts: bool,
     // Whether steep bounds are taken, for which other ways often find better ones.
@@ -54,6 +68,7 @@ const WAYS: [Strategy; ATTEMPTS] = [
         cuts: Cuts::Starts,
         is_tame: false,
         is_exact: false,
+        wants_new: false,
         wants_cuts: false,
         is_last: false,
     },
@@ -62,6 +77,7 @@ const WAYS: [Strategy; ATTEMPTS] = [
         cuts: Cuts::Ends,
         is_tame: false,
         is_exact: false,
+        wants_new: false,
         wants_cuts: false,
         is_last: false,
     },
@@ -70,6 +86,7 @@ const WAYS: [Strategy; ATTEMPTS] = [
         cuts: Cuts::Starts,
         is_tame: true,
         is_exact: true,
+        wants_new: false,
         wants_cuts: false,
         is_last: false,
     },
@@ -78,6 +95,7 @@ const WAYS: [Strategy; ATTEMPTS] = [
         cuts: Cuts::Answers,
         is_tame: false,
         is_exact: true,
+        wants_new: false,
         wants_cuts: false,
         is_last: false,
     },
@@ -86,6 +104,7 @@ const WAYS: [Strategy; ATTEMPTS] = [
         cuts: Cuts::Starts,
         is_tame: false,
         is_exact: false,
+        wants_new: false,
         wants_cuts: true,
         is_last: false,
     },
@@ -94,6 +113,7 @@ const WAYS: [Strategy; ATTEMPTS] = [
         cuts: Cuts::Starts,
         is_tame: false,
         is_exact: false,
+        wants_new: false,
         wants_cuts: false,
         is_last: true,
     },
@@ -266,11 +286,41 @@ fn flags_of(nodes: &Nodes<'_>, space: &mut Workspace) -> Vec<Flag> {
     flags
 }
 
-// What more would do where a search stops, if that is to be told.
+// What a search may take: steps of paths, and rows that programs go through.
+#[derive(Clone, Copy)]
+struct SearchLimits {
+    steps: usize,
+    work: usize,
+}
+
+impl SearchLimits {
+    // Those of a way by what is left.
+    fn of(way: usize, budget: &Budget) -> SearchLimits {
+        let (steps, work) = if way == 0 || way == ATTEMPTS - 1 {
+            (PATH_STEPS, WORK)
+        } else {
+            (FEW_PATH_STEPS, FEW_WORK)
+        };
+        let work = budget.part(work / ROWS_A_STEP);
+        SearchLimits {
+            steps: budget.part(steps),
+            work: work.saturating_mul(ROWS_A_STEP),
+        }
+    }
+
+    // As how many steps they count.
+    fn count(&self) -> usize {
+        self.steps
+            .saturating_add(self.work.saturating_div(ROWS_A_STEP))
+    }
+}
+
+// What more would do where a search stops, if that is to be told, and what it may still take.
 #[derive(Drop)]
 struct Report {
     is_wanted: bool,
     shortfall: Option<Shortfall>,
+    left: SearchLimits,
 }
 
 // How a try is made.
@@ -297,6 +347,7 @@ fn claims_on(
         Ok(()) => claims_of(search, keys, known, &promises),
         Err(stop) => {
             let stop = SearchStop::from(stop);
+            search.at = web.busiest();
             if report.is_wanted {
                 report.shortfall = reason_for(search, web, keys, known, stop);
             }
@@ -305,20 +356,30 @@ fn claims_on(
     }
 }
 
+// The keys whose facts stay; these are narrowed where that is asked for.
+fn keys_of(
+    search: &mut PathSearch<'_>,
+    settled: SettledKeys,
+    narrows: bool,
+) -> Result<Keys, SearchStop> {
+    if narrows && settled.is_widened {
+        return search.narrowed(settled);
+    }
+    Ok(settled.keys)
+}
+
 // A try with the cut points so far; where it stops for good, it reports why.
 fn try_once(
     search: &mut PathSearch<'_>,
     by: Try,
     report: &mut Report,
 ) -> Result<Claims, SearchStop> {
-    let (mut keys, is_widened) = search.settled()?;
-    if by.narrows && is_widened {
-        keys = search.narrowed(keys)?;
-    }
-    let web = search.web(&keys)?;
+    let settled = search.settled()?;
     if !by.is_of_use {
         return Err(SearchStop::Refused(SearchRefusal::Size));
     }
+    let keys = keys_of(search, settled, by.narrows)?;
+    let web = search.web(&keys)?;
     let mut known = KnownClaims::new(search.work, search.alloc);
     claims_on(search, &web, &keys, &mut known, report)
 }
@@ -344,16 +405,30 @@ fn tried(
                     *mark = true;
                 }
             }
-            Err(SearchStop::Wild) => {}
+            Err(SearchStop::Wild) => {
+                if way.wants_new && search.tame.is_empty() {
+                    return Err(SearchRefusal::Size);
+                }
+            }
             Err(SearchStop::Unstable) => {
                 if !by.narrows {
-                    return Err(SearchRefusal::TooMuch);
+                    break;
                 }
                 by.narrows = false;
             }
         }
     }
-    Err(SearchRefusal::TooMuch)
+    Err(SearchRefusal::TooMuch(None))
+}
+
+// A refusal where the search takes too much, with the iteration at which that was.
+fn placed(search: &PathSearch<'_>, refusal: SearchRefusal) -> SearchRefusal {
+    match refusal {
+        SearchRefusal::TooMuch(None) => {
+            SearchRefusal::TooMuch(iteration_of(search.course.nodes, search.at))
+        }
+        refusal => refusal,
+    }
 }
 
 // The places of the numbers that are taken to be tame: those that are spoken of, or none.
@@ -374,12 +449,19 @@ fn unclaimed(_used: &[bool]) -> Option<&[u64]> {
     None
 }
 
-// The search for claims of a macro, in a way, which reports why it stopped where that can be told. All
-// but the first and the last way may take half as much.
+// Whether a search takes numbers to be tame, or cuts where the first two ways do not.
+fn is_new(search: &PathSearch<'_>, space: &mut Workspace) -> bool {
+    let nodes = search.course.nodes;
+    let is_known = |cuts: &[bool]| search.is_cut.as_slice() == cuts;
+    !search.tame.is_empty()
+        || !is_known(&first_cuts(nodes, Cuts::Starts, space))
+            && !is_known(&first_cuts(nodes, Cuts::Ends, space))
+}
+
+// The search for claims of a macro, in a way, which reports why it stopped where that can be told.
 fn searched(
     called: &Called<'_>,
     way: Strategy,
-    is_whole: bool,
     report: &mut Report,
     alloc: Global,
 ) -> Result<Claims, SearchStop> {
@@ -409,26 +491,39 @@ fn searched(
         is_exact: way.is_exact || has_quotients,
         spoken,
         most_cases: way.most_cases,
-        fuel: if is_whole { FUEL } else { FUEL / 2 },
-        work: if is_whole { WORK } else { WORK / 2 },
+        steps: report.left.steps,
+        work: report.left.work,
+        at: 0,
         alloc,
     };
+    let is_of_use = !way.wants_new || is_new(&search, &mut space);
     space.finish()?;
-    Ok(tried(&mut search, way, report)?)
+    if !is_of_use {
+        return Err(SearchStop::Refused(SearchRefusal::Size));
+    }
+    let found = tried(&mut search, way, report);
+    report.left = SearchLimits {
+        steps: search.steps,
+        work: search.work,
+    };
+    Ok(found.map_err(|refusal| placed(&search, refusal))?)
 }
 
 // The claims that a way finds, unless bounds are steep and another way may find better ones.
 fn found_by(
     called: &Called<'_>,
-    attempt: usize,
+    attempt: Attempt,
     report: &mut Report,
     alloc: Global,
 ) -> Result<Claims, SearchRefusal> {
-    let Some(way) = WAYS.get(attempt) else {
-        return Err(SearchRefusal::TooMuch);
+    let Some(way) = WAYS.get(attempt.way) else {
+        return Err(SearchRefusal::TooMuch(None));
     };
-    let is_whole = attempt == 0 || way.is_last;
-    match searched(called, *way, is_whole, report, alloc) {
+    let way = Strategy {
+        wants_new: !attempt.is_behind_doubt && way.is_exact,
+        ..*way
+    };
+    match searched(called, way, report, alloc) {
         Ok(claims) => {
             let is_steep = claims.commands.at(STEEP_AT).is_none();
             if is_steep && !way.is_last {
@@ -437,7 +532,7 @@ fn found_by(
             Ok(claims)
         }
         Err(SearchStop::Refused(refusal)) => Err(refusal),
-        Err(_) => Err(SearchRefusal::TooMuch),
+        Err(_) => Err(SearchRefusal::TooMuch(None)),
     }
 }
 
@@ -447,12 +542,23 @@ pub struct Inference;
 impl ClaimSearch for Inference {
     const WAYS: usize = ATTEMPTS;
 
-    fn find(called: &Called<'_>, way: usize, alloc: Global) -> Result<Claims, SearchFailure> {
+    const STEPS: usize = STEPS;
+
+    fn find(
+        called: &Called<'_>,
+        attempt: Attempt,
+        budget: &mut Budget,
+        alloc: Global,
+    ) -> Result<Claims, SearchFailure> {
+        let limits = SearchLimits::of(attempt.way, budget);
         let mut report = Report {
-            is_wanted: way == 0,
+            is_wanted: attempt.way == 0,
             shortfall: None,
+            left: limits,
         };
-        match found_by(called, way, &mut report, alloc) {
+        let found = found_by(called, attempt, &mut report, alloc);
+        budget.spend(limits.count().saturating_sub(report.left.count()));
+        match found {
             Ok(claims) => Ok(claims),
             Err(refusal) => Err(SearchFailure {
                 refusal,
@@ -472,7 +578,7 @@ impl ClaimSearch for Inference {
         match refusal {
             SearchRefusal::NotTold(_)
             | SearchRefusal::NotOpen(_)
-            | SearchRefusal::TooMuch
+            | SearchRefusal::TooMuch(_)
             | SearchRefusal::Memory => None,
             _ if next < last => Some(next),
             _ => None,

@@ -274,7 +274,7 @@ pub fn claims_of(
 ) -> Result<Claims, SearchStop> {
     let (Some(commands), Some(size)) = (polynomial(&promises.commands), polynomial(&promises.size))
     else {
-        return Err(SearchStop::Refused(SearchRefusal::TooMuch));
+        return Err(SearchStop::Refused(SearchRefusal::TooMuch(None)));
     };
     let grows = polynomial_if(&promises.grows);
     let types = polynomial_if(&promises.types);

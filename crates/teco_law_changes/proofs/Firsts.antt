@@ -341,7 +341,8 @@ module _ (s : State) (e : Element) (have : HaveNoFirst s.arguments) where
   element_has (kind.File f) gives =
       onward_any Has (arguments_of s.arguments.level) _ (λ taken is. files f)
 
-  -- ---- steps
+-- ---- what a reply leaves pending is pending at the next state
+module _ (s : State) (e : Element) where
   by_course : (reply : Reply) (t : State) (course : Course) → settled e s.frames reply course ≡ Next t
       → reply.arguments ≡ t.arguments
   by_course reply t Behind goes = let same : reply.arguments ≡ t.arguments = cc in same
@@ -352,15 +353,16 @@ module _ (s : State) (e : Element) (have : HaveNoFirst s.arguments) where
   by_course reply t NoFile goes = absurd cc
   by_course reply t (Refused c) goes = absurd cc
 
-  settle_has : (t : State) (r : Result Reply Code) → IfOk r Has → settle e s r ≡ Next t → HaveNoFirst t.arguments
-  settle_has t (Ok reply) d goes = subst HaveNoFirst (by_course reply t reply.course goes) d
-  settle_has t (Err c) d goes = absurd cc
+  pub settle_leaves : (P : Arguments → Type 0) (t : State) (r : Result Reply Code) → IfOk r (λ reply. P reply.arguments)
+      → settle e s r ≡ Next t → P t.arguments
+  settle_leaves P t (Ok reply) d goes = subst P (by_course reply t reply.course goes) d
+  settle_leaves P t (Err c) d goes = absurd cc
 
 returns_with : (s t : State) (callers : List Frame) → end_outcome callers s ≡ Next t → s.arguments ≡ t.arguments
 returns_with s t [] goes = absurd cc
 returns_with s t (caller ∷ callers) goes = let same : s.arguments ≡ t.arguments = cc in same
 
-end_with : (s t : State) (loops : List Loop) → end_of_text loops s ≡ Next t → s.arguments ≡ t.arguments
+pub end_with : (s t : State) (loops : List Loop) → end_of_text loops s ≡ Next t → s.arguments ≡ t.arguments
 end_with s t [] goes = returns_with s t s.frames.callers goes
 end_with s t (loop ∷ outer) goes = absurd cc
 
@@ -368,7 +370,7 @@ outcome_has : (s t : State) (read : Option Element) → gives_first_in read ≡ 
     → outcome_at s (Ok read) ≡ Next t → HaveNoFirst t.arguments
 outcome_has s t None gives have goes = subst HaveNoFirst (end_with s t s.frames.running.loops goes) have
 outcome_has s t (Some e) gives have goes =
-    settle_has s e have t (reply_of e.kind e s) (element_has s e have e.kind gives) goes
+    settle_leaves s e HaveNoFirst t (reply_of e.kind e s) (element_has s e have e.kind gives) goes
 
 pub steps_give_no_first : StepsGiveNoFirst
 unfolding step

@@ -7,3 +7,5 @@ mod Steps
 mod Onward
 mod Firsts
 pub mod Runs
+mod Numbers
+pub mod Sharper

@@ -2,25 +2,32 @@
 use Rattle.std.proofs.Common.{◌≡◌, ℕ, zero, suc, List, refl, sym, ap, ◌∙◌, subst, arith, Option, Some}
 use Rattle.std.proofs.Common.{None}
 use Rattle.std.proofs.Common.{Result, Ok, Err, Bool, true, false, is_some}
-use Rattle.std.proofs.lemmas.List.Elements.{All-nil}
-use Rattle.std.specs.Prelude.{Contains}
 use Rattle.teco_base.specs.declared.code.Code.{Code}
+use Rattle.std.specs.Prelude.{◌<◌}
+use Rattle.std.specs.Option.{option_map_or}
 use Rattle.teco_changes.specs.Changes.{Changes}
-use Rattle.teco_changes.specs.Elements.{changes_told}
+use Rattle.teco_changes.specs.Arguments.{IsSo, behind}
+use Rattle.teco_changes.specs.Elements.{changes_of, changes_told, either_told, told_with as told_by_kind}
 use Rattle.teco_changes.specs.Worlds.{IsChangedBy, text_of}
+use Rattle.teco_changes.specs.declared.argument.NumericArgument.{NumericArgument}
+use Rattle.teco_changes.specs.declared.argument.NumericArgument.TheVariants as known
 use Rattle.teco_changes.specs.declared.change.Change.{Change}
 use Rattle.teco_changes.proofs.Closure.{changes_are_among, changes_follow}
 use Rattle.teco_changes.proofs.Elements.{no_change}
-use Rattle.teco_law_changes.specs.Runs.{Begins, EndsAreTold, IsAmong, ReadsNodes, RunsAreTold, Tells}
-use Rattle.teco_law_changes.specs.Steps.{HaveNoFirst, IsUnderway, Reads, gives_first_in, is_ranged, told_of}
+use Rattle.teco_law_changes.specs.Runs.{Begins, EndsAreTold, IsAmong, IsOfMacro, RunsAreTold, Tells}
+use Rattle.teco_law_changes.specs.Steps.{HaveNoFirst, IsKnown, IsUnderway, Reads, is_ranged, told_with}
 use Rattle.teco_law_changes.proofs.Firsts.{steps_give_no_first}
 use Rattle.teco_law_changes.proofs.Onward.{steps_go_on}
-use Rattle.teco_law_changes.proofs.Steps.{steps_are_told}
-use Rattle.teco_law_runs.specs.Framing.{OfNode, OfNone, ReadsIn}
+use Rattle.teco_law_changes.proofs.Numbers.{steps_leave_arguments}
+use Rattle.teco_law_changes.proofs.Sharper.{steps_are_told_with}
 use Rattle.teco_law_runs.specs.Given.{start_given}
+use Rattle.teco_law_runs.specs.Linked.{AreLinked}
+use Rattle.teco_law_runs.specs.Loaded.{StaysLoaded}
+use Rattle.teco_law_runs.specs.Run.{MovesFrom, Stayed, Went}
+use Rattle.teco_law_runs.specs.Steps.{IsLeftAt, is_long}
 use Rattle.teco_law_runs.proofs.Keeping.{end_stays}
 use Rattle.teco_law_runs.proofs.Pending.{argument_whole}
-use Rattle.teco_law_runs.proofs.Runs.{last_step}
+use Rattle.teco_law_runs.proofs.Runs.{AtNode, ends, is_node, last_step, node_or_end, runs_end, steps_go_along_nodes}
 use Rattle.teco_law_runs.proofs.Walking.{reaches_none}
 use Rattle.teco_model.proofs.Ahead.{element_at-again}
 use Rattle.teco_model.proofs.Chains.{bound, ok}
@@ -29,16 +36,17 @@ use Rattle.teco_model.specs.Element.{Element, blank_end}
 unfoldable use Rattle.teco_model.specs.Element.{element_at}
 unfoldable use Rattle.teco_model.specs.Run.{run}
 use Rattle.teco_model.specs.Run.{Reaches}
-use Rattle.teco_model.specs.State.{Next, State, World}
+use Rattle.teco_model.specs.State.{End, Next, Outcome, State, World}
 use Rattle.teco_model.specs.Step.{step}
 use Rattle.teco_model.specs.declared.kind.Kind.{Kind}
 use Rattle.teco_model.specs.declared.kind.Kind.TheVariants as kind
 use Rattle.teco_model.specs.declared.kind.Page.TheVariants as page
-use Rattle.teco_model.specs.Macros.{ArgumentRange, IsAsked, call_of}
+use Rattle.teco_model.specs.Macros.{ArgumentRange, IsAsked, IsLoaded, Library, call_of, is_macro}
 use Rattle.teco_model.specs.laws.Whole.{AreBytes, IsWholeOutcome, IsWholeState, IsWholeWorld}
-use Rattle.teco_verifier.specs.expansion.Node.{Node}
+use Rattle.teco_verifier.specs.expansion.Names.{writes_macro, written_by}
+use Rattle.teco_verifier.specs.expansion.Node.{Node, Stand, beginning, numbered, over, stand_at, stands}
 use Rattle.teco_verifier.specs.facts.Argument.{arguments_given}
-use Rattle.teco_verifier.specs.expansion.Position.{position_of}
+use Rattle.teco_verifier.specs.expansion.Position.{position_of, position_of_frames}
 use Rattle.teco_verifier.specs.expansion.Refusal.{◌>>=◌}
 use Rattle.teco_verifier.specs.expansion.Ways.{as_fault, pattern_parts, sound}
 unfoldable use Rattle.teco_verifier.specs.expansion.Ways.{read_at}
@@ -77,26 +85,76 @@ by_kind (kind.Command c) e old new h = h
 by_kind (kind.Search x) e old new h = h
 by_kind (kind.File f) e old new h = h
 
-no_stronger : (read : Option Element) (was said : Bool) → (was ≡ true → said ≡ true)
-    → Weaker (told_of read was) (told_of read said)
-no_stronger read true true same old new h = h
-no_stronger read false false same old new h = h
-no_stronger read true false same old new h = absurd (let z : Path Bool false true = same refl in cc)
-no_stronger None false true same old new h = h
-no_stronger (Some e) false true same old new h = by_kind e.kind e old new h
+either_weaker : (sharp was said : Option (List Change)) → Weaker was said
+    → Weaker (either_told sharp was) (either_told sharp said)
+either_weaker None was said weaker old new h = weaker old new h
+either_weaker (Some changes) was said weaker old new h = h
+
+no_stronger : (read : Option Element) (was said : Bool) (before : NumericArgument) → (was ≡ true → said ≡ true)
+    → Weaker (told_with read was before) (told_with read said before)
+no_stronger read true true before same old new h = h
+no_stronger read false false before same old new h = h
+no_stronger read true false before same old new h = absurd (let z : Path Bool false true = same refl in cc)
+no_stronger None false true before same old new h = h
+no_stronger (Some e) false true before same old new h =
+    either_weaker (told_by_kind e.kind e.text before) (changes_of e false) (changes_of e true)
+    (by_kind e.kind e) old new
+    h
 
 among : (told : Option (List Change)) (changes : List Change) → IsAmong told changes → (old new : List ℕ)
     → IsChangedBy told old new → Changes changes old new
 among None changes is old new h = absurd is
 among (Some some) changes is old new h = changes_are_among some changes old new is h
 
+nothing_left : (read : Option Element) (left : Option ℕ) → left ≡ None → IsLeftAt read left
+nothing_left None left h = subst (IsLeftAt None) (sym h) tt
+nothing_left (Some e) left h = subst (IsLeftAt (Some e)) (sym h) tt
+
+same_node : (a b : Node) (o : Option Node) → o ≡ Some a → o ≡ Some b → a ≡ b
+same_node a b o is other = let same : ◌≡◌ {A = Option Node} (Some a) (Some b) = sym is ∙ other in cc
+
+no_more : {P : Type 0} (left : Option ℕ) (n : ℕ) → left ≡ None → left ≡ Some n → P
+no_more left n none some = let z : Path (Option ℕ) None (Some n) = sym none ∙ some in absurd cc
+
+-- an element of several steps writes no text of the library
+long_writes_none : (k : Kind) → is_long k ≡ true → written_by k ≡ None
+long_writes_none (kind.Page p) long = refl
+long_writes_none (kind.Search x) long = refl
+long_writes_none (kind.Argument a) long = absurd cc
+long_writes_none (kind.Value v) long = absurd cc
+long_writes_none (kind.Query q) long = absurd cc
+long_writes_none (kind.Stack k) long = absurd cc
+long_writes_none (kind.Call c) long = absurd cc
+long_writes_none (kind.Flow f) long = absurd cc
+long_writes_none (kind.Command c) long = absurd cc
+long_writes_none (kind.File f) long = absurd cc
+
+left_writes_none : (library : Library) (read : Option Element) (left : Option ℕ) (n : ℕ) → left ≡ Some n
+    → IsLeftAt read left → writes_macro library read ≡ false
+left_writes_none library None left n some is = absurd (subst (IsLeftAt None) some is)
+left_writes_none library (Some e) left n some is =
+    ap (λ wrote. option_map_or (is_macro library) wrote false)
+    (long_writes_none e.kind (subst (IsLeftAt (Some e)) some is))
+
+-- where a state stands among the nodes, and that work is left at an element of several steps alone
+record Stands (all : List Stand) (number : ℕ) (s : State) : Type 0 where
+  stand : Stand
+  at : numbered all number ≡ Some stand
+  position : stand.position ≡ position_of s
+  left : (read : Option Element) → read_at stand.position ≡ Ok read → IsLeftAt read s.left
+
 -- ---- a step
-module _ (nodes : List Node) (changes : List Change) (tells : Tells nodes changes) (first : State) where
+module _ (stays : StaysLoaded) (library : Library) (entry : ℕ) (nodes : List Node) (changes : List Change)
+    (tells : Tells nodes changes) (linked : AreLinked library entry nodes) (first : State) where
   record Along (s : State) : Type 0 where
     whole : IsWholeState s
     under : IsUnderway s
     arguments : tells.ranged ≡ false → HaveNoFirst s.arguments
     changed : Changes changes (text_of first.world) (text_of s.world)
+    number : ℕ
+    there : Stands (stands nodes entry) number s
+    loaded : (n : ℕ) → s.left ≡ Some n → IsLoaded library s.world.kept
+    known : (node : Node) → numbered nodes number ≡ Some node → IsKnown node.element (tells.before number) s
 
   ranged_said : (s : State) → (tells.ranged ≡ false → HaveNoFirst s.arguments) → (said : Bool) → tells.ranged ≡ said
       → is_ranged s ≡ true → said ≡ true
@@ -105,59 +163,156 @@ module _ (nodes : List Node) (changes : List Change) (tells : Tells nodes change
       let e : Path Bool (is_some s.arguments.level.first) false = ap is_some (none is).level in
       absurd (let z : Path Bool true false = sym ranged ∙ e in cc)
 
-  next_along : (s t : State) (read : Option Element) → Along s → Reads s read → step s ≡ Next t
-      → IsAmong (told_of read tells.ranged) changes → (tells.ranged ≡ false → gives_first_in read ≡ false) → Along t
-  next_along s t read along reads goes is gives = record {
-    whole = subst IsWholeOutcome goes (step_whole s along.whole);
-    under = steps_go_on s t read along.under reads goes;
-    arguments = λ none. steps_give_no_first s t read (gives none) (along.arguments none) reads goes;
-    changed =
-        changes_follow changes (text_of first.world) (text_of s.world) (text_of t.world) along.changed
-        (among (told_of read tells.ranged) changes is (text_of s.world) (text_of t.world)
-        (no_stronger read (is_ranged s) tells.ranged (ranged_said s along.arguments tells.ranged refl)
-        (text_of s.world) (text_of t.world) (steps_are_told s t read along.whole along.under reads goes)));
-  }
+  -- from a node
+  module _ (s t : State) (along : Along s) (k : ℕ) (node : Node) (at : numbered nodes k ≡ Some node)
+      (stand : node.stand.position ≡ position_of s) (left : IsLeftAt node.element s.left)
+      (known : IsKnown node.element (tells.before k) s) (goes : step s ≡ Next t)
+      (loaded : IsLoaded library s.world.kept) where
+    here : read_at node.stand.position ≡ Ok node.element
+    here = (linked.each k node at).reads
 
-  by_node : (s t : State) → Along s → ReadsIn nodes s → step s ≡ Next t → Along t
-  by_node s t along (OfNode number node at reads) goes =
-      next_along s t node.element along (as_element s node.element reads) goes (tells.each number node at)
-      (λ none. tells.none none number node at)
-  by_node s t along (OfNone reads) goes =
-      next_along s t None along (as_element s None reads) goes (All-nil (Contains changes)) (λ none. refl)
+    read_here : read_at (position_of s) ≡ Ok node.element
+    read_here = ap read_at (sym stand) ∙ here
+
+    reads : Reads s node.element
+    reads = as_element s node.element read_here
+
+    behind_is : IsSo (behind node.element (tells.before k)) t.arguments.level
+    behind_is = steps_leave_arguments s t node.element (tells.before k) left known reads goes
+
+    told : Changes changes (text_of s.world) (text_of t.world)
+    told =
+        among (told_with node.element tells.ranged (tells.before k)) changes (tells.each k node at) (text_of s.world)
+        (text_of t.world)
+        (no_stronger node.element (is_ranged s) tells.ranged (tells.before k)
+        (ranged_said s along.arguments tells.ranged refl) (text_of s.world) (text_of t.world)
+        (steps_are_told_with s t node.element (tells.before k) along.whole along.under left known reads goes))
+
+    comes : (number : ℕ) → Stands (stands nodes entry) number t
+        → ((n : ℕ) → t.left ≡ Some n → IsLoaded library t.world.kept)
+        → ((node : Node) → numbered nodes number ≡ Some node → IsKnown node.element (tells.before number) t) → Along t
+    comes number there loaded known = record {
+      whole = subst IsWholeOutcome goes (step_whole s along.whole);
+      under = steps_go_on s t node.element along.under reads goes;
+      arguments = λ none.
+          steps_give_no_first s t node.element (tells.none none k node at) (along.arguments none) reads goes;
+      changed = changes_follow changes (text_of first.world) (text_of s.world) (text_of t.world) along.changed told;
+      number = number;
+      there = there;
+      loaded = loaded;
+      known = known;
+    }
+
+    moves : MovesFrom (stands nodes entry) k node s t → numbered (stands nodes entry) k ≡ Some node.stand → Along t
+    moves (Went went) standing = comes went.target (record {
+      stand = stand_at k node.stand (position_of t);
+      at = went.there.at;
+      position = refl;
+      left = λ read is. nothing_left read t.left went.done;
+    }) (λ n more. no_more t.left n went.done more) (λ other there. record {
+      begins = λ none. tells.known.goes k node went.way went.target at went.taken t.arguments.level behind_is;
+      goes_on = λ n more. no_more t.left n went.done more;
+    })
+    moves (Stayed still) standing = comes k (record {
+      stand = node.stand;
+      at = standing;
+      position = stand ∙ ap position_of_frames (sym still.same);
+      left = λ read is. subst (λ read. IsLeftAt read t.left) (ok node.element read (sym here ∙ is)) still.long;
+    }) (λ n more. stays library s t node.element loaded
+        (left_writes_none library node.element t.left still.n still.left still.long) read_here goes)
+        (λ other there. record {
+          begins = λ none. no_more t.left still.n none still.left;
+          goes_on = λ n more. subst (λ (node : Node). IsSo (behind node.element (tells.before k)) t.arguments.level)
+              (same_node node other (numbered nodes k) at there) behind_is;
+        })
+
+  at_node : (s t : State) (along : Along s) (k : ℕ) → along.number ≡ suc k
+      → AtNode nodes (over entry) along.there.stand k → step s ≡ Next t → IsLoaded library s.world.kept → Along t
+  at_node s t along k is (is_node node at same) goes loaded =
+      let stand = ap (λ (stand : Stand). stand.position) same ∙ along.there.position in
+      let left = along.there.left node.element
+      (ap (λ (stand : Stand). read_at stand.position) (sym same) ∙ (linked.each (suc k) node at).reads) in
+      moves s t along (suc k) node at stand left
+      (subst (λ number. (node : Node) → numbered nodes number ≡ Some node
+      → IsKnown node.element (tells.before number) s) is along.known node at) goes loaded
+      (steps_go_along_nodes library entry nodes (suc k) node s t linked at stand left loaded goes)
+      (ap (numbered (stands nodes entry)) (sym is) ∙ along.there.at ∙ ap Some (sym same))
+  at_node s t along k is (ends same) goes loaded =
+      let over_there = ap (λ (stand : Stand). stand.position) (sym same) ∙ along.there.position in
+      let z : Path Outcome (End s.world) (Next t) = sym (runs_end entry s over_there) ∙ goes in absurd cc
+
+  next_along : (s t : State) (along : Along s) (number : ℕ) → along.number ≡ number → step s ≡ Next t
+      → IsLoaded library s.world.kept → Along t
+  next_along s t along zero is goes loaded =
+      let z : Path (Option Stand) None (Some along.there.stand) =
+      ap (numbered (stands nodes entry)) (sym is) ∙ along.there.at in absurd cc
+  next_along s t along (suc k) is goes loaded =
+      at_node s t along k is (node_or_end nodes (over entry) along.there.stand k
+      (ap (numbered (stands nodes entry)) (sym is) ∙ along.there.at)) goes loaded
 
   -- ---- steps one after another
-  begins : Begins first → Along first
-  begins b = record {
+  begins : Begins first → position_of first ≡ (beginning entry).position → Along first
+  begins b stand = record {
     whole = b.whole;
-    under = λ n left. absurd (let z : Path (Option ℕ) None (Some n) = sym b.done ∙ left in cc);
+    under = λ n left. no_more first.left n b.done left;
     arguments = λ none. b.arguments;
     changed = no_change changes (text_of first.world) (text_of first.world) refl;
+    number = 1;
+    there = record {
+      stand = beginning entry;
+      at = linked.first;
+      position = sym stand;
+      left = λ read is. nothing_left read first.left b.done;
+    };
+    loaded = λ n left. no_more first.left n b.done left;
+    known = λ node at. record {
+      begins = λ none. tells.known.first first.arguments.level b.complete;
+      goes_on = λ n left. no_more first.left n b.done left;
+    };
   }
 
-  goes_along : Begins first → (n : ℕ) (s : State) → ReadsNodes nodes first n → Reaches n first s → Along s
+  loaded_there : (s : State) → Along s → (s.left ≡ None → IsLoaded library s.world.kept) → IsLoaded library s.world.kept
+  loaded_there s along begins = by s.left refl
+    where
+      by : (left : Option ℕ) → s.left ≡ left → IsLoaded library s.world.kept
+      by None none = begins none
+      by (Some n) left = along.loaded n left
+
+  goes_along : Begins first → position_of first ≡ (beginning entry).position → (n : ℕ) (s : State)
+      → ((k : ℕ) (u : State) → k < n → Reaches k first u → u.left ≡ None → IsLoaded library u.world.kept)
+      → Reaches n first s → Along s
   unfolding run
-  goes_along b zero s reads came = subst Along (reaches_none first s came) (begins b)
-  goes_along b (suc n) s reads came =
+  goes_along b stand zero s loaded came = subst Along (reaches_none first s came) (begins b stand)
+  goes_along b stand (suc n) s loaded came =
       let last = last_step (run n first) s came in
-      by_node last.last s (goes_along b n last.last (λ k u l. reads k u (omega (arith, l))) last.was)
-      (reads n last.last (omega arith) last.was) last.goes
+      let along = goes_along b stand n last.last (λ k u l. loaded k u (omega (arith, l))) last.was in
+      next_along last.last s along along.number refl last.goes
+      (loaded_there last.last along (loaded n last.last (omega arith) last.was))
 
-  pub run_is_told : Begins first → (n : ℕ) (s : State) → ReadsNodes nodes first n → Reaches n first s
-      → Changes changes (text_of first.world) (text_of s.world)
-  run_is_told b n s reads came = (goes_along b n s reads came).changed
+run_is_told : StaysLoaded → (library : Library) (entry : ℕ) (nodes : List Node) (changes : List Change)
+    → Tells nodes changes
+    → (first : State) → Begins first → (n : ℕ) (s : State) → IsOfMacro library entry nodes first n → Reaches n first s
+    → Changes changes (text_of first.world) (text_of s.world)
+run_is_told stays library entry nodes changes tells first b n s of came =
+    (goes_along stays library entry nodes changes tells of.linked first b of.begins n s of.loaded came).changed
 
-pub runs_are_told : RunsAreTold
-runs_are_told nodes first n s b reads came changes tells = run_is_told nodes changes tells first b n s reads came
+pub runs_are_told : StaysLoaded → RunsAreTold
+runs_are_told stays library entry nodes first n s b of came changes tells =
+    run_is_told stays library entry nodes changes tells first b n s of came
 
-pub ends_are_told : EndsAreTold
-ends_are_told nodes first n new b reads ends changes tells =
-    subst (λ world. Changes changes (text_of first.world) (text_of world)) (end_stays ends.last new ends.end)
-    (run_is_told nodes changes tells first b n ends.last reads ends.steps)
+pub ends_are_told : StaysLoaded → EndsAreTold
+ends_are_told stays library entry nodes first n new b of over_it changes tells =
+    subst (λ world. Changes changes (text_of first.world) (text_of world)) (end_stays over_it.last new over_it.end)
+    (run_is_told stays library entry nodes changes tells first b n over_it.last of over_it.steps)
 
 -- ---- where a call begins
 none_first : (given : Option ℕ) → HaveNoFirst (arguments_given given)
 none_first None = record { level = refl; outer = tt }
 none_first (Some n) = record { level = refl; outer = tt }
+
+none_waits : (given : Option ℕ) → IsSo known.Complete (arguments_given given).level
+none_waits None = refl
+none_waits (Some n) = refl
 
 pub call_begins : (argument : Option ArgumentRange) (entry : ℕ) (given : Option ℕ) (world : World)
     → IsAsked argument given → IsWholeWorld world → AreBytes (call_of entry)
@@ -170,4 +325,5 @@ call_begins argument entry given world asked whole call = record {
   };
   done = refl;
   arguments = none_first given;
+  complete = none_waits given;
 }

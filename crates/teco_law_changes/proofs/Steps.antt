@@ -65,22 +65,22 @@ anything (Ok x) = tt
 anything (Err e) = tt
 
 module _ (s : State) (e : Element) where
-  abbrev Told : Option (List Change) → Reply → Type 0
+  abbrev pub Told : Option (List Change) → Reply → Type 0
   Told told reply = IsChangedBy told (text_of s.world) (text_of reply.world)
 
-  as_was : (changes : List Change) (world : World) → text_of world ≡ text_of s.world
+  pub as_was : (changes : List Change) (world : World) → text_of world ≡ text_of s.world
       → Changes changes (text_of s.world) (text_of world)
   as_was changes world same = no_change changes (text_of s.world) (text_of world) (sym same)
 
   -- ---- elements that work on the editor alone
-  abbrev Edits : List Change → Kept → Type 0
+  abbrev pub Edits : List Change → Kept → Type 0
   Edits changes new =
       (new.form_feed ≡ s.world.kept.form_feed) × Changes changes s.world.kept.text new.text
 
-  abbrev EditsAfter : List Change → After → Type 0
+  abbrev pub EditsAfter : List Change → After → Type 0
   EditsAfter changes done = Edits changes done.kept
 
-  behind : (changes : List Change) (r : Result After Code) → IfOk r (EditsAfter changes)
+  pub behind : (changes : List Change) (r : Result After Code) → IfOk r (EditsAfter changes)
       → IfOk (on_editor s.left s.world r) (Told (Some changes))
   behind changes r i =
       onward_made (EditsAfter changes) (Told (Some changes)) r
@@ -323,7 +323,7 @@ module _ (s : State) (e : Element) where
   by_course reply t NoFile goes = absurd cc
   by_course reply t (Refused c) goes = absurd cc
 
-  settle_told : (told : Option (List Change)) (t : State) (r : Result Reply Code) → IfOk r (Told told)
+  pub settle_told : (told : Option (List Change)) (t : State) (r : Result Reply Code) → IfOk r (Told told)
       → settle e s r ≡ Next t → IsChangedBy told (text_of s.world) (text_of t.world)
   settle_told told t (Ok reply) d goes =
       subst (λ world. IsChangedBy told (text_of s.world) (text_of world)) (by_course reply t reply.course goes) d

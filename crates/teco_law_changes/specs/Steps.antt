@@ -1,10 +1,12 @@
 -- Each step changes the text of the world by what is told of its element.
 use Rattle.std.specs.Prelude.{◌≡◌, ℕ, List, [], Bool, true, false, Option, Some, None, is_some, Ok}
 use Rattle.std.specs.List.{AllByRecursion}
-use Rattle.teco_changes.specs.Elements.{changes_of}
+use Rattle.teco_changes.specs.Arguments.{IsSo, behind}
+use Rattle.teco_changes.specs.Elements.{changes_of, changes_with}
 use Rattle.teco_changes.specs.Worlds.{IsChangedBy, text_of}
+use Rattle.teco_changes.specs.declared.argument.NumericArgument.{NumericArgument}
 use Rattle.teco_changes.specs.declared.change.Change.{Change}
-use Rattle.teco_law_runs.specs.Steps.{is_long}
+use Rattle.teco_law_runs.specs.Steps.{IsLeftAt, is_long}
 use Rattle.teco_model.specs.Arguments.{Arguments}
 use Rattle.teco_model.specs.Element.{Element, element_at}
 use Rattle.teco_model.specs.Search.{search_text_of}
@@ -75,3 +77,25 @@ StepsGiveNoFirst =
     (s t : State) (read : Option Element)
     → gives_first_in read ≡ false → HaveNoFirst s.arguments → Reads s read → step s ≡ Next t
     → HaveNoFirst t.arguments
+
+-- What is known of the numeric argument is so where an element begins; where it goes on, what is known behind it.
+pub record IsKnown (read : Option Element) (before : NumericArgument) (s : State) : Type 0 where
+  pub begins : s.left ≡ None → IsSo before s.arguments.level
+  pub goes_on : (n : ℕ) → s.left ≡ Some n → IsSo (behind read before) s.arguments.level
+
+abbrev pub StepsLeaveArguments : Type 0
+StepsLeaveArguments =
+    (s t : State) (read : Option Element) (before : NumericArgument)
+    → IsLeftAt read s.left → IsKnown read before s → Reads s read → step s ≡ Next t
+    → IsSo (behind read before) t.arguments.level
+
+-- what is read can do so much where that is known
+abbrev pub told_with : Option Element → Bool → NumericArgument → Option (List Change)
+told_with None ranged before = Some []
+told_with (Some e) ranged before = changes_with e ranged before
+
+abbrev pub StepsAreToldWith : Type 0
+StepsAreToldWith =
+    (s t : State) (read : Option Element) (before : NumericArgument)
+    → IsWholeState s → IsUnderway s → IsLeftAt read s.left → IsKnown read before s → Reads s read → step s ≡ Next t
+    → IsChangedBy (told_with read (is_ranged s) before) (text_of s.world) (text_of t.world)

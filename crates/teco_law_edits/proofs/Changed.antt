@@ -17,8 +17,7 @@ use Rattle.teco_changes.proofs.Closure.{changes_follow}
 use Rattle.teco_changes.proofs.Elements.{no_change}
 use Rattle.teco_changes.specs.Changes.{Changes}
 use Rattle.teco_changes.specs.Worlds.{text_of}
-use Rattle.teco_changes.specs.declared.change.Change.{Change}
-use Rattle.teco_law_changes.specs.Runs.{TellsOf}
+use Rattle.teco_law_changes.specs.Runs.{IsGot}
 use Rattle.teco_law_edits.proofs.Opening.{opened}
 use Rattle.teco_law_edits.proofs.Pages.{behind_page, gathered_open, output_there, page_is_less, turned_open}
 use Rattle.teco_law_edits.proofs.Running.{HasEnd, IsOpen, macro_ends, not_run_code, sure_ends, text_ends}
@@ -27,7 +26,7 @@ use Rattle.teco_law_edits.proofs.Strict.{turning_ends, turns, untyped}
 use Rattle.teco_law_edits.proofs.Texting.{copied_text, gathered_text, marked_page, opened_text, turned_name}
 use Rattle.teco_law_edits.proofs.Texting.{turned_text}
 use Rattle.teco_law_edits.specs.Bounds.{bound_at}
-use Rattle.teco_law_edits.specs.Changed.{IsGot, IsMade, MakesChanged}
+use Rattle.teco_law_edits.specs.Changed.{IsMade, MakesChanged}
 use Rattle.teco_law_edits.specs.Strict.{CanBegin, IsStrict}
 use Rattle.teco_law_edits.specs.Texts.{TextsEnd, at_start, gathered, next_page}
 use Rattle.teco_law_runs.specs.Keeping.{LeavesOpen}
@@ -76,11 +75,14 @@ module _ (once : RunsEndOnce) (texts : TextsEnd) (order : Order) (strict : IsStr
   abbrev IsDone : Files → Type 0
   IsDone files = IsMade order.call.promise bytes target files
 
+  abbrev Got : List ℕ → Type 0
+  Got text = IsGot order.call.promise.library order.call.promise.entry bytes text
+
   -- both files are open, the output is the target, and what it will have is got from the source's text
   record IsAlong (world : World) : Type 0 where
     open_files : IsOpen most world.files
     output : output_name world.files ≡ Some target
-    got : IsGot order.call.promise bytes (text_of world)
+    got : Got (text_of world)
 
   GoesOn : EditCourse → World → Type 0
   GoesOn More old =
@@ -89,9 +91,7 @@ module _ (once : RunsEndOnce) (texts : TextsEnd) (order : Order) (strict : IsStr
 
   -- ---- the macro
   abbrev Changed : World → World → Type 0
-  Changed old new =
-      (changes : List Change) → TellsOf order.call.promise.library order.call.promise.entry changes
-      → Changes changes (text_of old) (text_of new)
+  Changed old new = IsGot order.call.promise.library order.call.promise.entry (text_of old) (text_of new)
 
   ended_changed : (old after : World) (answer : Stop) → AdmittedStops order old answer after
       → false ≡ is_code (code_of answer)
@@ -115,7 +115,7 @@ module _ (once : RunsEndOnce) (texts : TextsEnd) (order : Order) (strict : IsStr
       record {
         open_files = macro_ends order strict most old mid along.open_files f g sink sunk a;
         output = ap (λ (w : World). output_name w.files) a.stays ∙ does.1 ∙ along.output;
-        got = subst (λ (w : World). IsGot order.call.promise bytes (text_of w)) (sym a.stays)
+        got = subst (λ (w : World). Got (text_of w)) (sym a.stays)
             (λ changes tells. changes_follow changes bytes (text_of old) (text_of a.after) (along.got changes tells)
             (does.0 changes tells));
       }
@@ -165,7 +165,7 @@ module _ (once : RunsEndOnce) (texts : TextsEnd) (order : Order) (strict : IsStr
       record {
         open_files = record { input = open_files.input; output = open_files.output; few = open_files.few };
         output = turned_name old ∙ along.output;
-        got = subst (IsGot order.call.promise bytes) (sym (turned_text old o.0 o.1)) along.got;
+        got = subst Got (sym (turned_text old o.0 o.1)) along.got;
       }
 
   pages_along : (old : World) → IsAlong old → (f : ℕ) (sink : Option (List ℕ)) (done : Tally) (mid : World) (k : ℕ)
@@ -208,7 +208,7 @@ module _ (once : RunsEndOnce) (texts : TextsEnd) (order : Order) (strict : IsStr
         along = record {
           open_files = record { input = open_files.input; output = open_files.output; few = open_files.few };
           output = marked.along.output;
-          got = subst (IsGot order.call.promise bytes) (sym (gathered_text old (marked.marked some))) marked.along.got;
+          got = subst Got (sym (gathered_text old (marked.marked some))) marked.along.got;
         };
         marked = λ more. marked_page (unread old.files) (λ none. more (behind_page old.files ∙ none));
       }

@@ -4,27 +4,20 @@ use Rattle.std.specs.Prelude.{◌≡◌, ℕ, List, false, Option, Some, Ok}
 use Rattle.teco_apply.specs.ByPages.{EditsFile, Order}
 use Rattle.teco_apply.specs.Sure.{PromisedCall}
 use Rattle.teco_apply.specs.declared.by_pages.Edited.{Edited}
-use Rattle.teco_changes.specs.Changes.{Changes}
-use Rattle.teco_changes.specs.declared.change.Change.{Change}
 use Rattle.teco_jobs.specs.Strict.{AreStrict, on_terms}
 use Rattle.teco_jobs.specs.declared.watching.Terms.{Terms}
-use Rattle.teco_law_changes.specs.Runs.{TellsOf}
 use Rattle.teco_law_edits.specs.Strict.{CanBegin}
 use Rattle.teco_model.specs.Files.{Files, file_named}
 use Rattle.teco_model.specs.State.{World}
 use Rattle.teco_options.specs.declared.editing.PageChoice.{PageChoice}
+use Rattle.teco_law_changes.specs.Runs.{IsGot}
 use Rattle.teco_promise.specs.Promise.{Promise}
-
--- a text is got from another by whatever changes are told of the macro
-abbrev pub IsGot : Promise → List ℕ → List ℕ → Type 0
-IsGot promise bytes text =
-    (changes : List Change) → TellsOf promise.library promise.entry changes → Changes changes bytes text
 
 -- the file of this name has such a text
 pub record IsMade (promise : Promise) (bytes target : List ℕ) (files : Files) : Type 0 where
   pub made : List ℕ
   pub there : file_named target files.named ≡ Some made
-  pub got : IsGot promise bytes made
+  pub got : IsGot promise.library promise.entry bytes made
 
 -- An edit that comes to no code, and whose macro is not refused, makes the target's text so from the source's.
 abbrev pub MakesChanged : Order → Type 0

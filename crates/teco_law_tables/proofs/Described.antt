@@ -155,7 +155,7 @@ module _ (laws : ending.Laws) (call : ClosedCall)
     pub at_first : At laws (course call) go 1 [] (course call).first
     at_first = ending.at_first call laws (pass laws (course call) go) files
 
-    known_there : (steps : ℕ) (s : State) → Reaches steps (course call).first s → s.left ≡ None
+    pub known_there : (steps : ℕ) (s : State) → Reaches steps (course call).first s → s.left ≡ None
         → IsKnown call.library call.entry call.nodes call.table call.n call.world.kept.registers.stack s
     known_there steps s came none = known laws (course call) go steps 1 [] (course call).first s at_first came none
 

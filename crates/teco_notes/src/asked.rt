@@ -1,7 +1,10 @@
 //! The policies that a library asks for.
-use crate::finding::{FoundNote, Note, notes_of};
+use crate::keeps;
+use crate::naming::KnownTexts;
 use std::alloc::{AllocError, AllocFailed, Global};
 use teco_base::Reg;
+use teco_console::Setting;
+use teco_parameters::{Comment, comments_of};
 use teco_policy::{Policy, PolicyRefusal};
 
 /// Why the policies of a macro are not known.
@@ -29,29 +32,36 @@ impl<T: Drop> From<AllocFailed<T>> for AskingFault {
     }
 }
 
-// The policy that a note asks for, if it is about one.
-fn policy_of(found: FoundNote) -> Result<Option<Policy>, AskingFault> {
-    let place = found.place;
-    match found.note {
-        Note::Example(_) => Ok(None),
-        Note::Keeps(Ok(policy)) => Ok(Some(policy)),
-        Note::Keeps(Err(refusal)) => Err(AskingFault::Unread { place, refusal }),
+// The policy that a comment asks for, with the texts that registers have.
+fn policy_of(
+    alloc: Global,
+    comment: &Comment,
+    exact: bool,
+    settings: &[Setting],
+) -> Result<Policy, AskingFault> {
+    let known = KnownTexts::Settings(settings);
+    match keeps::read(alloc, &comment.text, exact, known)? {
+        Ok(policy) => Ok(policy),
+        Err(refusal) => Err(AskingFault::Unread {
+            place: comment.place,
+            refusal,
+        }),
     }
 }
 
 /// The policies that the comments of a library ask for, by its text, where the macro of a register is
-/// run by itself.
+/// run by itself and registers have these texts.
 pub fn policies_of(
     alloc: Global,
     library: &[u8],
     entry: Reg,
     exact: bool,
+    settings: &[Setting],
 ) -> Result<Vec<Policy>, AskingFault> {
     let mut policies = Vec::new(alloc);
-    for found in notes_of(alloc, library, exact)? {
-        if found.register.index() == entry.index()
-            && let Some(policy) = policy_of(found)?
-        {
+    for comment in comments_of(alloc, library)? {
+        if comment.register.index() == entry.index() && comment.text.starts_with(keeps::WORD) {
+            let policy = policy_of(alloc, &comment, exact, settings)?;
             policies.push(policy)?;
         }
     }

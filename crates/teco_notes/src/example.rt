@@ -1,10 +1,11 @@
 //! An example, as a comment says it.
-use crate::spelling::spelled;
 use memchr::memmem;
 use std::alloc::{AllocError, Global};
 use std::str;
 use teco_base::Reg;
 use teco_console::Setting;
+use teco_parameters::spelled;
+use teco_policy::Policy;
 
 /// What comments begin with that are examples.
 pub const WORD: &[u8] = b"EXAMPLE";
@@ -22,6 +23,8 @@ pub struct Example {
     pub settings: Vec<Setting>,
     pub before: Vec<u8>,
     pub after: Vec<u8>,
+    /// The policies that the macro keeps, for these texts of its registers.
+    pub policies: Vec<Policy>,
 }
 
 // The parts of a text before and behind the first place where another stands.
@@ -61,7 +64,28 @@ impl Example {
             settings: Vec::new(alloc),
             before,
             after,
+            policies: Vec::new(alloc),
         }
+    }
+
+    /// Gives a register a text by default: it has that where the example gives it none.
+    pub fn take_default(
+        &mut self,
+        alloc: Global,
+        register: Reg,
+        text: &[u8],
+    ) -> Result<(), AllocError> {
+        let is_given = self
+            .settings
+            .iter()
+            .any(|setting| setting.register().index() == register.index());
+        if is_given {
+            return Ok(());
+        }
+        if let Some(setting) = Setting::of(register, text.to_vec(alloc)?) {
+            self.settings.push(setting)?;
+        }
+        Ok(())
     }
 
     // An example of two texts by how they are spelled; none where one of them spells nothing.

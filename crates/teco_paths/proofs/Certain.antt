@@ -123,7 +123,8 @@ pub record Laws : Type 0 where
   pub told : EndsAreTold
 
 module _ (laws : Laws) (nodes : List Node) (library : Library) (needs : Needs) (entry : ℕ) (world : World)
-    (limits : Limits) (Says : ℕ → Point → Type 0) (given : Option ℕ) (begins : Begins (start_given entry given world))
+    (linked : AreLinked library entry nodes) (limits : Limits) (Says : ℕ → Point → Type 0)
+    (given : Option ℕ) (begins : Begins (start_given entry given world))
     (steps : ℕ)
     (ends : EndsBy nodes (ground_of library entry needs world) limits Says steps (start_given entry given world)) where
   abbrev pending : State
@@ -148,8 +149,12 @@ module _ (laws : Laws) (nodes : List Node) (library : Library) (needs : Needs) (
 
   changed : ChangesAsTold nodes world ends.last.world
   changed =
-      laws.told nodes pending ends.more ends.last.world begins
-      (λ k u l r. (ends.underway k u l r).reads) over
+      laws.told library entry nodes pending ends.more ends.last.world begins
+      (record {
+        linked = linked;
+        begins = refl;
+        loaded = λ k u l r none. (ends.underway k u (omega (arith, l)) r).loaded;
+      }) over
 
   -- no argument is given
   pub none_before : steps ≡ 0 → EndsInBounds nodes pending limits.most limits.grown limits.typed
@@ -170,7 +175,8 @@ module _ (laws : Laws) (nodes : List Node) (library : Library) (needs : Needs) (
 
 -- the digits of the argument stand before the call
 module _ (laws : Laws) (nodes : List Node) (library : Library) (needs : Needs) (entry : ℕ) (world : World)
-    (limits : Limits) (Says : ℕ → Point → Type 0) (n : ℕ) (named : entry < REGISTERS) (small : n < 2 ^ 31)
+    (linked : AreLinked library entry nodes) (limits : Limits) (Says : ℕ → Point → Type 0)
+    (n : ℕ) (named : entry < REGISTERS) (small : n < 2 ^ 31)
     (begins : Begins (start_pending entry n world))
     (ends : EndsBy nodes (ground_of library entry needs world) limits Says 1 (start_pending entry n world)) where
   abbrev called : State
@@ -183,7 +189,7 @@ module _ (laws : Laws) (nodes : List Node) (library : Library) (needs : Needs) (
   Pending t = IsWithin limits.grown (held_of t.world)
 
   pending_on : (k : ℕ) (t : State) → k ≤ ends.more → Reaches k (start_pending entry n world) t → Pending t
-  pending_on = within_on laws nodes library needs entry world limits Says (Some n) begins 1 ends
+  pending_on = within_on laws nodes library needs entry world linked limits Says (Some n) begins 1 ends
 
   held_behind : (k : ℕ) (u : State) → k ≤ ends.more → Reaches k digits.behind u → Pending u
   held_behind k u least came =
@@ -210,30 +216,33 @@ module _ (laws : Laws) (nodes : List Node) (library : Library) (needs : Needs) (
       few = ends.within;
       none = none_given laws.calls entry n world named small ends.more ends.none;
       ends = ends_given laws.calls entry n world named small ends.more ends.last.world
-          (over laws nodes library needs entry world limits Says (Some n) begins 1 ends);
+          (over laws nodes library needs entry world linked limits Says (Some n) begins 1 ends);
     };
     on_the_way = held_on;
-    at_the_end = within_end laws nodes library needs entry world limits Says (Some n) begins 1 ends;
+    at_the_end = within_end laws nodes library needs entry world linked limits Says (Some n) begins 1 ends;
     types = ends.types;
-    framed = framed laws nodes library needs entry world limits Says (Some n) begins 1 ends;
-    changed = changed laws nodes library needs entry world limits Says (Some n) begins 1 ends;
+    framed = framed laws nodes library needs entry world linked limits Says (Some n) begins 1 ends;
+    changed = changed laws nodes library needs entry world linked limits Says (Some n) begins 1 ends;
   }
 
 in_all : (laws : Laws) (nodes : List Node) (library : Library) (needs : Needs) (entry : ℕ) (world : World)
-    (limits : Limits) (Says : ℕ → Point → Type 0) (argument : Option ArgumentRange) (given : Option ℕ)
+    (linked : AreLinked library entry nodes) (limits : Limits) (Says : ℕ → Point → Type 0)
+    (argument : Option ArgumentRange) (given : Option ℕ)
     → entry < REGISTERS → IsAsked argument given → Begins (start_given entry given world)
     → EndsBy nodes (ground_of library entry needs world) limits Says (steps_before argument)
     (start_given entry given world)
     → EndsInBounds nodes (start (call_given entry given) world) limits.most limits.grown limits.typed
-in_all laws nodes library needs entry world limits Says None None named asked begins ends =
-    none_before laws nodes library needs entry world limits Says None begins 0 ends refl
-in_all laws nodes library needs entry world limits Says (Some range) (Some n) named asked begins ends =
-    digits_before laws nodes library needs entry world limits Says n named asked.small begins ends
-in_all laws nodes library needs entry world limits Says argument given named asked begins ends = absurd (grind arith)
+in_all laws nodes library needs entry world linked limits Says None None named asked begins ends =
+    none_before laws nodes library needs entry world linked limits Says None begins 0 ends refl
+in_all laws nodes library needs entry world linked limits Says (Some range) (Some n) named asked begins ends =
+    digits_before laws nodes library needs entry world linked limits Says n named asked.small begins ends
+in_all laws nodes library needs entry world linked limits Says argument given named asked begins ends =
+    absurd (grind arith)
 
 pub certain_end : Laws → CertainEnd
 certain_end laws nodes lengths argument needs bounds cuts is library entry given world long linked asked ready opened =
-    in_all laws nodes library needs entry world (limits_in bounds world) (IsSaid cuts (n_of world)) argument given
+    in_all laws nodes library needs entry world linked (limits_in bounds world) (IsSaid cuts (n_of world))
+    argument given
     ready.named asked (call_begins argument entry given world asked ready.whole ready.call)
     (is library entry given world long linked asked ready opened)
 

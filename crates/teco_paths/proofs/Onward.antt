@@ -4,7 +4,8 @@ use Rattle.teco_paths.proofs.Prelude.{◌∙◌, subst, arith, List, [], ◌∷�
 use Rattle.teco_paths.proofs.Prelude.{NodeCase, ComesTo, IsCaseOf, Arrives, Course, IsFollowed, Leads, LeadsOn, IsAt}
 use Rattle.teco_paths.proofs.Prelude.{held_in, most_with, IsHeldWithin, GoOn, IsInTime, IsSharper, IsSmall, IsThere}
 use Rattle.teco_paths.proofs.Prelude.{TypesNoMore, Describes, Ground, Point, Reaches, State}
-use Rattle.teco_model.specs.Registers.{Registers}
+use Rattle.teco_model.specs.Macros.{IsLoaded, Library}
+use Rattle.teco_model.specs.Registers.{Registers, pair_of}
 use Rattle.std.proofs.Common.{◌≢◌}
 use Rattle.teco_law_runs.proofs.Runs.{over_reads}
 use Rattle.teco_law_runs.proofs.Walking.{reaches_none}
@@ -26,6 +27,13 @@ use Rattle.teco_poly.specs.Polynomial.{value}
 above_in : (n : ℕ) (case : Case) (s : Point) → Describes n case s → s.origin.pushes ≤ length s.kept.registers.stack
 above_in n case s d = let z = d.1.shape.pushes in omega (arith, z)
 
+-- a library is loaded where the registers are as they were
+still_loaded : (library : Library) (s u : State) → IsLoaded library s.world.kept
+    → u.world.kept.registers ≡ s.world.kept.registers → IsLoaded library u.world.kept
+still_loaded library s u loaded same = record {
+  holds = λ r text is. ap (λ (x : Registers). (pair_of r x).text) same ∙ loaded.holds r text is;
+}
+
 module _ (course : Course) (number : ℕ) (case : Case) (ground : Ground) (steps : ℕ) (s : State)
     (at : IsAt course.nodes ground number s) (d : Describes ground.n case (point_of steps ground.origin s))
     (said : IsSaid course.cuts ground.n number (point_of steps ground.origin s))
@@ -46,6 +54,7 @@ module _ (course : Course) (number : ℕ) (case : Case) (ground : Ground) (steps
       held = held_down (value course.size ground.n) (most_with course.grows ground.n ground.origin.held) (held_in s)
           (held_in u) amid.held held;
       reads = amid.reads;
+      loaded = still_loaded ground.library s u at.loaded amid.registers;
       above =
           subst (λ (x : Registers). ground.origin.pushes ≤ length x.stack) (sym amid.registers)
           (above_in ground.n case (point_of steps ground.origin s) d);
@@ -104,6 +113,7 @@ over_leads ends course spot some number_is none in_time small types ground steps
     (record {
       held = small ground.n _ d;
       reads = OfNone (ap read_at (sym position) ∙ over_reads ground.entry);
+      loaded = at.loaded;
       above = above_in ground.n spot.case (point_of steps ground.origin s) d;
       said = λ begins. record {
         number = spot.number;

@@ -61,11 +61,13 @@ pub record IsAsSaid (nodes : List Node) (ground : Ground) (Says : ℕ → Point 
   pub said : Says number (point_of steps ground.origin s)
 
 -- A state on the way of a run, so many steps after its entry: it holds no more than it may, what is read there is of a
--- node, and the push-down list has no fewer pairs than at the entry; where an element begins, all is as is said.
+-- node, the library is loaded, and the push-down list has no fewer pairs than at the entry; where an element begins,
+-- all is as is said.
 pub record IsUnderway (nodes : List Node) (ground : Ground) (limits : Limits) (Says : ℕ → Point → Type 0) (steps : ℕ)
     (s : State) : Type 0 where
   pub held : IsHeldWithin limits.size limits.grown (held_in s)
   pub reads : ReadsIn nodes s
+  pub loaded : IsLoaded ground.library s.world.kept
   pub above : ground.origin.pushes ≤ length s.world.kept.registers.stack
   pub said : s.left ≡ None → IsAsSaid nodes ground Says steps s
 

@@ -1,7 +1,8 @@
 //! Changes, and the policies that follow from them, worked by hand.
 use std::alloc::{AllocError, Global};
 use teco_base::Reg;
-use teco_changes::{Change, Class, Manner, Range, Text, always_keep, ends_within_line, is_each};
+use teco_change_policies::{Manner, always_keep, ends_within_line, is_each};
+use teco_changes::{Change, Class, Range, Text};
 use teco_policy::PolicyOption::{Add, Keep, Most, Take};
 use teco_policy::{Policy, PolicyOption};
 

@@ -14,7 +14,7 @@ type Row = (&'static [u8], Option<&'static [Given]>);
 const ROWS: &[Row] = &[
     // What puts and takes.
     (b"@^UA/Ix\x1b/", Some(&[Given::Puts(b"x")])),
-    (b"@^UA/65I\x1b/", Some(&[Given::PutsByte])),
+    (b"@^UA/QBI\x1b/", Some(&[Given::PutsByte])),
     (b"@^UA/\tx\x1b/", Some(&[Given::Puts(b"\tx")])),
     (b"@^UA/5\\/", Some(&[Given::PutsNumber])),
     (b"@^UA/GB/", Some(&[Given::PutsText])),
@@ -22,6 +22,32 @@ const ROWS: &[Row] = &[
     (b"@^UA/HK/", Some(&[Given::TakesAny])),
     (b"@^UA/D/", Some(&[Given::TakesAny])),
     (b"@^UA/A/", Some(&[Given::Takes(12, 12)])),
+    // A number that is known is put as its character, of 256 values; one behind an operator is not known.
+    (b"@^UA/65I\x1b/", Some(&[Given::Puts(b"A")])),
+    (b"@^UA/266I\x1b/", Some(&[Given::Puts(b"\n")])),
+    (b"@^UA/-10I\x1b/", Some(&[Given::PutsByte])),
+    (b"@^UA/QB+10I\x1b/", Some(&[Given::PutsByte])),
+    (b"@^UA/3<10I\x1b>/", Some(&[Given::Puts(b"\n")])),
+    (b"@^UA/:Sx\x1b\"S9I\x1b'/", Some(&[Given::Puts(b"\t")])),
+    (b"@^UA/QB\"E10|13'I\x1b/", Some(&[Given::PutsByte])),
+    (b"@^UA/QB\"E10|10'I\x1b/", Some(&[Given::Puts(b"\n")])),
+    (b"@^UA/QB\"E10'I\x1b/", Some(&[Given::PutsByte])),
+    (b"@^UA/7MB/@^UB/I\x1b/", Some(&[Given::Puts(b"\x07")])),
+    (
+        b"@^UA/7MB8MB/@^UB/I\x1b/",
+        Some(&[Given::Puts(b"\x07"), Given::Puts(b"\x08")]),
+    ),
+    // A with a number gives a character; the number may be given on each way, by a macro, or by an operator alone.
+    (b"@^UA/0AUB/", Some(&[])),
+    (b"@^UA/-AUB/", Some(&[])),
+    (b"@^UA/QBAUC/", Some(&[])),
+    (b"@^UA/(2)AUC/", Some(&[])),
+    (b"@^UA/MBAUC/@^UB/0/", Some(&[])),
+    (b"@^UA/QB\"E5|6'AUC/", Some(&[])),
+    (b"@^UA/QB\"E5'A/", Some(&[Given::Takes(12, 12)])),
+    (b"@^UA/0\x1bA/", Some(&[Given::Takes(12, 12)])),
+    (b"@^UA/0CA/", Some(&[Given::Takes(12, 12)])),
+    (b"@^UA/<0A-32\"E1;'0;>A/", Some(&[Given::Takes(12, 12)])),
     // What swaps.
     (
         b"@^UA/FSfoo\x1bbar\x1b/",

@@ -1,8 +1,9 @@
 //! What is known of changes, and what is said of them in a line of words.
 use crate::following::{Given, change_of};
 use std::alloc::{AllocError, Global};
+use teco_change_policies::Facts;
 use teco_change_words::in_words;
-use teco_changes::{Change, Facts};
+use teco_changes::Change;
 
 fn changes_of(alloc: Global, given: &[Given]) -> Result<Vec<Change>, AllocError> {
     let mut changes = Vec::new(alloc);

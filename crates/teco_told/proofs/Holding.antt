@@ -2,9 +2,9 @@
 use Rattle.std.proofs.Common.{ℕ, List, Option, Some, None, Result, Ok, Err}
 use Rattle.std.specs.Prelude.{IfOk, IfSome}
 use Rattle.std.specs.declared.alloc.AllocError.{AllocError}
-use Rattle.teco_changes.specs.Facts.{AreTrue}
+use Rattle.teco_change_policies.specs.Facts.{AreTrue}
 use Rattle.teco_changes.specs.declared.change.Change.{Change}
-use Rattle.teco_changes.specs.declared.facts.Facts.{Facts}
+use Rattle.teco_change_policies.specs.declared.facts.Facts.{Facts}
 use Rattle.teco_law_changes.specs.Runs.{TellsOf}
 use Rattle.teco_promise.specs.Promise.{Promise}
 use Rattle.teco_told.specs.Facts.{HoldOf, nothing_told}

@@ -2,3 +2,5 @@
 mod Grown
 mod Telling
 mod Holding
+mod Tables
+mod Weaker

@@ -1,19 +1,12 @@
 -- What is told of a macro at once, and what that says of each text that a run of it leaves.
 use Rattle.std.specs.Prelude.{ℕ, List, false, None, IfSome, IsTrue}
-use Rattle.teco_changes.specs.Changes.{Changes}
-use Rattle.teco_changes.specs.Laws.{others}
-use Rattle.teco_changes.specs.declared.change.Change.{Change}
-use Rattle.teco_changes.specs.declared.facts.Facts.{Facts}
-use Rattle.teco_law_changes.specs.Runs.{TellsOf}
+use Rattle.teco_change_policies.specs.Laws.{others}
+use Rattle.teco_change_policies.specs.declared.facts.Facts.{Facts}
+use Rattle.teco_law_changes.specs.Runs.{IsGot}
 use Rattle.teco_policy.specs.Lines.{EndAlike}
 use Rattle.teco_policy.specs.Policies.{Keeps}
 use Rattle.teco_policy.specs.declared.policy.Policy.TheVariants as policy
 use Rattle.teco_promise.specs.Promise.{Promise}
-
--- a text is got from another by whatever changes are told of the macro
-abbrev pub IsGot : Promise → List ℕ → List ℕ → Type 0
-IsGot promise old new =
-    (changes : List Change) → TellsOf promise.library promise.entry changes → Changes changes old new
 
 -- each fact that is told is so of two texts
 pub record AreSo (facts : Facts) (old new : List ℕ) : Type 0 where
@@ -27,7 +20,7 @@ pub record AreSo (facts : Facts) (old new : List ℕ) : Type 0 where
 
 -- Whatever is told is so of each text that is got from another.
 abbrev pub HoldOf : Promise → Facts → Type 0
-HoldOf promise facts = (old new : List ℕ) → IsGot promise old new → AreSo facts old new
+HoldOf promise facts = (old new : List ℕ) → IsGot promise.library promise.entry old new → AreSo facts old new
 
 -- nothing is told
 abbrev pub nothing_told : Facts

@@ -1,3 +1,4 @@
 -- Words of the list of changes.
 pub mod Growing
 pub mod Facts
+pub mod Table

@@ -5,8 +5,9 @@ ghost use Rattle.teco_model.specs.Element as definition;
 ghost use Rattle.teco_model.specs.declared.kind.Page.TheVariants as page;
 
 use std::alloc::{AllocError, Global};
+use teco_base::arithmetic::byte_of;
 use teco_base::bytes::{FF, TAB};
-use teco_changes::{Change, Class, Range, Text};
+use teco_changes::{Change, Class, NumericArgument, Range, Text};
 use teco_model::Element;
 use teco_model::kind::{Command, Insertion, Kind, Page, Query, Search, Storage};
 
@@ -161,5 +162,45 @@ pub fn changes_of(
         Kind::Argument(_) | Kind::Value(_) | Kind::Stack(_) | Kind::Call(_) | Kind::Flow(_) => Ok(
             Some(none(alloc)),
         ),
+    }
+}
+
+// Where a number is pending, A gives a character; where it is known, I without a text puts that.
+fn told_with(
+    alloc: Global,
+    kind: Kind,
+    text: &[u8],
+    known: NumericArgument,
+) -> Result<Option<Vec<Change>>, AllocError>
+    ensures { IfOk result (λ told. option_map (λ changes. changes.items) told ≡ model.told_with kind text.now known) }
+{
+    match (kind, known) {
+        (
+            Kind::Page(Page::Append),
+            NumericArgument::Number | NumericArgument::Value | NumericArgument::Exactly(_),
+        ) => Ok(Some(none(alloc))),
+        (Kind::Command(Command::Insertion(Insertion::Text)), NumericArgument::Exactly(n)) => {
+            if !text.is_empty() {
+                return Ok(None);
+            }
+            Ok(Some(one(alloc, Change::Puts(text_of(alloc, &[byte_of(n)])?))?))
+        }
+        _ => Ok(None),
+    }
+}
+
+/// What an element can do to a text at most, where so much is known of the argument before it.
+pub fn changes_with(
+    alloc: Global,
+    element: &Element<'_>,
+    ranged: bool,
+    known: NumericArgument,
+) -> Result<Option<Vec<Change>>, AllocError>
+    ensures { IfOk result (λ told. option_map (λ changes. changes.items) told
+        ≡ model.changes_with (definition.seen element.now) ranged known) }
+{
+    match told_with(alloc, element.kind, element.text, known)? {
+        Some(changes) => Ok(Some(changes)),
+        None => changes_of(alloc, element, ranged),
     }
 }

@@ -5,7 +5,8 @@ ghost use Rattle.teco_told.specs.Facts.{HoldOf, nothing_told};
 
 use crate::promised::changes_of_promise;
 use std::alloc::{AllocError, Global};
-use teco_changes::{Change, Facts};
+use teco_change_policies::Facts;
+use teco_changes::Change;
 use teco_promise::Promise;
 
 // Facts that tell nothing.

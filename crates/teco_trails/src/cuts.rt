@@ -27,7 +27,7 @@ pub fn kind_at(nodes: &Nodes<'_>, number: usize) -> Option<Kind> {
 }
 
 // Where the innermost iteration that is open at a node begins.
-fn iteration_of(nodes: &Nodes<'_>, number: usize) -> Option<usize> {
+pub fn iteration_of(nodes: &Nodes<'_>, number: usize) -> Option<usize> {
     if number == 0 || number > nodes.len() {
         return None;
     }

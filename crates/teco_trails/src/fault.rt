@@ -25,7 +25,7 @@ impl From<Stop> for SearchStop {
     fn from(stop: Stop) -> SearchStop {
         SearchStop::Refused(match stop {
             Stop::Memory => SearchRefusal::Memory,
-            Stop::TooMuch => SearchRefusal::TooMuch,
+            Stop::TooMuch => SearchRefusal::TooMuch(None),
             Stop::Condition(number) => SearchRefusal::Condition(number),
             Stop::Size => SearchRefusal::Size,
             Stop::Steps(number) => SearchRefusal::Steps(number),
@@ -41,7 +41,7 @@ impl From<PathFault> for SearchStop {
             PathFault::NotOpen(number) => SearchRefusal::NotOpen(number),
             PathFault::Condition(number) => SearchRefusal::Condition(number),
             PathFault::Memory => SearchRefusal::Memory,
-            PathFault::TooLong => SearchRefusal::TooMuch,
+            PathFault::TooLong => SearchRefusal::TooMuch(None),
             _ => SearchRefusal::NotAccepted(refused),
         })
     }
@@ -51,7 +51,7 @@ impl From<RowFault> for SearchStop {
     fn from(refused: RowFault) -> SearchStop {
         SearchStop::Refused(match refused {
             RowFault::Linear(LinearFault::Memory) => SearchRefusal::Memory,
-            _ => SearchRefusal::TooMuch,
+            _ => SearchRefusal::TooMuch(None),
         })
     }
 }

@@ -159,14 +159,37 @@ fn simple(form: &Form) -> Option<(Option<u32>, i64)> {
     Some((symbol, number))
 }
 
+// The form of a measure, and, where it is a symbol and a number, or a number alone, these, and the row of
+// the symbol, or that of 0, if there is one.
+#[derive(Clone, Copy)]
+struct ToldForm<'a> {
+    form: &'a Form,
+    simple: Option<(Option<u32>, i64)>,
+    row: Option<usize>,
+}
+
+impl<'a> ToldForm<'a> {
+    fn of(form: &'a Form, bounds: &Bounds) -> ToldForm<'a> {
+        let simple = simple(form);
+        let row = match simple {
+            Some((symbol, _)) => bounds.place(symbol),
+            None => None,
+        };
+        ToldForm { form, simple, row }
+    }
+}
+
 // What one measure is above another at most, where each is a symbol and a number, or a number alone.
-fn simply_between(trail: &Trail, one: &Form, other: &Form) -> Option<i64> {
-    let (left, more) = simple(one)?;
-    let (right, less) = simple(other)?;
+fn simply_between(trail: &Trail, one: &ToldForm<'_>, other: &ToldForm<'_>) -> Option<i64> {
+    let (left, more) = one.simple?;
+    let (right, less) = other.simple?;
     if left == right {
         return None;
     }
-    let most = trail.bounds.bound(left, right);
+    let most = match (one.row, other.row) {
+        (Some(row), Some(column)) => trail.bounds.at(row, column),
+        _ => NONE,
+    };
     if most == NONE {
         return Some(NONE);
     }
@@ -174,11 +197,11 @@ fn simply_between(trail: &Trail, one: &Form, other: &Form) -> Option<i64> {
 }
 
 // What one measure is above another at most.
-fn between(trail: &Trail, one: &Form, other: &Form, space: &mut Workspace) -> i64 {
+fn between(trail: &Trail, one: &ToldForm<'_>, other: &ToldForm<'_>, space: &mut Workspace) -> i64 {
     match simply_between(trail, one, other) {
         Some(most) => most,
         None => {
-            let difference = space.difference(one, other);
+            let difference = space.difference(one.form, other.form);
             trail.bounds.most(&difference).unwrap_or(NONE)
         }
     }
@@ -194,23 +217,26 @@ fn near(most: i64, is_alone: bool) -> i64 {
     }
 }
 
-// The forms of these measures behind that of 0.
-fn told_forms(trail: &Trail, told: &[u32], space: &mut Workspace) -> Vec<Form> {
+// The forms of these measures behind that of 0, which stands for those that have none.
+fn told_forms<'a>(
+    trail: &'a Trail,
+    told: &[u32],
+    zero: &'a Form,
+    space: &mut Workspace,
+) -> Vec<ToldForm<'a>> {
     let mut forms = Vec::new(space.alloc);
-    space.push(&mut forms, Form::zero(space.alloc));
+    space.push(&mut forms, ToldForm::of(zero, &trail.bounds));
     for place in told {
-        let form = match form_in(&trail.case.forms, *place) {
-            Some(form) => space.copied(form),
-            None => Form::zero(space.alloc),
-        };
-        space.push(&mut forms, form);
+        let form = form_in(&trail.case.forms, *place).unwrap_or(zero);
+        space.push(&mut forms, ToldForm::of(form, &trail.bounds));
     }
     forms
 }
 
 // What a trail says of the differences of the measures of a key.
 pub fn projected(trail: &Trail, told: &[u32], space: &mut Workspace) -> Bounds {
-    let forms = told_forms(trail, told, space);
+    let zero = Form::zero(space.alloc);
+    let forms = told_forms(trail, told, &zero, space);
     let mut facts = Bounds::none(space).of_symbols(told, space);
     for (row, one) in forms.iter().enumerate() {
         for (column, other) in forms.iter().enumerate() {

@@ -3,9 +3,8 @@ use crate::cuts::around;
 use crate::fault::SearchStop;
 use crate::keys::{place_in, projected};
 use crate::notes::PathNotes;
-use crate::rounds::shows_between;
 use crate::search::PathSearch;
-use crate::trail::Trail;
+use crate::trail::{AskedTrail, Trail};
 use teco_bounds::keys::Keys;
 use teco_bounds::reduced::{Bounded, UsedLimits};
 use teco_bounds::web::{Leg, LegStart, Web};
@@ -16,10 +15,11 @@ fn is_covered(keys: &Keys, target: usize, trail: &Trail, notes: &mut PathNotes) 
         return false;
     };
     let new = projected(trail, &key.told, &mut notes.space);
+    let mut asked = AskedTrail::of(trail);
     for row in 0..facts.size() {
         for column in 0..facts.size() {
             let is_more = row != column && new.at(row, column) > facts.at(row, column);
-            if is_more && !shows_between(trail, facts, row, column, notes) {
+            if is_more && !asked.shows_between(facts, row, column, notes) {
                 return false;
             }
         }

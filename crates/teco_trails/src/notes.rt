@@ -10,6 +10,8 @@ use teco_paths::fault::PathFault;
 pub struct PathNotes {
     pub record: Record,
     pub space: Workspace,
+    // How many questions programs were asked that are not counted yet.
+    asked: usize,
     stop: Option<SearchStop>,
 }
 
@@ -18,8 +20,19 @@ impl PathNotes {
         PathNotes {
             record: Record::new(is_kept, alloc),
             space: Workspace::new(alloc),
+            asked: 0,
             stop: None,
         }
+    }
+
+    // Notes that programs are asked.
+    pub fn note_asked(&mut self) {
+        self.asked = self.asked.saturating_add(1);
+    }
+
+    // How many questions they were asked since this was asked last.
+    pub fn take_asked(&mut self) -> usize {
+        std::mem::replace(&mut self.asked, 0)
     }
 
     pub fn is_stopped(&self) -> bool {
@@ -36,6 +49,11 @@ impl PathNotes {
     // Notes that the search is refused.
     pub fn refuse(&mut self, refusal: SearchRefusal) {
         self.stop(SearchStop::Refused(refusal));
+    }
+
+    // Notes that the search takes too much.
+    pub fn give_up(&mut self) {
+        self.refuse(SearchRefusal::TooMuch(None));
     }
 
     // What was made, or none, where that is noted.

@@ -1,13 +1,12 @@
 //! Facts of keys, round by round, until they stay.
-use crate::fault::{SearchRefusal, SearchStop};
+use crate::fault::SearchStop;
 use crate::keys::{key_of, place_in, projected, raise_quotients};
 use crate::notes::PathNotes;
 use crate::search::PathSearch;
-use crate::trail::Trail;
+use crate::trail::{AskedTrail, Trail};
 use teco_base::LIMIT;
 use teco_bounds::bounds::{Bounds, NONE};
-use teco_bounds::constraints::{bound_form, symbol_of};
-use teco_bounds::forms::at_forms;
+use teco_bounds::constraints::symbol_of;
 use teco_bounds::keys::{Key, Keys};
 use teco_bounds::measures::{NUMBER, family_of};
 use teco_bounds::workspace::Workspace;
@@ -27,26 +26,76 @@ const LETS_GO: usize = 6;
 
 const LARGE: i64 = 1 << 24;
 
+// The most arrivals that are kept.
+const MOST_ARRIVALS: usize = 400;
+
+// Where a path ends: its key, what it says of the measures there, and the trail, where programs may say
+// more.
+#[derive(Drop)]
+struct Arrival {
+    target: usize,
+    facts: Bounds,
+    trail: Option<Trail>,
+}
+
+// Where the paths from each key end by the facts that it has; none where that is not kept.
+#[derive(Drop)]
+pub struct Arrivals {
+    of_keys: Vec<Option<Vec<Arrival>>>,
+    count: usize,
+}
+
 // The keys, how often each was raised, and which are to be gone through.
 #[derive(Drop)]
 struct RoundWork {
     keys: Keys,
     raised: Vec<usize>,
     is_due: Vec<bool>,
+    arrivals: Arrivals,
     // Whether bounds may have been widened.
     is_widened: bool,
+}
+
+impl Arrivals {
+    // Takes out what is kept of a key.
+    fn take(&mut self, place: usize) -> Option<Vec<Arrival>> {
+        let taken = self.of_keys.get_mut(place)?.take()?;
+        self.count = self.count.saturating_sub(taken.len());
+        Some(taken)
+    }
+
+    // Keeps where the paths from a key end in place of what was kept, unless that makes too many.
+    fn keep(&mut self, place: usize, arrivals: Vec<Arrival>) {
+        let _before = self.take(place);
+        let count = self.count.saturating_add(arrivals.len());
+        if let Some(slot) = self.of_keys.get_mut(place)
+            && count <= MOST_ARRIVALS
+        {
+            self.count = count;
+            *slot = Some(arrivals);
+        }
+    }
+}
+
+// Facts of keys that stay, where the paths from these end, and whether the facts may be narrowed.
+#[derive(Drop)]
+pub struct SettledKeys {
+    pub keys: Keys,
+    arrivals: Arrivals,
+    pub is_widened: bool,
 }
 
 impl RoundWork {
     // Adds a key with its facts.
     fn add(&mut self, key: Key, facts: Bounds, notes: &mut PathNotes) {
         if self.keys.keys.len() >= MOST_KEYS || key.told.len() > MOST_TOLD {
-            notes.refuse(SearchRefusal::TooMuch);
+            notes.give_up();
             return;
         }
         self.keys.add(key, facts, &mut notes.space);
         notes.space.push(&mut self.raised, 0);
         notes.space.push(&mut self.is_due, true);
+        notes.space.push(&mut self.arrivals.of_keys, None);
     }
 
     // Notes that a key was raised in a round.
@@ -137,11 +186,12 @@ impl PathSearch<'_> {
         notes: &mut PathNotes,
     ) -> bool {
         let mut is_raised = false;
+        let mut asked = AskedTrail::of(trail);
         for row in 0..facts.size() {
             for column in 0..facts.size() {
                 let most = new.at(row, column);
                 let is_more = row != column && most > facts.at(row, column);
-                if is_more && !shows_bound(trail, facts, row, column, notes) {
+                if is_more && !asked.shows_bound(facts, row, column, notes) {
                     let most = self.raised(facts, row, column, most, round);
                     facts.set(row, column, most);
                     is_raised = true;
@@ -168,17 +218,20 @@ impl PathSearch<'_> {
         }
     }
 
-    // Takes a trail to its key.
-    fn arrive(&self, work: &mut RoundWork, trail: &Trail, notes: &mut PathNotes) {
+    // Takes a trail to its key, and tells where it ends.
+    fn arrive(&self, work: &mut RoundWork, trail: Trail, notes: &mut PathNotes) -> Option<Arrival> {
         if trail.number > self.course.nodes.len() {
-            return;
+            return None;
         }
-        let key = self.key(trail, &mut notes.space);
-        let new = self.facts_of(trail, &key, &mut notes.space);
-        match place_in(&work.keys, &key) {
-            Some(place) => self.raise_key(work, place, trail, &new, notes),
-            None => work.add(key, new, notes),
+        let key = self.key(&trail, &mut notes.space);
+        let facts = self.facts_of(&trail, &key, &mut notes.space);
+        let known = place_in(&work.keys, &key);
+        let target = known.unwrap_or(work.keys.keys.len());
+        match known {
+            Some(place) => self.raise_key(work, place, &trail, &facts, notes),
+            None => work.add(key, facts.copied(&mut notes.space), notes),
         }
+        Some(arrival_at(target, facts, trail))
     }
 
     // The key of the entry alone.
@@ -198,9 +251,13 @@ impl PathSearch<'_> {
         if let Some(due) = work.is_due.get_mut(place) {
             *due = false;
         }
-        for trail in &self.explore(&work.keys, place, notes) {
-            self.arrive(work, trail, notes);
+        let mut arrivals = Vec::new(self.alloc);
+        for trail in self.explore(&work.keys, place, notes) {
+            if let Some(arrival) = self.arrive(work, trail, notes) {
+                notes.space.push(&mut arrivals, arrival);
+            }
         }
+        work.arrivals.keep(place, arrivals);
     }
 
     // Goes through keys until none is due; says whether that comes to pass.
@@ -217,67 +274,80 @@ impl PathSearch<'_> {
         false
     }
 
-    // The facts that stay; says whether they may be narrowed.
-    pub fn settled(&mut self) -> Result<(Keys, bool), SearchStop> {
+    // The facts that stay.
+    pub fn settled(&mut self) -> Result<SettledKeys, SearchStop> {
         let mut notes = PathNotes::new(false, self.alloc);
+        let mut arrivals = Arrivals {
+            of_keys: Vec::new(self.alloc),
+            count: 0,
+        };
+        notes.space.push(&mut arrivals.of_keys, None);
         let mut work = RoundWork {
             raised: notes.space.repeated(0, 1),
             is_due: notes.space.repeated(true, 1),
             keys: self.first_keys(&mut notes),
+            arrivals,
             is_widened: false,
         };
         if !self.settle(&mut work, &mut notes) {
-            notes.refuse(SearchRefusal::TooMuch);
+            notes.give_up();
         }
         notes.finish()?;
-        Ok((work.keys, work.is_widened))
+        Ok(SettledKeys {
+            keys: work.keys,
+            arrivals: work.arrivals,
+            is_widened: work.is_widened,
+        })
     }
 
-    // Joins what a trail leads to into new facts; says whether its key is known.
-    fn join_trail(
+    // Where a trail ends by keys that are known; none where its own is not.
+    fn arrival(&self, keys: &Keys, trail: Trail, notes: &mut PathNotes) -> Option<Arrival> {
+        let key = self.key(&trail, &mut notes.space);
+        let target = place_in(keys, &key)?;
+        let facts = self.facts_of(&trail, &key, &mut notes.space);
+        Some(arrival_at(target, facts, trail))
+    }
+
+    // Adds where a trail ends, if its key is known; says whether it is, or the macro is over.
+    fn add_end(
         &self,
         keys: &Keys,
-        trail: &Trail,
-        new: &mut [Option<Bounds>],
+        trail: Trail,
+        ends: &mut Vec<Arrival>,
         notes: &mut PathNotes,
     ) -> bool {
-        let key = self.key(trail, &mut notes.space);
-        let Some(target) = place_in(keys, &key) else {
-            return false;
-        };
-        let mut found = self.facts_of(trail, &key, &mut notes.space);
-        let (Some(facts), Some(slot)) = (keys.facts.get(target), new.get_mut(target)) else {
-            return false;
-        };
-        keep_shown(trail, facts, &mut found, notes);
-        match slot {
-            Some(old) => join(old, &found),
-            None => *slot = Some(found),
+        if trail.number > self.course.nodes.len() {
+            return true;
         }
-        true
-    }
-
-    // Joins what trails lead to into new facts; says whether all their keys are known.
-    fn join_all(
-        &self,
-        keys: &Keys,
-        trails: &[Trail],
-        new: &mut [Option<Bounds>],
-        notes: &mut PathNotes,
-    ) -> bool {
-        for trail in trails {
-            let is_over = trail.number > self.course.nodes.len();
-            if !is_over && !self.join_trail(keys, trail, new, notes) {
-                return false;
+        match self.arrival(keys, trail, notes) {
+            Some(arrival) => {
+                notes.space.push(ends, arrival);
+                true
             }
+            None => false,
         }
-        true
+    }
+
+    // Adds where the paths from a key end by keys that are known; says whether all of theirs are.
+    fn add_ends(
+        &mut self,
+        keys: &Keys,
+        place: usize,
+        ends: &mut Vec<Arrival>,
+        notes: &mut PathNotes,
+    ) -> bool {
+        let mut are_known = true;
+        for trail in self.explore(keys, place, notes) {
+            are_known = self.add_end(keys, trail, ends, notes) && are_known;
+        }
+        are_known
     }
 
     // Joins what paths by facts lead to into new facts; says whether all their keys are known.
     fn join_paths(
         &mut self,
         keys: &Keys,
+        kept: &mut Arrivals,
         new: &mut [Option<Bounds>],
         notes: &mut PathNotes,
     ) -> bool {
@@ -289,21 +359,29 @@ impl PathSearch<'_> {
             if let Some(mark) = is_done.get_mut(place) {
                 *mark = true;
             }
-            let trails = self.explore(keys, place, notes);
-            if !self.join_all(keys, &trails, new, notes) {
+            let known = kept.take(place);
+            let is_kept = known.is_some();
+            let mut ends = known.unwrap_or(Vec::new(self.alloc));
+            if !is_kept && !self.add_ends(keys, place, &mut ends, notes) {
                 return false;
             }
+            join_all(keys, ends, new, notes);
         }
         true
     }
 
     // The facts that paths by these facts lead to, of the keys that are come to. Where they lead to a
     // key that has none, they stay.
-    pub fn narrowed(&mut self, keys: Keys) -> Result<Keys, SearchStop> {
+    pub fn narrowed(&mut self, settled: SettledKeys) -> Result<Keys, SearchStop> {
         let mut notes = PathNotes::new(false, self.alloc);
+        let SettledKeys {
+            keys,
+            mut arrivals,
+            is_widened: _is_widened,
+        } = settled;
         let mut new = entry_facts(keys.keys.len(), &mut notes.space);
         let mut left = keys;
-        if self.join_paths(&left, &mut new, &mut notes) {
+        if self.join_paths(&left, &mut arrivals, &mut new, &mut notes) {
             left = kept(left, new, &mut notes.space);
         }
         notes.finish()?;
@@ -311,13 +389,49 @@ impl PathSearch<'_> {
     }
 }
 
+// Where a trail ends that says this at its key.
+fn arrival_at(target: usize, facts: Bounds, trail: Trail) -> Arrival {
+    let is_rough = trail.bounds.is_rough();
+    Arrival {
+        target,
+        facts,
+        trail: if is_rough { Some(trail) } else { None },
+    }
+}
+
+// Joins what trails lead to into new facts.
+fn join_all(
+    keys: &Keys,
+    arrivals: Vec<Arrival>,
+    new: &mut [Option<Bounds>],
+    notes: &mut PathNotes,
+) {
+    for arrival in arrivals {
+        let mut found = arrival.facts;
+        let (Some(facts), Some(slot)) = (
+            keys.facts.get(arrival.target),
+            new.get_mut(arrival.target),
+        ) else {
+            continue;
+        };
+        if let Some(trail) = &arrival.trail {
+            keep_shown(trail, facts, &mut found, notes);
+        }
+        match slot {
+            Some(old) => join(old, &found),
+            None => *slot = Some(found),
+        }
+    }
+}
+
 // Keeps of what a trail says of a key's measures no more than the key's facts, where it shows these.
 fn keep_shown(trail: &Trail, facts: &Bounds, new: &mut Bounds, notes: &mut PathNotes) {
+    let mut asked = AskedTrail::of(trail);
     for row in 0..new.size() {
         for column in 0..new.size() {
             let most = facts.at(row, column);
             let is_more = row != column && new.at(row, column) > most;
-            if is_more && shows_bound(trail, facts, row, column, notes) {
+            if is_more && asked.shows_bound(facts, row, column, notes) {
                 new.set(row, column, most);
             }
         }
@@ -365,28 +479,4 @@ fn kept(keys: Keys, new: Vec<Option<Bounds>>, space: &mut Workspace) -> Keys {
         }
     }
     left
-}
-
-// Whether a trail shows the bound between two rows of facts.
-pub fn shows_between(
-    trail: &Trail,
-    facts: &Bounds,
-    row: usize,
-    column: usize,
-    notes: &mut PathNotes,
-) -> bool {
-    let form = bound_form(facts, row, column, &mut notes.space);
-    let here = at_forms(&form, &trail.case.forms, &mut notes.space);
-    trail.shows(&here, notes)
-}
-
-// Whether it shows it by programs, where bounds do not tell all.
-fn shows_bound(
-    trail: &Trail,
-    facts: &Bounds,
-    row: usize,
-    column: usize,
-    notes: &mut PathNotes,
-) -> bool {
-    trail.bounds.is_rough() && shows_between(trail, facts, row, column, notes)
 }

@@ -1,5 +1,5 @@
 //! The paths from a key to the next ones.
-use crate::fault::{SearchRefusal, SearchStop};
+use crate::fault::SearchStop;
 use crate::keys::begun;
 use crate::notes::PathNotes;
 use crate::steps::onward;
@@ -28,6 +28,9 @@ const CONSTRAINTS_A_STEP: usize = 16;
 
 const BOUNDS_A_STEP: usize = 256;
 
+// As how many steps a question that programs are asked counts.
+const ASKED_STEPS: usize = 4;
+
 // How often a path may pass the whole macro between two cut points.
 const MOST_PASSES: usize = 3;
 
@@ -48,8 +51,10 @@ pub struct PathSearch<'a> {
     // The most cases of a node between two cut points: with more the node becomes one.
     pub most_cases: usize,
     // How many steps may still be taken, and how many rows programs may go through.
-    pub fuel: usize,
+    pub steps: usize,
     pub work: usize,
+    // The number of the node at which the last step was.
+    pub at: usize,
     pub alloc: Global,
 }
 
@@ -191,7 +196,7 @@ impl PathSearch<'_> {
             return;
         };
         if here.len() > MOST_PENDING {
-            notes.refuse(SearchRefusal::TooMuch);
+            notes.give_up();
         }
         let is_wide = here.len() > self.most_cases && !is_first;
         if is_wide && here.iter().all(|trail| is_settled(&trail.case)) {
@@ -200,9 +205,11 @@ impl PathSearch<'_> {
     }
 
     // Takes what a step from a trail takes from what is left; says whether that is enough.
-    fn affords(&mut self, trail: &Trail) -> bool {
-        let left = self.fuel.checked_sub(work_of(trail));
-        self.fuel = left.unwrap_or(0);
+    fn affords(&mut self, trail: &Trail, notes: &mut PathNotes) -> bool {
+        self.at = trail.number;
+        let asked = notes.take_asked().saturating_mul(ASKED_STEPS);
+        let left = self.steps.checked_sub(work_of(trail).saturating_add(asked));
+        self.steps = left.unwrap_or(0);
         left.is_some() && !is_long(&trail.case)
     }
 
@@ -218,8 +225,8 @@ impl PathSearch<'_> {
             if notes.is_stopped() {
                 return;
             }
-            if !self.affords(trail) {
-                notes.refuse(SearchRefusal::TooMuch);
+            if !self.affords(trail, notes) {
+                notes.give_up();
                 return;
             }
             for next in onward(&self.course, trail, notes) {
@@ -269,7 +276,7 @@ impl PathSearch<'_> {
             }
             self.turn(&mut ahead, &mut arrived, step == 0, notes);
         }
-        notes.refuse(SearchRefusal::TooMuch);
+        notes.give_up();
         arrived
     }
 }

@@ -4,7 +4,7 @@ ghost use Rattle.std.specs.Prelude.{◌<◌, ◌≤◌, length};
 use crate::cuts::kind_at;
 use crate::fault::{SearchRefusal, SearchStop};
 use crate::notes::PathNotes;
-use crate::trail::Trail;
+use crate::trail::{AskedTrail, Trail};
 use teco_bounds::bounds::Bounds;
 use teco_bounds::forms::{constant, form_in};
 use teco_bounds::measures::{HELD, LENGTH, place_of};
@@ -51,8 +51,9 @@ fn is_kept(trail: &Trail, guarded: &Guarded, space: &mut Workspace) -> bool {
 // The conditions that are not shown.
 fn not_shown(trail: &Trail, conditions: Vec<Form>, notes: &mut PathNotes) -> Vec<Form> {
     let mut open = Vec::new(notes.space.alloc);
+    let mut asked = AskedTrail::of(trail);
     for condition in conditions {
-        if !trail.shows(&condition, notes) {
+        if !asked.shows(&condition, notes) {
             notes.space.push(&mut open, condition);
         }
     }
@@ -388,7 +389,7 @@ fn behind(
 // The trails behind one.
 pub fn onward(course: &MacroGraph<'_>, trail: &Trail, notes: &mut PathNotes) -> Vec<Trail> {
     if trail.number == 0 || trail.number > course.nodes.len() {
-        notes.refuse(SearchRefusal::TooMuch);
+        notes.give_up();
     } else if trail.case.shape.pushes == 0 && is_pop(course, trail.number) {
         notes.refuse(SearchRefusal::Condition(trail.number));
     } else if let Some(asked) = ask(course, trail, notes) {

@@ -3,12 +3,12 @@ use crate::fault::SearchStop;
 use crate::keys::copied_shape;
 use crate::notes::PathNotes;
 use teco_bounds::bounds::Bounds;
-use teco_bounds::constraints::all_forms;
-use teco_bounds::forms::form_in;
+use teco_bounds::constraints::{all_forms, bound_form};
+use teco_bounds::forms::{at_forms, form_in};
 use teco_bounds::measures::{CODE_BEFORE, CODE_HERE, LINE_END, POINTER, SIZE};
 use teco_bounds::reduced::{Bounded, UsedLimits, add_symbols};
 use teco_bounds::workspace::{Stop, Workspace};
-use teco_implied::{is_so, is_so_nearby};
+use teco_implied::{ImpliedFault, is_so, is_so_nearby};
 use teco_linear::{Difference, Form};
 use teco_paths::fault::PathFault;
 use teco_rows::case::Case;
@@ -43,20 +43,45 @@ pub struct Trail {
     pub is_lean: bool,
 }
 
-impl Trail {
+// A trail of which several things are asked, and its case with all constraints, once that was made.
+#[derive(Drop)]
+pub struct AskedTrail<'a> {
+    trail: &'a Trail,
+    whole: Option<Case>,
+}
+
+impl<'a> AskedTrail<'a> {
+    pub fn of(trail: &'a Trail) -> AskedTrail<'a> {
+        AskedTrail { trail, whole: None }
+    }
+
+    // Whether the constraints of a lean trail show a form by programs.
+    fn shows_lean(&mut self, form: &Form, space: &mut Workspace) -> Result<bool, ImpliedFault> {
+        let trail = self.trail;
+        let alloc = space.alloc;
+        let whole = match self.whole.take() {
+            Some(whole) => whole,
+            None => trail.whole(space),
+        };
+        let shown = is_so_nearby(&whole, form, alloc);
+        self.whole = Some(whole);
+        shown
+    }
+
     // Whether a form is at least 0, as far as bounds show it or, where they do not tell all, programs.
-    pub fn shows(&self, form: &Form, notes: &mut PathNotes) -> bool {
-        if self.bounds.shows(form) {
+    pub fn shows(&mut self, form: &Form, notes: &mut PathNotes) -> bool {
+        let trail = self.trail;
+        if trail.bounds.shows(form) {
             return true;
         }
-        if !self.bounds.is_rough() {
+        if !trail.bounds.is_rough() {
             return false;
         }
-        let alloc = notes.space.alloc;
-        let shown = if self.is_lean {
-            is_so_nearby(&self.whole(&mut notes.space), form, alloc)
+        notes.note_asked();
+        let shown = if trail.is_lean {
+            self.shows_lean(form, &mut notes.space)
         } else {
-            is_so(&self.case, form, alloc)
+            is_so(&trail.case, form, notes.space.alloc)
         };
         match shown {
             Ok(is_shown) => is_shown,
@@ -67,6 +92,32 @@ impl Trail {
         }
     }
 
+    // Whether it shows the bound between two rows of facts.
+    pub fn shows_between(
+        &mut self,
+        facts: &Bounds,
+        row: usize,
+        column: usize,
+        notes: &mut PathNotes,
+    ) -> bool {
+        let form = bound_form(facts, row, column, &mut notes.space);
+        let here = at_forms(&form, &self.trail.case.forms, &mut notes.space);
+        self.shows(&here, notes)
+    }
+
+    // Whether it shows it by programs, where bounds do not tell all.
+    pub fn shows_bound(
+        &mut self,
+        facts: &Bounds,
+        row: usize,
+        column: usize,
+        notes: &mut PathNotes,
+    ) -> bool {
+        self.trail.bounds.is_rough() && self.shows_between(facts, row, column, notes)
+    }
+}
+
+impl Trail {
     // The case with the constraints that bound differences, and no forms.
     fn whole(&self, space: &mut Workspace) -> Case {
         let mut constraints = all_forms(&self.bounds, space);

@@ -1,6 +1,6 @@
 -- The object of JSON that says what a macro can change.
 use Rattle.std.specs.Prelude.{◌≡◌, ℕ, List, [], ◌∷◌, codes, Some, option_map}
-use Rattle.teco_changes.specs.declared.facts.Facts.{Facts}
+use Rattle.teco_change_policies.specs.declared.facts.Facts.{Facts}
 use Rattle.teco_json.specs.Json.{byte_or_null, object_text, stated, text_or_null, truth_text}
 use Rattle.teco_promise.specs.Promise.{Promise}
 use Rattle.teco_told.specs.Facts.{HoldOf}

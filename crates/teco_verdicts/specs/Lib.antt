@@ -6,4 +6,5 @@ pub mod RoundTrip
 pub mod Linear
 pub mod Methods
 pub mod Json
+pub mod Each
 pub mod Changes

@@ -6,7 +6,7 @@ ghost use Rattle.teco_verdicts.specs.Json as json;
 
 use std::alloc::{AllocError, Global};
 use teco_base::Reg;
-use teco_changes::Facts;
+use teco_change_policies::Facts;
 use teco_json::{Member, Value, object};
 use teco_promise::Promise;
 use teco_told::facts_of_promise;

@@ -51,7 +51,7 @@ fn change_one<S: ClaimSearch, O: Write + Drop, E: Write + Drop>(
     entry: Reg,
     form: ChangesForm,
 ) -> Result<Outcome, AnswerFault> {
-    match verified_by::<S>(console.alloc, &sourced.library, entry, sourced.method) {
+    match verified_by::<S>(console.means(), &sourced.library, entry, sourced.method) {
         Ok(accepted) => answer_changes(console, &accepted.promise(), form),
         Err(unaccepted) => match form {
             ChangesForm::Words => refuse_macro::<S, _, _>(console, sourced, entry, unaccepted),
@@ -67,7 +67,7 @@ fn change_named<S: ClaimSearch, O: Write + Drop, E: Write + Drop>(
     entry: Reg,
 ) -> Result<Outcome, AnswerFault> {
     let name = char::from(entry.name());
-    match verified_by::<S>(console.alloc, &sourced.library, entry, sourced.method) {
+    match verified_by::<S>(console.means(), &sourced.library, entry, sourced.method) {
         Ok(accepted) => {
             console.answer(format_args!("{name}: "))?;
             answer_changes(console, &accepted.promise(), ChangesForm::Words)

@@ -184,7 +184,7 @@ fn explain_by_either<S: ClaimSearch, O: Write + Drop, E: Write + Drop>(
     sourced: &Sourced,
     entry: Reg,
 ) -> Result<Outcome, AnswerFault> {
-    match claimed_by::<S>(console.alloc, &sourced.library, entry) {
+    match claimed_by::<S>(console.means(), &sourced.library, entry) {
         Ok(claimed) => list_claimed(console, sourced, &claimed),
         Err(unclaimed) => {
             let account = account_of(console.alloc, &sourced.library, entry)?;
@@ -208,7 +208,7 @@ fn explain_claims<S: ClaimSearch, O: Write + Drop, E: Write + Drop>(
     sourced: &Sourced,
     entry: Reg,
 ) -> Result<Outcome, AnswerFault> {
-    match claimed_by::<S>(console.alloc, &sourced.library, entry) {
+    match claimed_by::<S>(console.means(), &sourced.library, entry) {
         Ok(claimed) => list_claimed(console, sourced, &claimed),
         Err(unclaimed) => tell_refused::<S, _, _>(
             console,

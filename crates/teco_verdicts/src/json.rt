@@ -17,8 +17,8 @@ use teco_acceptance::{
 };
 use teco_base::Reg;
 use teco_console::{
-    AnswerFault, Console, Method, NAMES, Outcome, Request, Shelf, Sourced, element_at, macro_named,
-    read_source, write_bytes,
+    AnswerFault, Console, Method, Outcome, Request, Shelf, Sourced, element_at, read_source,
+    write_bytes,
 };
 use teco_explain::{note_of_refusal, position_in};
 use teco_paths::search::ClaimSearch;
@@ -161,8 +161,8 @@ pub(crate) fn answer_no_library<O: Write + Drop, E: Write + Drop>(
     print(console, &object, Outcome::Refused)
 }
 
-// Prints the verdict on a macro.
-fn answer_verdict<S: ClaimSearch, O: Write + Drop, E: Write + Drop>(
+/// Prints the verdict on a macro.
+pub(crate) fn answer_verdict<S: ClaimSearch, O: Write + Drop, E: Write + Drop>(
     console: &mut Console<O, E>,
     sourced: &Sourced,
     entry: Reg,
@@ -170,7 +170,7 @@ fn answer_verdict<S: ClaimSearch, O: Write + Drop, E: Write + Drop>(
     ensures { Answers (ObjectBy sourced.now.method sourced.now.library entry)
         (O.contents console.old.out) (O.contents console.new.out) result }
 {
-    match verified_by::<S>(console.alloc, &sourced.library, entry, sourced.method) {
+    match verified_by::<S>(console.means(), &sourced.library, entry, sourced.method) {
         Ok(accepted) => answer_accepted(console, sourced, entry, &accepted),
         Err(unaccepted) => answer_refused(console, sourced, entry, &unaccepted),
     }
@@ -214,50 +214,6 @@ pub fn verify_macro_as_json<S: ClaimSearch, R: Shelf, O: Write + Drop, E: Write 
 {
     let source = read_source(rt, console.alloc, request)?;
     answer_macro::<S, _, _>(console, source, entry, request.method)
-}
-
-// Prints the verdict on each macro of a library.
-fn answer_each<S: ClaimSearch, O: Write + Drop, E: Write + Drop>(
-    console: &mut Console<O, E>,
-    sourced: &Sourced,
-) -> Result<Outcome, AnswerFault> {
-    let mut outcome = Outcome::Done;
-    for name in NAMES {
-        if let Some(entry) = macro_named(&sourced.library, *name) {
-            outcome = outcome.worse(answer_verdict::<S, _, _>(console, sourced, entry)?);
-        }
-    }
-    Ok(outcome)
-}
-
-// Prints the verdict on each macro of the library that a source says.
-fn answer_library<S: ClaimSearch, O: Write + Drop, E: Write + Drop>(
-    console: &mut Console<O, E>,
-    source: Source,
-    method: Method,
-) -> Result<Outcome, AnswerFault> {
-    match library_of(console.alloc, &source) {
-        Ok(library) => {
-            let sourced = Sourced {
-                source,
-                library,
-                method,
-            };
-            answer_each::<S, _, _>(console, &sourced)
-        }
-        Err(refusal) => answer_no_library(console, &source, &refusal),
-    }
-}
-
-/// Verifies each macro of a library, A to Z and then 0 to 9, and prints an object of JSON for each,
-/// in a line of its own.
-pub fn verify_library_as_json<S: ClaimSearch, R: Shelf, O: Write + Drop, E: Write + Drop>(
-    rt: &R,
-    console: &mut Console<O, E>,
-    request: Request<'_>,
-) -> Result<Outcome, AnswerFault> {
-    let source = read_source(rt, console.alloc, request)?;
-    answer_library::<S, _, _>(console, source, request.method)
 }
 
 // What is said of a certificate that is refused.
@@ -305,7 +261,7 @@ fn answer_check<S: ClaimSearch, O: Write + Drop, E: Write + Drop>(
         (O.contents console.old.out) (O.contents console.new.out) result }
 {
     let library = &sourced.library;
-    match accepted::<S>(console.alloc, library, entry, sourced.method, Some(claim)) {
+    match accepted::<S>(console.means(), library, entry, sourced.method, Some(claim)) {
         Ok(accepted) => {
             accepted.is_proved();
             let object = object_of(console.alloc, &accepted.promise())?;

@@ -130,7 +130,7 @@ pub fn verify_claims<S: ClaimSearch, O: Write + Drop, E: Write + Drop>(
     ensures { Answers (VerdictByClaims library.now entry)
         (O.contents console.old.out) (O.contents console.new.out) result }
 {
-    let found = claimed_by::<S>(console.alloc, library, entry);
+    let found = claimed_by::<S>(console.means(), library, entry);
     answer_claims::<S, _, _>(console, source, library, entry, found)
 }
 

@@ -119,7 +119,7 @@ fn verify_by_either<S: ClaimSearch, O: Write + Drop, E: Write + Drop>(
     ensures { Answers (VerdictBy Best library.now entry)
         (O.contents console.old.out) (O.contents console.new.out) result }
 {
-    let unclaimed = match claimed_by::<S>(console.alloc, library, entry) {
+    let unclaimed = match claimed_by::<S>(console.means(), library, entry) {
         Ok(claimed) => {
             claimed.is_checked();
             return accept_claims(console, source, &claimed);
@@ -246,7 +246,7 @@ fn verify_one<S: ClaimSearch, O: Write + Drop, E: Write + Drop>(
 ) -> Result<Outcome, AnswerFault> {
     let name = char::from(entry.name());
     let library = &sourced.library;
-    match verified_by::<S>(console.alloc, library, entry, sourced.method) {
+    match verified_by::<S>(console.means(), library, entry, sourced.method) {
         Ok(accepted) => {
             let outcome = tell_accepted(console, sourced, &accepted)?;
             findings.tell(&mut console.voice, library, entry);

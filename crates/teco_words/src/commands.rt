@@ -1,8 +1,8 @@
 //! The commands of the program and their options.
 use crate::rows::Parameter;
 use crate::tables::{
-    APPLY_PAGE, CHECK_PAGE, EDIT_PAGE, EXPLAIN_PAGE, RUN_PAGE, SHOW_PAGE, TEST_PAGE, TRACE_PAGE,
-    VERIFY_PAGE,
+    APPLY_PAGE, CHECK_PAGE, EDIT_PAGE, EXPLAIN_PAGE, LIST_PAGE, RUN_PAGE, SHOW_PAGE, TEST_PAGE,
+    TRACE_PAGE, VERIFY_PAGE,
 };
 use clap::{Arg, Command};
 use std::alloc::{AllocError, Global};
@@ -167,6 +167,11 @@ fn add_test<S: AsStr>(commands: &mut Vec<Command<'_>>, words: &[S]) -> Result<()
     add(commands, words, &TEST_PAGE)
 }
 
+// Adds the command `list`.
+fn add_list<S: AsStr>(commands: &mut Vec<Command<'_>>, words: &[S]) -> Result<(), AllocError> {
+    add(commands, words, &LIST_PAGE)
+}
+
 // Adds the command `show`.
 fn add_show<S: AsStr>(commands: &mut Vec<Command<'_>>, words: &[S]) -> Result<(), AllocError> {
     add(commands, words, &SHOW_PAGE)
@@ -187,6 +192,7 @@ fn add_all<S: AsStr>(commands: &mut Vec<Command<'_>>, words: &[S]) -> Result<(),
     add_edit(commands, words)?;
     add_trace(commands, words)?;
     add_test(commands, words)?;
+    add_list(commands, words)?;
     add_show(commands, words)?;
     add_explain(commands, words)
 }

@@ -25,6 +25,9 @@ pub enum WordsFault {
     /// The word behind that of the library is no register.
     #[error("a register is A to Z or 0 to 9, and stands behind LIB; a macro itself goes behind -e")]
     RegisterWord,
+    /// A word stands behind a name where none may.
+    #[error("nothing stands behind the name of a macro here: its register is A, and ./NAME is a file")]
+    BehindName,
     /// An argument is another number.
     #[error("an argument is a number of decimal digits, 0 to 2147483647")]
     Argument,
@@ -76,6 +79,9 @@ pub enum WordsFault {
     /// The edition of the rules is neither of the two.
     #[error("--rules takes 1 or 2")]
     Rules,
+    /// The effort of a search is no number, or too large a one.
+    #[error("--effort takes a number from 1 to 1000000")]
+    Effort,
     /// A text of a register is none.
     #[error("--set takes a register and its text, as B=TEXT, and --set-file a register and a file, as B=PATH")]
     Setting,

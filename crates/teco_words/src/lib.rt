@@ -16,8 +16,9 @@ pub use fault::WordsFault;
 pub use hints::hint_for;
 pub use policies::policies_of;
 pub use words::{
-    VerdictForm, cap, case, change, check_escape, check_streams, check_tested, check_texts, choice,
-    entry, escape_of, file_name, file_names, form_of_source, given, has_macro_options, keeping,
-    limit, look, mark_of, method_of, names_macro, names_register, naming, origin, pages, scripts,
-    setting_files, settings, source_name, target_name, verdict_form, word,
+    BehindName, VerdictForm, cap, case, change, check_escape, check_name, check_register,
+    check_streams, check_tested, check_texts, choice, effort_of, entry, escape_of, file_name,
+    file_names, form_of_source, given, has_macro_options, keeping, limit, look, mark_of, method_of,
+    name_in, name_of, names_macro, names_register, naming, origin, pages, scripts, setting_files,
+    settings, source_name, target_name, verdict_form, word,
 };

@@ -15,6 +15,8 @@ pub struct Parameter {
 pub enum ParameterKind {
     /// By a word at its place.
     Word,
+    /// By a word at its place, which is called this.
+    Called(&'static str),
     /// By a word at its place, or by none.
     OptionalWord,
     /// By a word at its place, which is called this, or by none.
@@ -62,6 +64,7 @@ impl Parameter {
     pub fn arg<'a>(&self, alloc: Global) -> Arg<'a> {
         match self.kind {
             ParameterKind::Word => self.word(alloc).required(true),
+            ParameterKind::Called(name) => self.word(alloc).value_name(name).required(true),
             ParameterKind::OptionalWord => self.word(alloc),
             ParameterKind::NamedWord(name) => self.word(alloc).value_name(name),
             ParameterKind::Words => repeated(self.word(alloc).num_args(0..)),

@@ -30,12 +30,13 @@ pub const VERIFY_PAGE: HelpPage = HelpPage {
     name: "verify",
     about: "Prints the certificate of a macro, or a verdict on each macro of a library",
     examples: "Examples:\n\
+        \x20 teco verify replace-word\n\
         \x20 teco verify -e 'J<FSfoo$bar$;>'\n\
         \x20 teco verify trim.tes A\n\
         \x20 teco verify --changes trim.tes\n\
         \x20 teco verify --json lib.tes",
-    options: &[MACRO, FROM, CALLED, CHANGES, JSON, RULES, ESCAPE],
-    library: &[LIBRARY, OF_EACH],
+    options: &[MACRO, FROM, CALLED, CHANGES, JSON, RULES, EFFORT, ESCAPE],
+    library: &[NAME_OR_LIBRARY, OF_EACH],
     words: &[],
 };
 
@@ -70,6 +71,7 @@ pub const APPLY_PAGE: HelpPage = HelpPage {
         EXACT,
         ANY_CASE,
         RULES,
+        EFFORT,
         ESCAPE,
         EDITED,
         STRICT,
@@ -91,6 +93,7 @@ pub const EDIT_PAGE: HelpPage = HelpPage {
     name: "edit",
     about: "Edits files in place by a verified macro; one that fails is left as it was",
     examples: "Examples:\n\
+        \x20 teco edit replace-word old=foo new=bar *.c\n\
         \x20 teco edit -e 'J<FSfoo$bar$;>' *.txt\n\
         \x20 teco edit --dry-run trim.tes A *.txt\n\
         \x20 teco edit --backup .old trim.tes A *.txt\n\
@@ -106,6 +109,7 @@ pub const EDIT_PAGE: HelpPage = HelpPage {
         EXACT,
         ANY_CASE,
         RULES,
+        EFFORT,
         ESCAPE,
         EDITED_WHOLE,
         STRICTLY,
@@ -135,7 +139,7 @@ pub const EDIT_PAGE: HelpPage = HelpPage {
         UNNAMED,
         QUIET,
     ],
-    library: &[LIBRARY, REGISTER],
+    library: &[NAME_OR_LIBRARY, OF_EDIT],
     words: &[FILES],
 };
 
@@ -143,11 +147,11 @@ pub const EDIT_PAGE: HelpPage = HelpPage {
 pub const TEST_PAGE: HelpPage = HelpPage {
     name: "test",
     about: "Tries the examples in the comments of a library, as !EXAMPLE text => text!",
-    examples: "Examples:\n  teco test trim.tes\n  teco test lib.tes B",
+    examples: "Examples:\n  teco test replace-word\n  teco test trim.tes\n  teco test lib.tes B",
     options: &[
-        MACRO, FROM, CALLED, FUZZ, EXACT, ANY_CASE, COLOR, JSON_ROWS, RULES, ESCAPE,
+        MACRO, FROM, CALLED, FUZZ, EXACT, ANY_CASE, COLOR, JSON_ROWS, RULES, EFFORT, ESCAPE,
     ],
-    library: &[LIBRARY, OF_TESTED],
+    library: &[NAME_OR_LIBRARY, OF_TESTED],
     words: &[],
 };
 
@@ -170,6 +174,7 @@ pub const TRACE_PAGE: HelpPage = HelpPage {
         EXACT,
         ANY_CASE,
         RULES,
+        EFFORT,
         ESCAPE,
         EDITED,
         BEYOND,
@@ -178,11 +183,21 @@ pub const TRACE_PAGE: HelpPage = HelpPage {
     words: &[INPUT],
 };
 
+/// The command `list`.
+pub const LIST_PAGE: HelpPage = HelpPage {
+    name: "list",
+    about: "Prints the names of macros, with what they take and what they do",
+    examples: "Example:\n  teco list | grep blanks",
+    options: &[],
+    library: &[],
+    words: &[],
+};
+
 /// The command `show`.
 pub const SHOW_PAGE: HelpPage = HelpPage {
     name: "show",
-    about: "Prints a file of TECO text as its elements, safe for a terminal",
-    examples: "Examples:\n  teco show trim.tec\n  teco show --source trim.tec > trim.tes",
+    about: "Prints a macro, or a file of TECO text, as its elements, safe for a terminal",
+    examples: "Examples:\n  teco show replace-word\n  teco show trim.tec\n  teco show --source trim.tec > trim.tes",
     options: &[SOURCE, ESCAPE],
     library: &[],
     words: &[SHOWN],
@@ -197,7 +212,7 @@ pub const EXPLAIN_PAGE: HelpPage = HelpPage {
         \x20 teco explain X9\n\
         \x20 teco explain -e 'J<FSfoo$bar$;>'\n\
         \x20 teco explain trim.tes A",
-    options: &[MACRO, FROM, CALLED, JSON_ROWS, RULES, ESCAPE],
+    options: &[MACRO, FROM, CALLED, JSON_ROWS, RULES, EFFORT, ESCAPE],
     library: &[EXPLAINED, IN_LIBRARY],
     words: &[],
 };
@@ -516,8 +531,8 @@ const SOURCE: Parameter = Parameter {
 
 const SHOWN: Parameter = Parameter {
     id: "FILE",
-    kind: ParameterKind::Word,
-    help: "A file of TECO text, or - for standard input",
+    kind: ParameterKind::Called("NAME|FILE"),
+    help: "The name of a macro, or a file of TECO text, or - for standard input",
 };
 
 const EXPLAINED: Parameter = Parameter {
@@ -577,6 +592,12 @@ const RULES: Parameter = Parameter {
     help: "The edition of the rules that macros are verified by: 1 or 2",
 };
 
+const EFFORT: Parameter = Parameter {
+    id: "effort",
+    kind: ParameterKind::Text("N"),
+    help: "Look N times as long for what shows that a macro ends",
+};
+
 const ESCAPE: Parameter = Parameter {
     id: "esc",
     kind: ParameterKind::Text("C"),
@@ -594,4 +615,17 @@ const LIBRARY: Parameter = Parameter {
     id: "LIB",
     kind: ParameterKind::Word,
     help: "A file of macros, or of one macro, which is then A; - for standard input",
+};
+
+const NAME_OR_LIBRARY: Parameter = Parameter {
+    id: "LIB",
+    kind: ParameterKind::Called("NAME|LIB"),
+    help: "The name of a macro, as teco list prints it, or a file of macros, or of one macro, which \
+        is then A; - for standard input",
+};
+
+const OF_EDIT: Parameter = Parameter {
+    id: "REGISTER",
+    kind: ParameterKind::NamedWord("REGISTER|KEY=TEXT"),
+    help: "The register of the macro in the file LIB; behind NAME the texts that the macro takes",
 };

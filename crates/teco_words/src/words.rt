@@ -12,6 +12,7 @@ use teco_console::{Edition, Escape, Method, Origin, STREAM, Setting};
 use teco_options::{
     Change, FileChoice, Keeping, LetterCase, Look, NAME, Naming, PageChoice, Script,
 };
+use teco_parameters::{Given, given_in, is_name};
 use teco_source::{EscapeForm, Shown};
 use teco_streams::{INPUT, OUTPUT};
 
@@ -118,6 +119,75 @@ pub fn origin<'m, 'a>(words: &'m ArgMatches<'a>) -> Result<Origin<'m>, WordsFaul
     Ok(origin)
 }
 
+/// The word in the place of a file that has the form of a macro's name, where no option names one.
+pub fn name_of<'a>(words: &ArgMatches<'a>) -> Option<&'a str> {
+    if has_macro_options(words) {
+        None
+    } else {
+        name_in(words, "LIB")
+    }
+}
+
+/// A word that has the form of a macro's name.
+pub fn name_in<'a>(words: &ArgMatches<'a>, id: &str) -> Option<&'a str> {
+    let word = words.get_str(id)?;
+    is_name(word.as_bytes()).then_some(word)
+}
+
+/// The words behind a name: those that give texts, and those that name files.
+#[derive(Drop)]
+pub struct BehindName<'m> {
+    pub given: Vec<Given<'m>>,
+    pub files: Vec<&'m [u8]>,
+}
+
+impl<'m> BehindName<'m> {
+    // One more word. Behind the first that names a file all others do.
+    fn push(&mut self, word: &'m [u8]) -> Result<(), AllocError> {
+        match given_in(word) {
+            Some(given) if self.files.is_empty() => self.given.push(given)?,
+            _ => self.files.push(word)?,
+        }
+        Ok(())
+    }
+
+    /// The words behind the name in the place of a library.
+    pub fn read(
+        alloc: Global,
+        words: &'m ArgMatches<'_>,
+        arguments: &'m CommandLine,
+    ) -> Result<BehindName<'m>, AllocError> {
+        let mut behind = BehindName {
+            given: Vec::new(alloc),
+            files: Vec::new(alloc),
+        };
+        if let Some(first) = words.get_str("REGISTER") {
+            behind.push(arguments.bytes(first))?;
+        }
+        for word in words.get_strs("FILE").unwrap_or(&[]) {
+            behind.push(arguments.bytes(*word))?;
+        }
+        Ok(behind)
+    }
+}
+
+/// Refuses a register behind a name.
+pub fn check_name(words: &ArgMatches<'_>) -> Result<(), WordsFault> {
+    match words.get_str("REGISTER") {
+        Some(_) => Err(WordsFault::BehindName),
+        None => Ok(()),
+    }
+}
+
+/// Refuses a library with no register, where no option names a macro.
+pub fn check_register(words: &ArgMatches<'_>) -> Result<(), WordsFault> {
+    if names_macro(words) {
+        Ok(())
+    } else {
+        Err(WordsFault::RegisterWord)
+    }
+}
+
 // The register of a name.
 fn register_of(name: &str) -> Option<Reg> {
     match name.as_bytes() {
@@ -179,6 +249,20 @@ pub fn method_of(words: &ArgMatches<'_>) -> Result<Option<Method>, WordsFault> {
         Some("1") => Ok(Some(Method::Only(Edition::First))),
         Some("2" | "3") => Ok(Some(Method::Only(Edition::Second))),
         Some(_) => Err(WordsFault::Rules),
+    }
+}
+
+/// The greatest effort.
+const MOST_EFFORT: u32 = 1_000_000;
+
+/// How many times the usual number of steps a search may take.
+pub fn effort_of(words: &ArgMatches<'_>) -> Result<u32, WordsFault> {
+    let Some(digits) = words.get_str("effort") else {
+        return Ok(1);
+    };
+    match digits.parse() {
+        Ok(times) if times >= 1 && times <= MOST_EFFORT => Ok(times),
+        _ => Err(WordsFault::Effort),
     }
 }
 
@@ -285,6 +369,9 @@ fn push_allowed<'a>(
     allowed.extend_from_slice(&[word(words, "IN"), word(words, "OUT")])?;
     if command == "edit" {
         allowed.extend_from_slice(words.get_strs("FILE").unwrap_or(&[]))?;
+        if name_of(words).is_some() {
+            allowed.push(word(words, "REGISTER"))?;
+        }
     }
     Ok(())
 }
@@ -328,7 +415,7 @@ fn has_class(patterns: &[&str]) -> bool {
 
 // No file is named that could be edited.
 fn no_file(words: &ArgMatches<'_>) -> WordsFault {
-    if has_macro_options(words) {
+    if has_macro_options(words) || name_of(words).is_some() {
         WordsFault::NoFile
     } else {
         WordsFault::NoFileBehind

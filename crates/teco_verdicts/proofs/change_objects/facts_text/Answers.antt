@@ -1,5 +1,5 @@
 use Rattle.std.proofs.Common.{ℕ, List, [], ◌∷◌, codes, Option, Some}
-use Rattle.teco_changes.specs.declared.facts.Facts.{Facts}
+use Rattle.teco_change_policies.specs.declared.facts.Facts.{Facts}
 use Rattle.teco_json.specs.Json.{byte_or_null, object_text, stated, text_or_null, truth_text}
 use Rattle.teco_verdicts.proofs.Spelling.{by_four}
 use Rattle.teco_verdicts.proofs.change_objects.facts_text.Goals as goal

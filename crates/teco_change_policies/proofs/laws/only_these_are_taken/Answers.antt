@@ -1,0 +1,5 @@
+use Rattle.teco_change_policies.proofs.Subsequent.{only_these_are_taken}
+use Rattle.teco_change_policies.proofs.laws.only_these_are_taken.Goals as goal
+
+pub returns : goal.returns
+returns c = only_these_are_taken

@@ -1,5 +1,0 @@
-use Rattle.teco_changes.proofs.Subsequent.{only_these_are_taken}
-use Rattle.teco_changes.proofs.laws.only_these_are_taken.Goals as goal
-
-pub returns : goal.returns
-returns c = only_these_are_taken

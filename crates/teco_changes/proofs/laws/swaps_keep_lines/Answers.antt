@@ -1,5 +1,0 @@
-use Rattle.teco_changes.proofs.LineEnds.{swaps_keep_lines}
-use Rattle.teco_changes.proofs.laws.swaps_keep_lines.Goals as goal
-
-pub returns : goal.returns
-returns c = swaps_keep_lines

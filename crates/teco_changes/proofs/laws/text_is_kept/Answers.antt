@@ -1,5 +1,0 @@
-use Rattle.teco_changes.proofs.Subsequent.{text_is_kept}
-use Rattle.teco_changes.proofs.laws.text_is_kept.Goals as goal
-
-pub returns : goal.returns
-returns c = text_is_kept

@@ -1,0 +1,4 @@
+mod Keys
+mod Quotations
+mod Spelt
+mod Found
