@@ -3,4 +3,5 @@ mod Answering
 mod Ending
 mod RoundTrip
 mod Stating
+mod Each
 mod Spelling

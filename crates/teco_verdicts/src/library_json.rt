@@ -1,6 +1,6 @@
 //! Verdicts on the macros of a library, for machines: an object of JSON in each line.
 ghost use Rattle.teco_console.specs.Macros as macros;
-ghost use Rattle.teco_verdicts.specs.Each.{AnswersNamed};
+ghost use Rattle.teco_verdicts.specs.Each.{AnswersAll, AnswersNamed, LibraryObjectsFor, ObjectsOfAll};
 ghost use Rattle.teco_verdicts.specs.Json.{ObjectBy};
 
 use crate::json::{answer_no_library, answer_verdict};
@@ -36,7 +36,10 @@ fn answer_named<S: ClaimSearch, O: Write + Drop, E: Write + Drop>(
 fn answer_each<S: ClaimSearch, O: Write + Drop, E: Write + Drop>(
     console: &mut Console<O, E>,
     sourced: &Sourced,
-) -> Result<Outcome, AnswerFault> {
+) -> Result<Outcome, AnswerFault>
+    ensures { AnswersAll (ObjectBy sourced.now.method sourced.now.library)
+        sourced.now.library.texts (O.contents console.old.out) (O.contents console.new.out) result }
+{
     let mut outcome = Outcome::Done;
     for name in NAMES {
         match answer_named::<S, _, _>(console, sourced, *name, outcome) {
@@ -52,7 +55,10 @@ fn answer_library<S: ClaimSearch, O: Write + Drop, E: Write + Drop>(
     console: &mut Console<O, E>,
     source: Source,
     method: Method,
-) -> Result<Outcome, AnswerFault> {
+) -> Result<Outcome, AnswerFault>
+    ensures { ObjectsOfAll method source
+        (O.contents console.old.out) (O.contents console.new.out) result }
+{
     match library_of(console.alloc, &source) {
         Ok(library) => {
             let sourced = Sourced {
@@ -72,7 +78,10 @@ pub fn verify_library_as_json<S: ClaimSearch, R: Shelf, O: Write + Drop, E: Writ
     rt: &R,
     console: &mut Console<O, E>,
     request: Request<'_>,
-) -> Result<Outcome, AnswerFault> {
+) -> Result<Outcome, AnswerFault>
+    ensures { LibraryObjectsFor (R.holds rt.now) request.entry
+        (O.contents console.old.out) (O.contents console.new.out) result }
+{
     let source = read_source(rt, console.alloc, request)?;
     answer_library::<S, _, _>(console, source, request.method)
 }
