@@ -9,7 +9,7 @@ mod fault;
 mod named;
 
 use crate::fault::ProgramFault;
-use crate::named::{behind, called, called_by, settings_of, tell_file};
+use crate::named::{applied_to, behind, called, called_by, calls_name, tell_file, texts_of};
 use clap::ArgMatches;
 use std::alloc::Global;
 use std::io::{Input, IsTerminal, Write};
@@ -29,7 +29,9 @@ use teco_hosts::Host;
 use teco_infer::Inference;
 use teco_jobs::{CountsForm, Listing, Names, Task};
 use teco_judging::Judged;
-use teco_named::{CalledMacro, GivenTexts, MacroFolders, list_macros, show_macro};
+use teco_named::{
+    BoundTexts, CalledMacro, GivenTexts, MacroFolders, NamedFault, list_macros, show_macro,
+};
 use teco_pages::FileHost;
 use teco_policy::Policy;
 use teco_tools::{
@@ -39,7 +41,7 @@ use teco_verdicts::{
     ChangesForm, check_macro, check_macro_as_json, explain_macro, explain_macro_as_json,
     tell_changes, verify_library, verify_library_as_json, verify_macro, verify_macro_as_json,
 };
-use teco_words::{BehindName, CommandLine, VerdictForm, WordsFault};
+use teco_words::{AppliedTo, BehindName, CommandLine, VerdictForm, WordsFault};
 
 /// The command line names no command, or a file of macros, a certificate, standard input, standard
 /// output or memory failed.
@@ -119,6 +121,7 @@ fn request<'m>(
         library,
         escape,
         method: method_for(teco_words::method_of(given)?, is_best),
+        searches: &[],
     })
 }
 
@@ -240,19 +243,22 @@ fn counts(given: &ArgMatches<'_>) -> Option<CountsForm> {
 }
 
 // How a macro edits files.
-fn task<'m, 's>(
+fn task<'m>(
     given: &'m ArgMatches<'_>,
     called: Option<&'m CalledMacro>,
-    settings: &'s [Setting],
+    texts: &'m BoundTexts,
     is_best: bool,
-) -> Result<Task<'m, 's>, ProgramFault> {
+) -> Result<Task<'m, 'm>, ProgramFault> {
     Ok(Task {
-        library: request(given, called, is_best)?,
+        library: Request {
+            searches: &texts.searches,
+            ..request(given, called, is_best)?
+        },
         entry: entry(given, called)?,
         certificate: given.get_str("cert"),
         argument: teco_words::given(given)?,
         pages: teco_words::pages(given)?,
-        start: start(given, settings)?,
+        start: start(given, &texts.settings)?,
         cap: teco_words::cap(given),
         is_strict: given.get_flag("strict"),
         wants_all: given.get_flag("strict"),
@@ -318,14 +324,14 @@ struct NamedErrand {
 
 impl NamedErrand {
     // What words say.
-    fn read<'a>(
+    fn read(
         alloc: Global,
-        given: &ArgMatches<'a>,
-        arguments: &'a CommandLine,
+        given: &ArgMatches<'_>,
+        to: &AppliedTo<'_>,
     ) -> Result<NamedErrand, ProgramFault> {
         Ok(NamedErrand {
-            source: teco_words::source_name(given, arguments)?.to_vec(alloc)?,
-            target: teco_words::target_name(given, arguments)?.to_vec(alloc)?,
+            source: to.source_name()?.to_vec(alloc)?,
+            target: to.target_name()?.to_vec(alloc)?,
             policies: teco_words::policies_of(alloc, given)?,
         })
     }
@@ -343,6 +349,20 @@ impl NamedErrand {
     }
 }
 
+// The texts of a macro that is applied.
+fn texts_to_apply(
+    rt: &HostRuntime,
+    given: &ArgMatches<'_>,
+    called: Option<&CalledMacro>,
+    to: &AppliedTo<'_>,
+) -> Result<BoundTexts, ProgramFault> {
+    let texts = GivenTexts {
+        words: to.given.clone()?,
+        settings: settings(rt, given)?,
+    };
+    texts_of(rt, called, teco_words::escape_of(given)?, texts)
+}
+
 // `apply`. Where the text goes to standard output, all else goes to standard error.
 fn apply<'a, O: Write + Drop, E: Write + Drop>(
     rt: &HostRuntime,
@@ -354,10 +374,14 @@ fn apply<'a, O: Write + Drop, E: Write + Drop>(
         console.voice.hush();
     }
     console.effort = teco_words::effort_of(given)?;
-    let settings = settings(rt, given)?;
-    let task = task(given, None, &settings, false)?;
-    teco_words::check_streams(given, task.is_strict)?;
-    let named = NamedErrand::read(rt.alloc(), given, arguments)?;
+    let called = called(rt, given)?;
+    let called = called.as_ref();
+    let to = applied_to(rt.alloc(), called, given, arguments, true)?;
+    let texts = texts_to_apply(rt, given, called, &to)?;
+    let task = task(given, called, &texts, false)?;
+    to.check_streams(given, task.is_strict)?;
+    let named = NamedErrand::read(rt.alloc(), given, &to)?;
+    tell_file(console, called);
     let manner = AsideManner {
         is_quiet: given.get_flag("quiet"),
         effort: console.effort,
@@ -459,14 +483,14 @@ fn edit_behind<O: Write + Drop, E: Write + Drop>(
         words: behind.given,
         settings: settings(rt, given)?,
     };
-    let settings = settings_of(rt, called, teco_words::escape_of(given)?, texts)?;
+    let texts = texts_of(rt, called, teco_words::escape_of(given)?, texts)?;
     let task = Task {
         is_strict: !given.get_flag("beyond-promise"),
         wants_all: false,
         tells_promise: called.is_some() || teco_words::has_macro_options(given),
         // objects have the counts
         counts: given.get_flag("stats").then_some(CountsForm::InWords),
-        ..task(given, called, &settings, true)?
+        ..task(given, called, &texts, true)?
     };
     let files = chosen_files(rt, console, given, &behind.files)?;
     let policies = teco_words::policies_of(rt.alloc(), given)?;
@@ -541,29 +565,58 @@ fn trace<'a, O: Write + Drop, E: Write + Drop>(
     arguments: &'a CommandLine,
 ) -> Result<Outcome, ProgramFault> {
     console.effort = teco_words::effort_of(given)?;
-    let settings = settings(rt, given)?;
+    let called = called(rt, given)?;
+    let called = called.as_ref();
+    let to = applied_to(rt.alloc(), called, given, arguments, false)?;
+    let texts = texts_to_apply(rt, given, called, &to)?;
     let task = Task {
-        library: request(given, None, true)?,
-        entry: teco_words::entry(given)?,
         certificate: None,
-        argument: teco_words::given(given)?,
-        pages: teco_words::pages(given)?,
-        start: start(given, &settings)?,
-        cap: teco_words::cap(given),
         is_strict: !given.get_flag("beyond-promise"),
         wants_all: false,
         counts: None,
-        tells_promise: false,
+        ..task(given, called, &texts, true)?
     };
-    teco_words::check_streams(given, false)?;
+    to.check_streams(given, false)?;
     let listing = Listing {
         names: Names {
-            source: teco_words::source_name(given, arguments)?,
+            source: to.source_name()?,
             target: OUTPUT,
         },
         most: u64::from(teco_words::limit(given)),
     };
+    tell_file(console, called);
     Ok(trace_over(rt, console, &task, listing)?)
+}
+
+// `explain`, of what is known at each element of a macro.
+fn explain_known<O: Write + Drop, E: Write + Drop>(
+    rt: &HostRuntime,
+    console: &mut Console<O, E>,
+    given: &ArgMatches<'_>,
+    called: Option<&CalledMacro>,
+) -> Result<Outcome, ProgramFault> {
+    let entry = entry(given, called)?;
+    let request = request(given, called, true)?;
+    Ok(if given.get_flag("json") {
+        explain_macro_as_json::<Inference, _, _, _>(rt, console, request, entry)?
+    } else {
+        explain_macro::<Inference, _, _, _>(rt, console, request, entry)?
+    })
+}
+
+// `explain`, of the macro that a word calls by its name, if there is one.
+fn explain_called<O: Write + Drop, E: Write + Drop>(
+    rt: &HostRuntime,
+    console: &mut Console<O, E>,
+    given: &ArgMatches<'_>,
+) -> Result<Outcome, ProgramFault> {
+    match called(rt, given) {
+        Ok(Some(called)) => explain_known(rt, console, given, Some(&called)),
+        Ok(None) | Err(ProgramFault::Named(NamedFault::Unfound { .. })) => {
+            Err(WordsFault::Unknown.into())
+        }
+        Err(fault) => Err(fault),
+    }
 }
 
 // `explain`, of a macro where a register is named, or of a word.
@@ -573,27 +626,24 @@ fn explain_what<O: Write + Drop, E: Write + Drop>(
     given: &ArgMatches<'_>,
 ) -> Result<Outcome, ProgramFault> {
     console.effort = teco_words::effort_of(given)?;
-    let is_json = given.get_flag("json");
     if teco_words::names_macro(given) {
-        let entry = teco_words::entry(given)?;
-        let request = request(given, None, true)?;
-        return Ok(if is_json {
-            explain_macro_as_json::<Inference, _, _, _>(rt, console, request, entry)?
-        } else {
-            explain_macro::<Inference, _, _, _>(rt, console, request, entry)?
-        });
+        let called = called(rt, given)?;
+        if called.is_some() {
+            teco_words::check_name(given)?;
+        }
+        return explain_known(rt, console, given, called.as_ref());
     }
     let Some(word) = given.get_str("LIB") else {
         return Ok(explain_all(console)?);
     };
-    let explained = if is_json {
+    let explained = if given.get_flag("json") {
         explain_as_json(console, word)?
     } else {
         explain(console, word)?
     };
     match explained {
         Some(outcome) => Ok(outcome),
-        None => Err(WordsFault::Unknown.into()),
+        None => explain_called(rt, console, given),
     }
 }
 
@@ -671,7 +721,8 @@ fn print_refusal(
 // Reads the words, and does what they say.
 fn read_and_obey(rt: &HostRuntime) -> Result<ExitCode, ProgramFault> {
     let arguments = CommandLine::read(rt)?;
-    let command = teco_words::command(rt.alloc(), arguments.texts())?;
+    let calls_name = calls_name(rt, arguments.texts())?;
+    let command = teco_words::command(rt.alloc(), arguments.texts(), calls_name)?;
     let matches = match command.try_get_matches_from(arguments.texts()) {
         Ok(matches) => matches,
         Err(error) => return print_refusal(rt, &arguments, &error),

@@ -3,9 +3,11 @@ use crate::fault::ProgramFault;
 use clap::ArgMatches;
 use std::alloc::Global;
 use std::io::Write;
-use teco_console::{Console, Escape, Setting};
-use teco_named::{CalledMacro, GivenTexts, MacroFolders, find_macro, is_file, settings_for};
-use teco_words::{BehindName, CommandLine};
+use teco_console::{Console, Escape};
+use teco_named::{
+    BoundTexts, CalledMacro, GivenTexts, MacroFolders, find_macro, is_file, texts_for_macro,
+};
+use teco_words::{AppliedTo, BehindName, CommandLine, applied_name};
 
 /// The macro that a word calls by its name, unless the word names a file.
 pub fn called_by(
@@ -30,19 +32,47 @@ pub fn called(
     called_by(rt, teco_words::name_of(given))
 }
 
+/// Do the words for `apply` or `trace` call a macro by its name?
+pub fn calls_name(rt: &HostRuntime, words: &[String]) -> Result<bool, ProgramFault> {
+    match applied_name(words) {
+        Some(name) => Ok(!is_file(rt, name)?),
+        None => Ok(false),
+    }
+}
+
+/// What a macro is applied to, and the texts that the words give it.
+pub fn applied_to<'m>(
+    alloc: Global,
+    called: Option<&CalledMacro>,
+    given: &'m ArgMatches<'_>,
+    arguments: &'m CommandLine,
+    writes: bool,
+) -> Result<AppliedTo<'m>, ProgramFault> {
+    match called {
+        Some(_) => {
+            let behind = BehindName::read(alloc, given, arguments)?;
+            Ok(AppliedTo::behind_name(behind, writes)?)
+        }
+        None => Ok(AppliedTo::read(alloc, given, arguments)),
+    }
+}
+
 /// The texts that registers have as a macro begins: where it is called by its name, with those of its
-/// parameters.
-pub fn settings_of(
+/// parameters. Search texts stand in its library.
+pub fn texts_of(
     rt: &HostRuntime,
     called: Option<&CalledMacro>,
     escape: Escape,
     texts: GivenTexts<'_>,
-) -> Result<Vec<Setting>, ProgramFault> {
+) -> Result<BoundTexts, ProgramFault> {
     let Some(called) = called else {
-        return Ok(texts.settings);
+        return Ok(BoundTexts {
+            settings: texts.settings,
+            searches: Vec::new(rt.alloc()),
+        });
     };
     let source = called.source(rt, rt.alloc(), escape)?;
-    Ok(settings_for(rt.alloc(), called, &source, texts)?)
+    Ok(texts_for_macro(rt.alloc(), called, &source, texts)?)
 }
 
 /// Says which file has the macro, if that is not one of the installed library.

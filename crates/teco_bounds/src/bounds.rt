@@ -419,6 +419,11 @@ impl Bounds {
         self.least(form).is_some_and(|least| least >= 0)
     }
 
+    // Whether a form is above 0.
+    pub fn shows_above(&self, form: &Form) -> bool {
+        self.least(form).is_some_and(|least| least > 0)
+    }
+
     // Takes it that a form is at least 0.
     pub fn add(&mut self, form: &Form, space: &mut Workspace) {
         let before = self.size();

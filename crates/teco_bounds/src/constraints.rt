@@ -20,9 +20,14 @@ pub fn symbol_of(bounds: &Bounds, row: usize) -> Option<u32> {
 
 // That the bound between two rows holds.
 pub fn bound_form(bounds: &Bounds, row: usize, column: usize, space: &mut Workspace) -> Form {
-    let left = shifted(symbol_of(bounds, row), 0, space);
     let right = shifted(symbol_of(bounds, column), bounds.at(row, column), space);
-    space.difference(&right, &left)
+    match symbol_of(bounds, row) {
+        Some(symbol) => {
+            let left = space.symbol(symbol);
+            space.difference(&right, &left)
+        }
+        None => right,
+    }
 }
 
 // Whether a bound follows from two others.

@@ -31,13 +31,14 @@ pub fn power_of(power: u32, coefficient: i128, space: &mut Workspace) -> Form {
 
 // A symbol, or none, and a number.
 pub fn shifted(symbol: Option<u32>, more: i64, space: &mut Workspace) -> Form {
-    let number = space.constant(i128::from(more));
     match symbol {
+        Some(symbol) if more == 0 => space.symbol(symbol),
         Some(symbol) => {
             let form = space.symbol(symbol);
+            let number = space.constant(i128::from(more));
             space.sum(&form, &number)
         }
-        None => number,
+        None => space.constant(i128::from(more)),
     }
 }
 
@@ -49,6 +50,7 @@ fn term_at(term: &Term, forms: &[Option<Form>], space: &mut Workspace) -> Form {
     };
     match term.symbol {
         Some(place) => match form_in(forms, place) {
+            Some(form) if scale.factor == 1 && scale.power == 0 => space.copied(form),
             Some(form) => space.scaled(form, &scale),
             None => {
                 space.stop(Stop::TooMuch);
@@ -61,8 +63,11 @@ fn term_at(term: &Term, forms: &[Option<Form>], space: &mut Workspace) -> Form {
 
 // A form over the places of measures, where they are given by forms.
 pub fn at_forms(form: &Form, forms: &[Option<Form>], space: &mut Workspace) -> Form {
-    let mut sum = Form::zero(space.alloc);
-    for term in form.terms() {
+    let [first, others @ ..] = form.terms() else {
+        return Form::zero(space.alloc);
+    };
+    let mut sum = term_at(first, forms, space);
+    for term in others {
         let part = term_at(term, forms, space);
         sum = space.sum(&sum, &part);
     }

@@ -58,6 +58,7 @@ fn request(method: Method) -> Request<'static> {
         library: Origin::of_file(LIBRARY_FILE),
         escape: Escape::ByName,
         method,
+        searches: &[],
     }
 }
 

@@ -1,24 +1,29 @@
 -- Whether a search text finds in either case what it finds.
-use Rattle.std.proofs.Common.{◌≡◌, ◌≢◌, ℕ, ◌+◌, ◌-◌, List, [], ◌∷◌, ◌++◌, length, take}
+use Rattle.std.proofs.Common.{◌≡◌, ◌≢◌, ℕ, ◌+◌, ◌-◌, List, [], ◌∷◌, ◌++◌, length, map, take}
 use Rattle.std.proofs.Common.{Bool, true, false, ◌&&◌, cond, not}
 use Rattle.std.proofs.Common.{refl, sym, subst, ap, ◌∙◌, arith, eqb-true, Option, Some, None, inl, inr}
 use Rattle.std.proofs.lemmas.List.{append-nil, length-append}
 use Rattle.std.proofs.lemmas.List.Elements.{All-head, All-tail}
 use Rattle.std.specs.List.{AllZip}
-use Rattle.std.specs.Prelude.{All, IsSome, MatchResult, Ok, Result, option_and_then}
+use Rattle.std.specs.Prelude.{All, IsSome, MatchResult, Ok, Result, flat_map, option_and_then}
 use Rattle.teco_base.specs.Bytes.{is_letter, to_upper}
 use Rattle.teco_base.specs.declared.code.Code.{Code}
-use Rattle.teco_change_policies.specs.Plain.{IsInEitherCase, IsPlain}
-use Rattle.teco_change_policies.proofs.Found.{differ, said}
-use Rattle.teco_change_policies.proofs.Plainly.{plain_pattern}
+use Rattle.teco_change_policies.specs.Plain.{IsInEitherCase}
+use Rattle.teco_changes.specs.Plain.{IsPlain}
+use Rattle.teco_change_policies.proofs.Found.{differ}
+use Rattle.teco_changes.proofs.Plainly.{plain_part, plain_pattern}
 use Rattle.teco_changes.proofs.Replaced.{among, found_at}
 use Rattle.teco_model.specs.Match.{first_from, is_in, match_rest}
-use Rattle.teco_model.specs.Pattern.{Pattern, literal}
-use Rattle.teco_model.specs.Registers.{empty_registers}
+use Rattle.teco_model.specs.Pattern.{Pattern, items_of, literal}
+use Rattle.teco_model.specs.Registers.{Registers, empty_registers}
 use Rattle.teco_model.specs.declared.pattern.Class.TheVariants as class
 use Rattle.teco_model.specs.declared.pattern.Item.TheVariants as item
 use Rattle.teco_model.specs.declared.pattern.Span.{Span}
 use Rattle.teco_policy.specs.Wordings.{IsFoundIn, IsSameOrFound, Wording}
+
+-- what a plain search text says
+abbrev said : Registers → Bool → List ℕ → Pattern
+said registers exact wanted = flat_map (items_of registers exact) (map plain_part wanted)
 
 -- an exact literal is itself
 is_exactly : (t : Bool) (b c : ℕ)

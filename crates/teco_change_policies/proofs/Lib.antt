@@ -7,3 +7,4 @@ mod Plainly
 mod Others
 mod Found
 mod EitherMode
+mod Simply

@@ -6,26 +6,21 @@ use Rattle.std.proofs.lemmas.List.Elements.{All-head, All-tail, filter-append}
 use Rattle.std.specs.List.{AllZip}
 use Rattle.teco_base.specs.Bytes.{is_line_end}
 use Rattle.teco_changes.specs.Changes.{IsChange}
-use Rattle.teco_change_policies.specs.Laws.{IsWithinLine, KeepsLineEnds, ends_within_line}
+use Rattle.teco_change_policies.specs.Laws.{IsWithinLine, KeepsLineEnds, all_lines, ends_within_line}
 use Rattle.teco_changes.specs.declared.change.Change.{Change}
 use Rattle.teco_change_policies.proofs.LineEnds.{around, some_lines}
 use Rattle.teco_policy.specs.Lines.{EndAlike, body, in_first, line_end, lines}
-
--- The lines of a text, and what stands behind the last line end, if nothing too: a last line neither comes nor goes.
-abbrev padded : List ℕ → List (List ℕ)
-padded [] = [] ∷ []
-padded (b ∷ text) = cond (is_line_end b) ((b ∷ []) ∷ padded text) (in_first b (padded text))
 
 abbrev last : Bool → List (List ℕ)
 last true = []
 last false = [] ∷ []
 
-padded_last : (b : ℕ) (t : Bool) → is_line_end b ≡ t
-    → padded (b ∷ []) ≡ lines (b ∷ []) ++ last (ends_within_line (b ∷ []))
-padded_last b true e =
+all_lines_last : (b : ℕ) (t : Bool) → is_line_end b ≡ t
+    → all_lines (b ∷ []) ≡ lines (b ∷ []) ++ last (ends_within_line (b ∷ []))
+all_lines_last b true e =
     ap (λ t. cond t ((b ∷ []) ∷ [] ∷ []) ((b ∷ []) ∷ [])) e
     ∙ sym (ap (λ t. cond t ((b ∷ []) ∷ []) ((b ∷ []) ∷ []) ++ last (not t)) e)
-padded_last b false e =
+all_lines_last b false e =
     ap (λ t. cond t ((b ∷ []) ∷ [] ∷ []) ((b ∷ []) ∷ [])) e
     ∙ sym (ap (λ t. cond t ((b ∷ []) ∷ []) ((b ∷ []) ∷ []) ++ last (not t)) e)
 
@@ -33,42 +28,42 @@ in_first_of : (b : ℕ) (some more : List (List ℕ)) → some ≢ [] → in_fir
 in_first_of b [] more is = absurd (is refl)
 in_first_of b (line ∷ some) more is = refl
 
-padded_more : (b c : ℕ) (text : List ℕ) (t : Bool) → is_line_end b ≡ t
-    → padded (c ∷ text) ≡ lines (c ∷ text) ++ last (ends_within_line (c ∷ text))
-    → padded (b ∷ c ∷ text) ≡ lines (b ∷ c ∷ text) ++ last (ends_within_line (b ∷ c ∷ text))
-padded_more b c text true e h =
-    ap (λ t. cond t ((b ∷ []) ∷ padded (c ∷ text)) (in_first b (padded (c ∷ text)))) e
+all_lines_more : (b c : ℕ) (text : List ℕ) (t : Bool) → is_line_end b ≡ t
+    → all_lines (c ∷ text) ≡ lines (c ∷ text) ++ last (ends_within_line (c ∷ text))
+    → all_lines (b ∷ c ∷ text) ≡ lines (b ∷ c ∷ text) ++ last (ends_within_line (b ∷ c ∷ text))
+all_lines_more b c text true e h =
+    ap (λ t. cond t ((b ∷ []) ∷ all_lines (c ∷ text)) (in_first b (all_lines (c ∷ text)))) e
     ∙ ap (λ l. (b ∷ []) ∷ l) h
     ∙ sym (ap (λ t. cond t ((b ∷ []) ∷ lines (c ∷ text)) (in_first b (lines (c ∷ text)))
     ++ last (ends_within_line (c ∷ text))) e)
-padded_more b c text false e h =
-    ap (λ t. cond t ((b ∷ []) ∷ padded (c ∷ text)) (in_first b (padded (c ∷ text)))) e
+all_lines_more b c text false e h =
+    ap (λ t. cond t ((b ∷ []) ∷ all_lines (c ∷ text)) (in_first b (all_lines (c ∷ text)))) e
     ∙ ap (in_first b) h
     ∙ in_first_of b (lines (c ∷ text)) (last (ends_within_line (c ∷ text))) (some_lines c text)
     ∙ sym (ap (λ t. cond t ((b ∷ []) ∷ lines (c ∷ text)) (in_first b (lines (c ∷ text)))
     ++ last (ends_within_line (c ∷ text))) e)
 
-padded_is : (text : List ℕ) → padded text ≡ lines text ++ last (ends_within_line text)
-padded_is [] = refl
-padded_is (b ∷ []) = padded_last b (is_line_end b) refl
-padded_is (b ∷ c ∷ text) = padded_more b c text (is_line_end b) refl (padded_is (c ∷ text))
+all_lines_is : (text : List ℕ) → all_lines text ≡ lines text ++ last (ends_within_line text)
+all_lines_is [] = refl
+all_lines_is (b ∷ []) = all_lines_last b (is_line_end b) refl
+all_lines_is (b ∷ c ∷ text) = all_lines_more b c text (is_line_end b) refl (all_lines_is (c ∷ text))
 
 -- the first line, and the others
 record HasFirst (text : List ℕ) : Type 0 where
   first : List ℕ
   others : List (List ℕ)
-  is : padded text ≡ first ∷ others
+  is : all_lines text ≡ first ∷ others
 
 first_with : (b : ℕ) (text : List ℕ) (t : Bool) → is_line_end b ≡ t → HasFirst text → HasFirst (b ∷ text)
 first_with b text true e h = record {
   first = b ∷ [];
-  others = padded text;
-  is = ap (λ t. cond t ((b ∷ []) ∷ padded text) (in_first b (padded text))) e;
+  others = all_lines text;
+  is = ap (λ t. cond t ((b ∷ []) ∷ all_lines text) (in_first b (all_lines text))) e;
 }
 first_with b text false e h = record {
   first = b ∷ h.first;
   others = h.others;
-  is = ap (λ t. cond t ((b ∷ []) ∷ padded text) (in_first b (padded text))) e ∙ ap (in_first b) h.is;
+  is = ap (λ t. cond t ((b ∷ []) ∷ all_lines text) (in_first b (all_lines text))) e ∙ ap (in_first b) h.is;
 }
 
 has_first : (text : List ℕ) → HasFirst text
@@ -76,11 +71,11 @@ has_first [] = record { first = []; others = []; is = refl }
 has_first (b ∷ text) = first_with b text (is_line_end b) refl (has_first text)
 
 -- a piece of one line stands in the first line
-before : (piece back first : List ℕ) (others : List (List ℕ)) → IsWithinLine piece → padded back ≡ first ∷ others
-    → padded (piece ++ back) ≡ (piece ++ first) ∷ others
+before : (piece back first : List ℕ) (others : List (List ℕ)) → IsWithinLine piece → all_lines back ≡ first ∷ others
+    → all_lines (piece ++ back) ≡ (piece ++ first) ∷ others
 before [] back first others each e = e
 before (b ∷ piece) back first others each e =
-    ap (λ t. cond t ((b ∷ []) ∷ padded (piece ++ back)) (in_first b (padded (piece ++ back))))
+    ap (λ t. cond t ((b ∷ []) ∷ all_lines (piece ++ back)) (in_first b (all_lines (piece ++ back))))
     (All-head (λ x. is_line_end x ≡ false) b piece each)
     ∙ ap (in_first b) (before piece back first others (All-tail (λ x. is_line_end x ≡ false) b piece each) e)
 
@@ -147,24 +142,26 @@ module _ (Found : List ℕ → Type 0) (later : (b : ℕ) (text : List ℕ) → 
   in_front b e (x ∷ old) [] h = absurd h
   in_front b e (x ∷ old) (y ∷ new) h = (one_more b e x y h.0, h.1)
 
-  one_behind : (b : ℕ) (t : Bool) → is_line_end b ≡ t → (old new : List ℕ) → AllZip Alike (padded old) (padded new)
-      → AllZip Alike (padded (b ∷ old)) (padded (b ∷ new))
+  one_behind : (b : ℕ) (t : Bool) → is_line_end b ≡ t → (old new : List ℕ)
+      → AllZip Alike (all_lines old) (all_lines new)
+      → AllZip Alike (all_lines (b ∷ old)) (all_lines (b ∷ new))
   one_behind b true e old new h =
-      subst (λ t. AllZip Alike (cond t ((b ∷ []) ∷ padded old) (in_first b (padded old)))
-      (cond t ((b ∷ []) ∷ padded new) (in_first b (padded new)))) (sym e) (itself (b ∷ []), h)
+      subst (λ t. AllZip Alike (cond t ((b ∷ []) ∷ all_lines old) (in_first b (all_lines old)))
+      (cond t ((b ∷ []) ∷ all_lines new) (in_first b (all_lines new)))) (sym e) (itself (b ∷ []), h)
   one_behind b false e old new h =
-      subst (λ t. AllZip Alike (cond t ((b ∷ []) ∷ padded old) (in_first b (padded old)))
-      (cond t ((b ∷ []) ∷ padded new) (in_first b (padded new)))) (sym e) (in_front b e (padded old) (padded new) h)
+      subst (λ t. AllZip Alike (cond t ((b ∷ []) ∷ all_lines old) (in_first b (all_lines old)))
+      (cond t ((b ∷ []) ∷ all_lines new) (in_first b (all_lines new)))) (sym e)
+      (in_front b e (all_lines old) (all_lines new) h)
 
-  behind : (front old new : List ℕ) → AllZip Alike (padded old) (padded new)
-      → AllZip Alike (padded (front ++ old)) (padded (front ++ new))
+  behind : (front old new : List ℕ) → AllZip Alike (all_lines old) (all_lines new)
+      → AllZip Alike (all_lines (front ++ old)) (all_lines (front ++ new))
   behind [] old new h = h
   behind (b ∷ front) old new h =
       one_behind b (is_line_end b) refl (front ++ old) (front ++ new) (behind front old new h)
 
   -- a piece that is found goes, and another comes
   at_piece : (taken put back : List ℕ) → IsWithinLine taken → IsWithinLine put
-      → ((more : List ℕ) → Found (taken ++ more)) → AllZip Alike (padded (taken ++ back)) (padded (put ++ back))
+      → ((more : List ℕ) → Found (taken ++ more)) → AllZip Alike (all_lines (taken ++ back)) (all_lines (put ++ back))
   at_piece taken put back from into found =
       let h = has_first back in
       let alike : Alike (taken ++ h.first) (put ++ h.first) = (
@@ -173,18 +170,18 @@ module _ (Found : List ℕ → Type 0) (later : (b : ℕ) (text : List ℕ) → 
       ) in
       let all : AllZip Alike ((taken ++ h.first) ∷ h.others) ((put ++ h.first) ∷ h.others) =
       (alike, each_itself h.others) in
-      subst (λ l. AllZip Alike l (padded (put ++ back))) (sym (before taken back h.first h.others from h.is))
+      subst (λ l. AllZip Alike l (all_lines (put ++ back))) (sym (before taken back h.first h.others from h.is))
       (subst (λ l. AllZip Alike ((taken ++ h.first) ∷ h.others) l)
       (sym (before put back h.first h.others into h.is)) all)
 
   abbrev pub Stay : List ℕ → List ℕ → Type 0
-  Stay old new = AllZip Alike (padded old) (padded new)
+  Stay old new = AllZip Alike (all_lines old) (all_lines new)
 
   pub stay_itself : (text : List ℕ) → Stay text text
-  stay_itself text = each_itself (padded text)
+  stay_itself text = each_itself (all_lines text)
 
   pub stay_joins : (a b c : List ℕ) → Stay a b → Stay b c → Stay a c
-  stay_joins a b c h g = each_joins (padded a) (padded b) (padded c) h g
+  stay_joins a b c h g = each_joins (all_lines a) (all_lines b) (all_lines c) h g
 
   pub others_stay : (change : Change) (old new : List ℕ) → KeepsLineEnds change
       → (h : IsChange change old new) → ((more : List ℕ) → Found (h.taken ++ more)) → Stay old new
@@ -213,5 +210,5 @@ module _ (Found : List ℕ → Type 0) (later : (b : ℕ) (text : List ℕ) → 
   lines_stay old new last_same h =
       bare (ends_within_line old) (lines old) (lines new)
       (subst (λ t. AllZip Alike (lines old ++ last (ends_within_line old)) (lines new ++ last t)) (sym last_same)
-      (subst (λ l. AllZip Alike (lines old ++ last (ends_within_line old)) l) (padded_is new)
-      (subst (λ l. AllZip Alike l (padded new)) (padded_is old) h)))
+      (subst (λ l. AllZip Alike (lines old ++ last (ends_within_line old)) l) (all_lines_is new)
+      (subst (λ l. AllZip Alike l (all_lines new)) (all_lines_is old) h)))

@@ -1,83 +1,22 @@
 -- Search texts without classes and registers: a match has their characters, in either case.
-use Rattle.std.proofs.Common.{◌≡◌, ℕ, zero, suc, ◌-◌, ◌<◌, ◌≤◌, List, [], ◌∷◌, length, map, Bool, true, false}
-use Rattle.std.proofs.Common.{◌||◌, ◌&&◌, ◌==◌, cond, not, refl, sym, subst, ap, ◌∙◌, arith, eqb-true}
+use Rattle.std.proofs.Common.{◌≡◌, ℕ, ◌-◌, ◌<◌, List, [], ◌∷◌, map, Bool, true, false}
+use Rattle.std.proofs.Common.{◌==◌, cond, refl, sym, subst, ◌∙◌, arith, eqb-true}
 use Rattle.std.proofs.lemmas.Bool.{false_from_ne_true, ltb-false}
-use Rattle.std.proofs.lemmas.List.Elements.{All-cons, All-head, All-nil, All-tail, All-weaker}
-use Rattle.std.specs.Prelude.{All, Result, Ok, flat_map, nat_lt}
-use Rattle.teco_base.specs.Bytes.{is_letter, is_line_end, to_upper}
-use Rattle.teco_base.specs.Results.{◌>>=◌}
+use Rattle.std.proofs.lemmas.List.Elements.{All-cons, All-head, All-nil, All-tail}
+use Rattle.std.specs.Prelude.{All, Ok, flat_map, nat_lt}
+use Rattle.teco_base.specs.Bytes.{is_line_end, to_upper}
 use Rattle.teco_base.specs.declared.bytes.TheConstants.{FF, LF, VT}
-use Rattle.teco_base.specs.declared.code.Code.{Code}
 use Rattle.teco_changes.specs.Changes.{IsMatch}
-use Rattle.teco_change_policies.specs.Laws.{IsWithinLine}
-use Rattle.teco_change_policies.specs.Plain.{IsPlain, is_sign}
+use Rattle.teco_changes.specs.Plain.{IsPlain}
 use Rattle.teco_change_policies.proofs.Characters.{end_is}
 use Rattle.teco_changes.proofs.Matches.{Only, piece_is}
+use Rattle.teco_changes.proofs.Plainly.{plain_part, plain_pattern}
 use Rattle.teco_model.specs.Match.{is_in}
-use Rattle.teco_model.specs.Pattern.{class_from, extended, items_of, literal, negated, part_at, part_from, parts}
-use Rattle.teco_model.specs.Pattern.{caret, parts_within, pattern, positive}
+use Rattle.teco_model.specs.Pattern.{items_of, literal}
 use Rattle.teco_model.specs.Registers.{Registers}
 use Rattle.teco_model.specs.declared.pattern.Class.TheVariants as class
 use Rattle.teco_model.specs.declared.pattern.Item.{Item}
 use Rattle.teco_model.specs.declared.pattern.Item.TheVariants as item
-use Rattle.teco_model.specs.declared.pattern.Part.{Part}
-use Rattle.teco_model.specs.declared.pattern.Part.TheVariants as part
-
-neither : (s t : Bool) → (s || t) ≡ false → (s ≡ false) × (t ≡ false)
-neither true t e = absurd cc
-neither false t e = (refl, e)
-
-abbrev pub plain_part : ℕ → Part
-plain_part b = part.Item (item.Is (class.Literal b))
-
-abbrev read : ℕ → List ℕ → Result (Part × List ℕ) Code
-read b rest = Ok (plain_part b, rest)
-
-module _ (b : ℕ) (rest : List ℕ) (e5 : (b == 5) ≡ false) (e14 : (b == 14) ≡ false) (e17 : (b == 17) ≡ false)
-    (e19 : (b == 19) ≡ false) (e24 : (b == 24) ≡ false) (e94 : (b == 94) ≡ false)
-  where
-    class_is : class_from b rest ≡ Ok (class.Literal b, rest)
-    class_is = rw (e24, e19, e17, e5, e14) refl
-
-    part_is : part_from b rest ≡ read b rest
-    part_is =
-        ap (λ t. cond t (negated rest) (cond (b == 5) (extended rest) (positive (class_from b rest)))) e14
-        ∙ ap (λ t. cond t (extended rest) (positive (class_from b rest))) e5
-        ∙ ap (λ r. positive r) class_is
-
-    front_is : part_at (b ∷ rest) ≡ read b rest
-    unfolding part_at
-    front_is =
-        ap (λ t. (cond t (caret rest) (Ok (b, rest))) >>= (λ sign. part_from sign.0 sign.1)) e94
-        ∙ part_is
-
-plain_front : (b : ℕ) (rest : List ℕ) → is_sign b ≡ false → part_at (b ∷ rest) ≡ read b rest
-plain_front b rest e =
-    let f5 = neither (b == 5) (b == 14 || (b == 17 || (b == 19 || (b == 24 || b == 94)))) e in
-    let f14 = neither (b == 14) (b == 17 || (b == 19 || (b == 24 || b == 94))) f5.1 in
-    let f17 = neither (b == 17) (b == 19 || (b == 24 || b == 94)) f14.1 in
-    let f19 = neither (b == 19) (b == 24 || b == 94) f17.1 in
-    let f24 = neither (b == 24) (b == 94) f19.1 in
-    front_is b rest f5.0 f14.0 f17.0 f19.0 f24.0 f24.1
-
-plain_within : (n : ℕ) (text : List ℕ) → length text ≤ n → IsPlain text
-    → parts_within n text ≡ Ok (map plain_part text)
-unfolding parts_within
-plain_within zero [] few plain = refl
-plain_within zero (b ∷ text) few plain = absurd (omega arith)
-plain_within (suc n) [] few plain = refl
-plain_within (suc n) (b ∷ text) few plain =
-    ap (λ r. r >>= (λ first. parts_within n first.1 >>= (λ others. Ok (first.0 ∷ others))))
-    (plain_front b text (All-head (λ c. is_sign c ≡ false) b text plain))
-    ∙ ap (λ r. r >>= (λ others. Ok (plain_part b ∷ others)))
-    (plain_within n text (omega arith) (All-tail (λ c. is_sign c ≡ false) b text plain))
-
-pub plain_pattern : (registers : Registers) (exact : Bool) (text : List ℕ) → IsPlain text
-    → pattern registers exact text ≡ Ok (flat_map (items_of registers exact) (map plain_part text))
-unfolding parts
-plain_pattern registers exact text plain =
-    ap (λ r. r >>= (λ ps. Ok (flat_map (items_of registers exact) ps)))
-    (plain_within (length text) text (omega arith) plain)
 
 plain_items : (P : ℕ → Type 0) (registers : Registers) (exact : Bool) (text : List ℕ)
     → All (λ b. Only P (item.Is (literal exact b))) text
@@ -119,7 +58,7 @@ no_such_end b inside n small end same =
     differ (is_line_end b)
     (subst (λ c. is_line_end c ≡ true) (upper_is b n small (eqb-true n (to_upper b) same)) end) inside
 
-literal_within : (t : Bool) (b : ℕ) → is_line_end b ≡ false
+pub literal_within : (t : Bool) (b : ℕ) → is_line_end b ≡ false
     → (c : ℕ) → is_in (cond t (class.EitherCase (to_upper b)) (class.Literal b)) c ≡ true → is_line_end c ≡ false
 literal_within true b inside c h =
     false_from_ne_true (is_line_end c)
@@ -127,12 +66,3 @@ literal_within true b inside c h =
     (no_such_end b inside LF (omega arith) refl) (no_such_end b inside VT (omega arith) refl)
     (no_such_end b inside FF (omega arith) refl) c e h)
 literal_within false b inside c h = subst (λ n. is_line_end n ≡ false) (sym (eqb-true c b h)) inside
-
-pub no_match_ends : (wanted taken : List ℕ) → IsPlain wanted → IsWithinLine wanted → IsMatch wanted taken
-    → IsWithinLine taken
-no_match_ends wanted taken plain inside h =
-    plain_match (λ b. is_line_end b ≡ false) wanted taken plain
-    (λ exact. All-weaker (λ b. is_line_end b ≡ false)
-    (λ b. Only (λ c. is_line_end c ≡ false) (item.Is (literal exact b)))
-    (λ b e. literal_within (is_letter b && not exact) b e) wanted inside)
-    h

@@ -1,7 +1,7 @@
 -- What is told of changes at once.
 use Rattle.std.specs.Prelude.{ℕ, List, IfSome, IsTrue}
 use Rattle.teco_changes.specs.Changes.{Changes}
-use Rattle.teco_change_policies.specs.Laws.{AlwaysKeep, others}
+use Rattle.teco_change_policies.specs.Laws.{AlwaysKeep, LeaveOthers, others}
 use Rattle.teco_changes.specs.declared.change.Change.{Change}
 use Rattle.teco_change_policies.specs.declared.facts.Facts.{Facts}
 use Rattle.teco_policy.specs.Lines.{EndAlike}
@@ -17,3 +17,4 @@ pub record AreTrue (changes : List Change) (facts : Facts) : Type 0 where
   pub takes_only : IfSome facts.takes_only (λ characters. AlwaysKeep changes (policy.TakeOnly characters))
   pub changes_only_with : IfSome facts.changes_only_with
       (λ wanted. AlwaysKeep changes (others wanted.items))
+  pub leaves_lines_without : IfSome facts.leaves_lines_without (λ wanted. LeaveOthers changes wanted.items)

@@ -1,13 +1,16 @@
 -- What follows from the changes of a macro: policies that each text keeps.
-use Rattle.std.specs.Prelude.{◌≡◌, ◌≢◌, ℕ, List, [], ◌∷◌, Bool, false, not, All, Vec}
+use Rattle.std.specs.Prelude.{◌≡◌, ◌≢◌, ◌⊎◌, ℕ, List, [], ◌∷◌, Bool, false, not, All, Contains, Vec}
+use Rattle.std.specs.Prelude.{if◌then◌else◌}
+use Rattle.std.specs.List.{AllZip}
 use Rattle.std.specs.declared.alloc.Global.{Global}
 use Rattle.teco_base.specs.Bytes.{is_line_end}
 use Rattle.teco_changes.specs.Changes.{AreOneOf, Changes, IsMatch, IsPut, IsTaken}
-use Rattle.teco_change_policies.specs.Plain.{IsPlain}
+use Rattle.teco_change_policies.specs.Simple.{IsSimple}
 use Rattle.teco_changes.specs.declared.change.Change.{Change}
-use Rattle.teco_policy.specs.Lines.{EndAlike}
+use Rattle.teco_policy.specs.Lines.{EndAlike, body, in_first}
 use Rattle.teco_policy.specs.Policies.{Keeps}
 use Rattle.teco_policy.specs.declared.policy.Policy.{Policy}
+use Rattle.teco_policy.specs.Wordings.{IsFoundIn}
 use Rattle.teco_policy.specs.declared.policy.Policy.TheVariants as policy
 
 -- whatever a change takes is so
@@ -93,11 +96,43 @@ others wanted = policy.KeepOthers (record { text = wanted; exact = false })
 -- Lines without a match stay as they are, if a last line without a line end neither comes nor goes.
 abbrev pub OthersAreKept : Type 0
 OthersAreKept =
-    (wanted : List ℕ) → IsPlain wanted → (changes : List Change) (old new : List ℕ)
+    (wanted : List ℕ) → IsSimple wanted → (changes : List Change) (old new : List ℕ)
     → All (λ change. KeepsLineEnds change × Seeks wanted change) changes → Changes changes old new
     → ends_within_line old ≡ ends_within_line new → Keeps (others wanted) old new
 
 abbrev pub SwapsKeepOthers : Type 0
 SwapsKeepOthers =
-    (wanted : List ℕ) → IsPlain wanted
+    (wanted : List ℕ) → IsSimple wanted
     → Follows (λ change. (KeepsLineEnds change × Swaps change) × Seeks wanted change) (others wanted)
+
+-- The lines of a text, and what stands behind the last line end, even if nothing does.
+abbrev pub all_lines : List ℕ → List (List ℕ)
+all_lines [] = [] ∷ []
+all_lines (b ∷ text) = if is_line_end b then (b ∷ []) ∷ all_lines text else in_first b (all_lines text)
+
+-- one of some search texts, in either case, has a match in a text
+abbrev pub HasOne : List (List ℕ) → List ℕ → Type 0
+HasOne wanted text =
+    (sought : List ℕ) × Contains wanted sought × IsFoundIn (record { text = sought; exact = false }) text
+
+-- a line ends as before, and is the same unless it has a match of one of them
+abbrev pub IsSameOrHas : List (List ℕ) → List ℕ → List ℕ → Type 0
+IsSameOrHas wanted old new = EndAlike old new × ((old ≡ new) ⊎ HasOne wanted (body old))
+
+-- each line without a match of one of them stays as it is; a last line without a line end may come or go
+abbrev pub OthersStay : List (List ℕ) → List ℕ → List ℕ → Type 0
+OthersStay wanted old new = AllZip (IsSameOrHas wanted) (all_lines old) (all_lines new)
+
+-- such changes, however many, leave those lines in every text
+abbrev pub LeaveOthers : List Change → List (List ℕ) → Type 0
+LeaveOthers changes wanted = (old new : List ℕ) → Changes changes old new → OthersStay wanted old new
+
+-- whatever a change takes is a match of one of these search texts
+abbrev pub SeeksOne : List (List ℕ) → Change → Type 0
+SeeksOne wanted change =
+    TakesWhat (λ taken. (sought : List ℕ) × Contains wanted sought × IsMatch sought taken) change
+
+abbrev pub OthersAreLeft : Type 0
+OthersAreLeft =
+    (wanted : List (List ℕ)) → All IsSimple wanted → (changes : List Change)
+    → All (λ change. KeepsLineEnds change × SeeksOne wanted change) changes → LeaveOthers changes wanted

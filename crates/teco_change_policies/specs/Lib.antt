@@ -3,3 +3,4 @@ pub mod Facts
 pub mod Laws
 pub mod Manners
 pub mod Plain
+pub mod Simple

@@ -1,5 +1,6 @@
 -- What each change of a list may be like.
-use Rattle.teco_change_policies.specs.Laws.{KeepsLineEnds, PutsNothing, PutsOnly, Seeks, Swaps, TakesNothing, TakesOnly}
+use Rattle.teco_change_policies.specs.Laws.{KeepsLineEnds, PutsNothing, PutsOnly, Seeks, SeeksOne, Swaps, TakesNothing}
+use Rattle.teco_change_policies.specs.Laws.{TakesOnly}
 use Rattle.teco_changes.specs.declared.change.Change.{Change}
 use Rattle.teco_change_policies.specs.declared.manner.Manner.{Manner}
 use Rattle.teco_change_policies.specs.declared.manner.Manner.TheVariants as manner
@@ -13,3 +14,4 @@ Is (manner.PutsOnly characters) change = PutsOnly characters.now change
 Is manner.KeepsLineEnds change = KeepsLineEnds change
 Is manner.SwapsWithinLine change = KeepsLineEnds change × Swaps change
 Is (manner.SwapsMatches wanted) change = (KeepsLineEnds change × Swaps change) × Seeks wanted.now change
+Is (manner.TakesMatches wanted) change = KeepsLineEnds change × SeeksOne wanted.now change

@@ -1,15 +1,16 @@
 //! What is told of changes at once.
 ghost use Rattle.std.specs.Prelude.{IfOk, IfSome};
 ghost use Rattle.teco_change_policies.specs.Facts.{AreTrue};
-ghost use Rattle.teco_change_policies.specs.Laws.{AlwaysKeep, others};
+ghost use Rattle.teco_change_policies.specs.Laws.{AlwaysKeep, LeaveOthers, others};
 ghost use Rattle.teco_policy.specs.declared.policy.Policy.TheVariants as policy;
 
-use crate::following::{always_keep, keeps_others};
+use crate::following::{always_keep, keeps_others, leaves_others};
 use crate::gathered::{characters_put, characters_taken};
 use crate::laws::{line_ends_are_kept, only_these_are_added, only_these_are_taken};
 use crate::manner::{Manner, is_each};
+use crate::sought::search_texts;
 use std::alloc::{AllocError, Global};
-use teco_changes::Change;
+use teco_changes::{Change, Text};
 use teco_policy::Policy;
 
 /// What is known of every text that the changes of a macro leave.
@@ -29,6 +30,9 @@ pub struct Facts {
     pub takes_only: Option<Vec<u8>>,
     /// A search text without which a line stays as it is, in either case.
     pub changes_only_with: Option<Vec<u8>>,
+    /// Search texts: a line without a match of one of them, in either case, stays as it is, though a last
+    /// line without a line end may come or go.
+    pub leaves_lines_without: Option<Vec<Text>>,
 }
 
 // The characters that can be put.
@@ -71,6 +75,17 @@ fn changes_only_with(alloc: Global, changes: &[Change]) -> Result<Option<Vec<u8>
     Ok(Some(kept))
 }
 
+// The search texts that all changes take matches of.
+fn leaves_lines_without(alloc: Global, changes: &[Change]) -> Result<Option<Vec<Text>>, AllocError>
+    ensures { IfOk result (λ told. IfSome told (λ wanted. LeaveOthers changes.now wanted.items)) }
+{
+    let wanted = search_texts(alloc, changes)?;
+    if wanted.is_empty() || !leaves_others(changes, wanted.as_slice()) {
+        return Ok(None);
+    }
+    Ok(Some(wanted))
+}
+
 impl Facts {
     /// What is known of changes.
     pub fn of(alloc: Global, changes: &[Change]) -> Result<Facts, AllocError>
@@ -80,6 +95,7 @@ impl Facts {
         let puts_only = puts_only(alloc, changes)?;
         let takes_only = takes_only(alloc, changes)?;
         let changes_only_with = changes_only_with(alloc, changes)?;
+        let leaves_lines_without = leaves_lines_without(alloc, changes)?;
         Ok(Facts {
             adds_nothing: always_keep(changes, &Policy::AddNothing),
             takes_nothing: always_keep(changes, &Policy::KeepText),
@@ -88,6 +104,7 @@ impl Facts {
             puts_only,
             takes_only,
             changes_only_with,
+            leaves_lines_without,
         })
     }
 }

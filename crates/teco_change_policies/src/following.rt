@@ -1,16 +1,17 @@
 //! Which policies follow.
 ghost use Rattle.std.specs.Prelude.{◌≡◌, IsTrue};
-ghost use Rattle.teco_change_policies.specs.Laws.{AlwaysKeep, ends_within_line, others};
+ghost use Rattle.teco_change_policies.specs.Laws.{AlwaysKeep, LeaveOthers, ends_within_line, others};
 
 use crate::laws::{
-    nothing_is_added, only_these_are_added, only_these_are_taken, swaps_keep_lines,
-    swaps_keep_others, text_is_kept,
+    nothing_is_added, only_these_are_added, only_these_are_taken, others_are_left,
+    swaps_keep_lines, swaps_keep_others, text_is_kept,
 };
 use crate::manner::{Manner, is_each};
 use crate::modes::is_in_either_case;
-use crate::pieces::is_plain;
+use crate::simple::is_simple;
+use crate::sought::are_simple;
 use teco_base::bytes::is_line_end;
-use teco_changes::Change;
+use teco_changes::{Change, Text};
 use teco_policy::Policy;
 
 /// Do such changes keep a policy in every text? `false` where it is not known: of a size and of a
@@ -42,7 +43,16 @@ pub fn keeps_others(changes: &[Change], wanted: &[u8]) -> bool
     ensures { IsTrue result → AlwaysKeep changes.now (others wanted.now) }
 {
     swaps_keep_others();
-    is_plain(wanted) && is_each(Manner::SwapsMatches(wanted), changes)
+    is_simple(wanted) && is_each(Manner::SwapsMatches(wanted), changes)
+}
+
+/// Do lines without a match of one of these search texts, in either case, stay as they are in every text,
+/// though a last line without a line end may come or go? `false` where it is not known.
+pub fn leaves_others(changes: &[Change], wanted: &[Text]) -> bool
+    ensures { IsTrue result → LeaveOthers changes.now wanted.now }
+{
+    others_are_left();
+    are_simple(wanted) && is_each(Manner::TakesMatches(wanted), changes)
 }
 
 /// Does a text end within a line, with a character that is no line end?

@@ -1,7 +1,7 @@
 //! Laws of changes: which policies follow from them.
 ghost use Rattle.teco_change_policies.specs.Laws.{TextIsKept, NothingIsAdded, OnlyTheseAreAdded, OnlyTheseAreTaken};
 ghost use Rattle.teco_change_policies.specs.Laws.{LineEndsAreKept, LinesAreKept, OthersAreKept};
-ghost use Rattle.teco_change_policies.specs.Laws.{SwapsKeepLines, SwapsKeepOthers};
+ghost use Rattle.teco_change_policies.specs.Laws.{OthersAreLeft, SwapsKeepLines, SwapsKeepOthers};
 
 /// Where no change takes anything, nothing is taken.
 pub fn text_is_kept()
@@ -39,7 +39,7 @@ pub fn swaps_keep_lines()
     ensures { SwapsKeepLines }
 {}
 
-/// Where each change takes matches of one plain search text, and no line end is taken or put, lines
+/// Where each change takes matches of one simple search text, and no line end is taken or put, lines
 /// without a match stay as they are, if both texts end within a line, or neither.
 pub fn others_are_kept()
     ensures { OthersAreKept }
@@ -48,4 +48,10 @@ pub fn others_are_kept()
 /// Where each puts some characters in the stead of such a match, they stay so in every text.
 pub fn swaps_keep_others()
     ensures { SwapsKeepOthers }
+{}
+
+/// Where each change takes matches of simple search texts, and no line end is taken or put, lines without a match of
+/// one of them stay as they are, though a last line without a line end may come or go.
+pub fn others_are_left()
+    ensures { OthersAreLeft }
 {}

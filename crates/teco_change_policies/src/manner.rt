@@ -5,7 +5,8 @@ ghost use Rattle.teco_change_policies.specs.Manners.{Is};
 use crate::single::{
     keeps_line_ends, puts_nothing, puts_only, seeks, swaps_within_line, takes_nothing, takes_only,
 };
-use teco_changes::Change;
+use crate::sought::seeks_one;
+use teco_changes::{Change, Text};
 
 /// What a change may be like.
 #[derive(Clone, Copy)]
@@ -24,6 +25,8 @@ pub enum Manner<'a> {
     SwapsWithinLine,
     /// It does so, in the stead of a match of this search text.
     SwapsMatches(&'a [u8]),
+    /// It takes matches of one of these search texts, and neither takes nor puts a line end.
+    TakesMatches(&'a [Text]),
 }
 
 // Is a change like that?
@@ -38,6 +41,7 @@ fn is_so(manner: Manner<'_>, change: &Change) -> bool
         Manner::KeepsLineEnds => keeps_line_ends(change),
         Manner::SwapsWithinLine => swaps_within_line(change),
         Manner::SwapsMatches(wanted) => swaps_within_line(change) && seeks(wanted, change),
+        Manner::TakesMatches(wanted) => keeps_line_ends(change) && seeks_one(wanted, change),
     }
 }
 

@@ -1,7 +1,8 @@
 //! The mode of a search text that is looked for in lines.
 ghost use Rattle.std.specs.Prelude.{◌≡◌, ◌≢◌, false, All, IsTrue};
 ghost use Rattle.teco_base.specs.Bytes as byte;
-ghost use Rattle.teco_change_policies.specs.Plain.{IsInEitherCase, IsPlain};
+ghost use Rattle.teco_change_policies.specs.Plain.{IsInEitherCase};
+ghost use Rattle.teco_changes.specs.Plain.{IsPlain};
 
 use crate::pieces::is_plain;
 use teco_base::bytes::{is_letter, is_upper, to_upper};

@@ -3,7 +3,8 @@ ghost use Rattle.std.specs.Prelude.{◌≡◌, ◌≤◌, ℕ, false, All, IsTru
 ghost use Rattle.teco_base.specs.Bytes.{is_line_end};
 ghost use Rattle.teco_changes.specs.Changes.{AreOneOf, is_of_class};
 ghost use Rattle.teco_change_policies.specs.Laws.{IsWithinLine};
-ghost use Rattle.teco_change_policies.specs.Plain.{IsOfEach, IsPlain, is_sign};
+ghost use Rattle.teco_change_policies.specs.Plain.{IsOfEach};
+ghost use Rattle.teco_changes.specs.Plain.{IsPlain, is_sign};
 ghost use Rattle.teco_policy.specs.Subsequences.{is_one_of};
 
 use teco_base::bytes;
@@ -30,8 +31,8 @@ pub(crate) fn is_within_line(text: &[u8]) -> bool
     text.iter().all(|b| !bytes::is_line_end(*b))
 }
 
-// Does a byte of a search text begin more than itself: a caret, a class, a register?
-fn begins_more(b: u8) -> bool
+/// Does a byte of a search text begin more than itself: a caret, a class, a register?
+pub fn begins_more(b: u8) -> bool
     ensures { result ≡ is_sign b }
 {
     matches!(b, 5 | 14 | 17 | 19 | 24 | b'^')

@@ -8,6 +8,7 @@ ghost use Rattle.teco_change_policies.specs.Laws.{IsWithinLine, PutsWhat, TakesW
 use crate::pieces::{
     are_one_of, class_is_among, class_is_within_line, have_each_case, is_plain, is_within_line,
 };
+use crate::simple::is_simple;
 use teco_changes::Change;
 
 // What a number is written with.
@@ -71,7 +72,7 @@ pub(crate) fn puts_only(characters: &[u8], change: &Change) -> bool
 fn matches_are_within_line(wanted: &[u8]) -> bool
     ensures { IsTrue result → (taken : List ℕ) → IsMatch wanted.now taken → IsWithinLine taken }
 {
-    is_plain(wanted) && is_within_line(wanted)
+    is_simple(wanted) && is_within_line(wanted)
 }
 
 // Does a change take no line end?

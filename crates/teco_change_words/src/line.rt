@@ -46,16 +46,33 @@ enum Phrase {
     TakesNothing,
     AddsNothing,
     Lines,
+    Others,
 }
 
 impl Phrase {
-    const ALL: [Phrase; 5] = [
+    const ALL: [Phrase; 6] = [
         Phrase::Puts,
         Phrase::Takes,
         Phrase::TakesNothing,
         Phrase::AddsNothing,
         Phrase::Lines,
+        Phrase::Others,
     ];
+}
+
+// Is a letter looked for, besides those of ^ES?
+fn looks_for_letter(wanted: &[u8]) -> bool {
+    let mut passed: u8 = 0;
+    for b in wanted {
+        match *b {
+            _ if passed > 0 => passed = passed.saturating_sub(1),
+            b'^' => passed = 2,
+            5 => passed = 1,
+            letter if is_letter(letter) => return true,
+            _ => {}
+        }
+    }
+    false
 }
 
 // Changes, and what is known of them.
@@ -96,6 +113,9 @@ impl<'a> Line<'a> {
                 self.facts.changes_only_with.is_some()
                     || self.facts.keeps_lines
                     || self.facts.keeps_line_ends
+            }
+            Phrase::Others => {
+                self.facts.leaves_lines_without.is_some() && self.facts.changes_only_with.is_none()
             }
         }
     }
@@ -138,7 +158,7 @@ impl<'a> Line<'a> {
                     most: self.detail.bytes,
                     is_bare: true,
                 };
-                let case = if text.iter().any(|b| is_letter(*b)) {
+                let case = if looks_for_letter(text) {
                     " in either case"
                 } else {
                     ""
@@ -166,6 +186,7 @@ impl fmt::Display for Said<'_> {
             Phrase::TakesNothing => f.write_str("takes nothing"),
             Phrase::AddsNothing => f.write_str("adds nothing"),
             Phrase::Lines => self.line.lines(f),
+            Phrase::Others => f.write_str("only lines with a match change"),
         }
     }
 }

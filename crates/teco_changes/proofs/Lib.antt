@@ -7,3 +7,6 @@ pub mod Replaced
 pub mod Unchanged
 pub mod Numerals
 pub mod Closure
+pub mod Plainly
+pub mod Lasts
+pub mod OneTaken

@@ -1,7 +1,8 @@
 -- A match that is found, as a piece of the buffer; what stands in its stead.
 use Rattle.std.proofs.Common.{◌≡◌, ◌≢◌, ℕ, ℤ, pos, negsuc, zero, suc, ◌+◌, ◌-◌, ◌≤◌, List, [], ◌∷◌, ◌++◌, length}
 use Rattle.std.proofs.Common.{take, drop, not, refl, sym, subst, ap, ◌∙◌, arith, Option, Some, None}
-use Rattle.std.proofs.lemmas.List.{append_assoc, drop-drop, drop_at, length-append, length-drop, take-append-drop}
+use Rattle.std.proofs.lemmas.List.{append_assoc, drop-drop, drop_at, length-append, length-drop, length-take-le}
+use Rattle.std.proofs.lemmas.List.{take-append-drop}
 use Rattle.std.specs.Prelude.{Ok, nat_le, option_and_then, option_map}
 use Rattle.std.specs.Option.{option_or}
 use Rattle.teco_base.specs.Results.{◌>>=◌}
@@ -30,6 +31,8 @@ pub record IsFoundAt (p : Pattern) (text : List ℕ) (span : Span) : Type 0 wher
   pub rest : List ℕ
   pub is : text ≡ take span.start text ++ (piece ++ rest)
   pub behind : drop span.end text ≡ rest
+  pub starts : length (take span.start text) ≡ span.start
+  pub ends : span.end ≡ span.start + length piece
   pub some : p ≢ []
   pub leaves : match_rest p (piece ++ rest) ≡ Some rest
 
@@ -54,6 +57,8 @@ module _ (i : Item) (items : List Item) (text : List ℕ) (at : ℕ) where
             ∙ sym (drop-drop (length made.piece) at text)
             ∙ ap (λ l. drop (length made.piece) l) made.is
             ∙ drop_at made.piece rest (length made.piece) refl;
+        starts = length-take-le at text (let m = made.many in omega arith);
+        ends = end;
         some = λ e. cc;
         leaves = ap (λ l. match_rest (i ∷ items) l) (sym made.is) ∙ e;
       })

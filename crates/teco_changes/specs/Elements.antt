@@ -1,12 +1,20 @@
 -- What each element of a macro can do to a text at most. The text of a world is what is written to the output, then the
 -- page in the buffer, then what is unread.
-use Rattle.std.specs.Prelude.{ℕ, zero, List, [], ◌∷◌, Bool, false, Option, Some, None}
+use Rattle.std.specs.Prelude.{ℕ, ℤ, zero, ◌&&◌, nat_abs, List, [], ◌∷◌, Bool, true, false, if◌then◌else◌, Option, Some}
+use Rattle.std.specs.Prelude.{None}
 use Rattle.teco_base.specs.Arithmetic.{byte_of}
 use Rattle.teco_base.specs.declared.bytes.TheConstants.{FF, TAB}
+use Rattle.teco_changes.specs.Nearby.{Found, Known, Nearby, Surely, Unreached}
+use Rattle.teco_changes.specs.Plain.{matches_have}
 use Rattle.teco_changes.specs.declared.argument.NumericArgument.{NumericArgument}
 use Rattle.teco_changes.specs.declared.argument.NumericArgument.TheVariants as known
+use Rattle.teco_changes.specs.declared.argument.Pending.{Pending}
+use Rattle.teco_changes.specs.declared.argument.Pending.TheVariants.{Empty, Length, Negative, Number, Place}
 use Rattle.teco_changes.specs.declared.change.Change.{Change}
 use Rattle.teco_changes.specs.declared.change.Change.TheVariants as change
+use Rattle.teco_changes.specs.declared.change.Characters.{Characters as Near}
+use Rattle.teco_changes.specs.declared.change.Range.{Range}
+use Rattle.teco_model.specs.Condition.{is_negative}
 use Rattle.teco_model.specs.Element.{Element}
 use Rattle.teco_model.specs.declared.kind.Command.{Command}
 use Rattle.teco_model.specs.declared.kind.Command.TheVariants as command
@@ -22,6 +30,8 @@ use Rattle.teco_model.specs.declared.kind.Search.{Search}
 use Rattle.teco_model.specs.declared.kind.Search.TheVariants as search
 use Rattle.teco_model.specs.declared.kind.Storage.{Storage}
 use Rattle.teco_model.specs.declared.kind.Storage.TheVariants as storage
+use Rattle.teco_model.specs.declared.kind.Unit.{Unit as Counted}
+use Rattle.teco_model.specs.declared.kind.Unit.TheVariants.{Characters, Lines}
 
 -- I puts its text; without one, nI puts a character. TAB puts itself and its text.
 abbrev pub inserted : Insertion → List ℕ → List Change
@@ -88,7 +98,46 @@ abbrev pub either_told : Option (List Change) → Option (List Change) → Optio
 either_told None other = other
 either_told (Some changes) other = Some changes
 
--- What an element can do where so much is known of the argument before it.
-abbrev pub changes_with : Element → Bool → NumericArgument → Option (List Change)
-changes_with element ranged before =
-    either_told (told_with element.kind element.text before) (changes_of element ranged)
+-- have matches as many characters as a number is below 0?
+abbrev pub matches_below : ℤ → List ℕ → Bool
+matches_below n wanted = is_negative n && matches_have (nat_abs n) wanted
+
+-- Is the last text taken, which is a match of a search text? By its place, its length, or as many characters before the
+-- pointer as each match has.
+abbrev pub takes_last : Counted → Bool → List ℕ → Pending → Bool
+takes_last unit ranged wanted Place = true
+takes_last Characters false wanted Length = true
+takes_last Characters false wanted Negative = matches_have 1 wanted
+takes_last Characters false wanted (Number n) = matches_below n wanted
+takes_last unit ranged wanted pending = false
+
+-- D and K take what was just found, if they are known to take the last text.
+abbrev pub deleted_last : Counted → Bool → Found → Pending → Option (List Change)
+deleted_last unit ranged (Surely wanted) pending =
+    if takes_last unit ranged wanted pending then Some (change.TakesMatch wanted ∷ []) else None
+deleted_last unit ranged found pending = None
+
+abbrev pub taken_of : Option Range → Option (List Change)
+taken_of None = None
+taken_of (Some range) = Some (change.Takes (range ∷ []) ∷ [])
+
+-- D takes the character at the pointer, and -D that before it.
+abbrev pub deleted_character : Counted → Bool → Pending → Near → Option (List Change)
+deleted_character Characters false Empty characters = taken_of characters.at
+deleted_character Characters false Negative characters = taken_of characters.before
+deleted_character unit ranged pending characters = None
+
+abbrev pub deleted_near : Counted → Bool → Nearby → Option (List Change)
+deleted_near unit ranged Unreached = None
+deleted_near unit ranged (Known found pending characters) =
+    either_told (deleted_last unit ranged found pending) (deleted_character unit ranged pending characters)
+
+abbrev pub told_near : Kind → Bool → Nearby → Option (List Change)
+told_near (kind.Command (command.Deletion unit)) ranged near = deleted_near unit ranged near
+told_near k ranged near = None
+
+-- What an element can do where so much is known of the argument before it, and of what is near.
+abbrev pub changes_with : Element → Bool → NumericArgument → Nearby → Option (List Change)
+changes_with element ranged before near =
+    either_told (told_near element.kind ranged near)
+    (either_told (told_with element.kind element.text before) (changes_of element ranged))

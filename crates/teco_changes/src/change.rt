@@ -41,6 +41,13 @@ pub struct Range {
     pub last: u8,
 }
 
+/// What is known of the characters at the pointer and before it: they are of these ranges.
+#[derive(Clone, Copy)]
+pub struct Characters {
+    pub at: Option<Range>,
+    pub before: Option<Range>,
+}
+
 /// A class of characters, given by ranges.
 #[derive(Drop)]
 pub struct Class {

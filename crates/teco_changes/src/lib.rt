@@ -5,5 +5,5 @@ mod argument;
 mod change;
 pub mod laws;
 
-pub use argument::NumericArgument;
-pub use change::{Change, Class, Range, Text};
+pub use argument::{NumericArgument, Pending, Side, Sign};
+pub use change::{Change, Characters, Class, Range, Text};

@@ -1,2 +1,3 @@
 -- What proofs of this crate and of those above cite.
 pub mod Fronts
+mod Unmarked

@@ -4,3 +4,5 @@ pub mod Outcomes
 pub mod Output
 pub mod Sources
 pub mod Premise
+pub mod Searches
+pub mod Settings

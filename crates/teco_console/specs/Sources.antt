@@ -11,6 +11,7 @@ use Rattle.teco_source.specs.declared.form.EscapeForm.TheVariants.{Marked, Reada
 use Rattle.teco_console.specs.declared.forms.Escape.{Escape}
 use Rattle.teco_console.specs.declared.forms.Escape.TheVariants.{ByName, Mark}
 use Rattle.teco_console.specs.declared.forms.TheConstants.{READABLE}
+use Rattle.teco_console.specs.Searches.{filled}
 use Rattle.teco_console.specs.declared.request.Request.{Request}
 
 -- a name ends in a word
@@ -62,11 +63,11 @@ IsWithWords escape [] of_file text = text ≡ of_file
 IsWithWords escape (word ∷ words) of_file text =
     IsGivenBehind of_file 0 (word_form escape) (lines_behind [] (word ∷ words)) text
 
--- the source of a library, by a request and what the file has that it names
+-- the source of a library, by a request and what the file has that it names: search texts stand in their places in it
 pub record IsSource (request : Request) (bytes : Option (Vec ℕ Global)) (text : List ℕ) : Type 0 where
   pub of_file : List ℕ
   pub file : IsOfFile request.escape request.library.file bytes of_file
-  pub words : IsWithWords request.escape request.library.texts.now of_file text
+  pub words : IsWithWords request.escape request.library.texts.now (filled request.searches.now of_file) text
 
 -- A file is read where one is named, and it has what is told of it.
 abbrev pub IsFileRead : (List ℕ → Option (List ℕ)) → Option (Bor (List ℕ)) → Option (Vec ℕ Global) → Type 0

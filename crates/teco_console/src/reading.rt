@@ -9,6 +9,7 @@ use crate::files::{Shelf, read_file};
 use crate::forms::{Escape, form_of, form_of_word, is_readable};
 use crate::given::{GivenText, with_text};
 use crate::request::Request;
+use crate::searches::with_searches;
 use crate::setting::Setting;
 use std::alloc::{AllocError, Global};
 use teco_base::bytes::{ESC, LF};
@@ -179,12 +180,13 @@ impl<'a> ReadLibrary<'a> {
         }
     }
 
-    /// The source of the library: its file, and the texts of the command line.
+    /// The source of the library: its file, with search texts in their places, and the texts of the
+    /// command line.
     pub fn source(&self, alloc: Global) -> Result<Source, AnswerFault>
         ensures { IfOk result (IsSource self.now.request self.now.bytes) }
     {
-        let source = self.file_source(alloc)?;
         let request = self.request;
+        let source = with_searches(alloc, self.file_source(alloc)?, request.searches)?;
         with_words(alloc, source, request.library.texts, request.escape)
     }
 

@@ -1,6 +1,7 @@
 //! What is asked of a library.
 use crate::forms::{Escape, is_readable};
 use crate::method::Method;
+use crate::setting::Setting;
 
 /// What a library is read from: a file, texts of the command line, or both.
 #[derive(Clone, Copy)]
@@ -37,4 +38,6 @@ pub struct Request<'a> {
     pub escape: Escape,
     /// How its macros are verified.
     pub method: Method,
+    /// Search texts for its file: each stands in the place of `^EQ` and the name of its register.
+    pub searches: &'a [Setting],
 }

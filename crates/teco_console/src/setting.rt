@@ -1,11 +1,12 @@
 //! Texts that registers are given before a run.
-ghost use Rattle.std.specs.Prelude.{◌≤◌, length};
+ghost use Rattle.std.specs.Prelude.{◌≡◌, ◌≤◌, length};
 ghost use Rattle.teco_base.specs.declared.TheConstants.{LIMIT};
 
 use crate::fault::AnswerFault;
 use crate::files::{Shelf, read_file};
 use crate::forms::{Escape, form_of_word};
 use std::alloc::{AllocError, Global};
+use std::marker::Model;
 use teco_base::{LIMIT, Reg};
 
 /// A word of the command line that gives a register a text, as `A=TEXT`.
@@ -13,7 +14,18 @@ use teco_base::{LIMIT, Reg};
 pub struct Setting {
     register: Reg,
     text: Vec<u8>,
-    ghost within: { length text.items ≤ LIMIT },
+}
+
+impl Model for Setting {
+    ghost use Rattle.std.specs.Prelude.{◌≤◌, length};
+    ghost use Rattle.teco_base.specs.declared.TheConstants.{LIMIT};
+    ghost use Rattle.teco_console.specs.Settings.{GivenText};
+
+    ghost Value = { GivenText };
+
+    ghost view = { λ s. record { register = s.register; text = s.text.items } };
+
+    ghost invariant = { λ s. length s.text.items ≤ LIMIT };
 }
 
 impl Setting {
@@ -40,13 +52,16 @@ impl Setting {
     }
 
     /// The register.
-    pub fn register(&self) -> Reg {
+    pub fn register(&self) -> Reg
+        ensures { result ≡ self.now.register }
+    {
         self.register
     }
 
     /// Its text.
     pub fn text(&self) -> &[u8]
-        ensures { length result.now ≤ LIMIT }
+        ensures text { result.now ≡ self.now.text }
+        ensures within { length result.now ≤ LIMIT }
     {
         &self.text
     }

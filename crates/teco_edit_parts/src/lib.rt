@@ -9,7 +9,6 @@ mod folders;
 mod lines;
 mod pattern;
 mod progress;
-mod texts;
 mod typed;
 
 pub use backups::taken_backup;
@@ -18,5 +17,4 @@ pub use diff::{changed_lines, is_binary, write_diff};
 pub use folders::Folders;
 pub use pattern::matches;
 pub use progress::{EditProgress, FilesDone};
-pub use texts::has_nul;
 pub use typed::{named_lines, without_code};

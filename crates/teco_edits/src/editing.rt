@@ -24,13 +24,13 @@ use teco_apply::{Drops, Ending, Replaces};
 use teco_base::bytes::{ESC, LF};
 use teco_console::{Console, Outcome, Voice};
 use teco_edit_parts::{
-    ChosenFile, EditProgress, FilesDone, Folders, has_nul, named_lines, without_code, write_diff,
+    ChosenFile, EditProgress, FilesDone, Folders, is_binary, named_lines, without_code, write_diff,
 };
 use teco_files::{Backup, Closing, Handling, ProcessFacts, System};
 use teco_hosts::Host;
 use teco_jobs::{Job, OneWork, Replaced, rewrite_by};
 use teco_options::{Change, Keeping, Look, NAME, Naming};
-use teco_pages::{EditTerms, FileHost, PolicyHost, Texts};
+use teco_pages::{EditTerms, FileHost, InputAhead, PolicyHost, Texts};
 use teco_policy::Policy;
 use teco_session::SessionFault;
 use teco_source::Shown;
@@ -241,6 +241,32 @@ fn of_memory(fault: ToolFault) -> ToolFault {
     }
 }
 
+// What edits leave for those behind them: folders, and a file that was opened ahead of its edit.
+#[derive(Drop)]
+struct Course<R: System> {
+    folders: Folders,
+    ahead: Option<InputAhead<R>>,
+}
+
+impl<R: System> Course<R> {
+    // None yet.
+    fn new(alloc: Global) -> Course<R> {
+        Course {
+            folders: Folders::new(alloc),
+            ahead: None,
+        }
+    }
+
+    // Opens a file ahead of its edit. Has it a NUL near its beginning? One that can't be read has none.
+    fn opens_nul(&mut self, rt: &R, alloc: Global, name: &[u8]) -> Result<bool, AllocError> {
+        self.ahead = InputAhead::open(rt, alloc, name)?;
+        Ok(match &mut self.ahead {
+            Some(ahead) => is_binary(ahead.first_bytes()),
+            None => false,
+        })
+    }
+}
+
 // Files that are edited by a macro.
 #[derive(Drop)]
 struct Editing<'r, 'j, 'g, 'f, R: System + Copy> {
@@ -251,13 +277,18 @@ struct Editing<'r, 'j, 'g, 'f, R: System + Copy> {
 }
 
 impl<'f, R: System + Copy> Editing<'_, '_, '_, 'f, R> {
-    // A host for one file.
-    fn file_host(&self, alloc: Global) -> Result<FileHost<R>, AllocError>
+    // A host for one file, which may be open ahead.
+    fn file_host(
+        &self,
+        alloc: Global,
+        ahead: Option<InputAhead<R>>,
+    ) -> Result<FileHost<R>, AllocError>
         ensures { IfOk result (λ host. ⟦<FileHost<R> as Host>⟧.files host ≡ Notes []) }
     {
         let backup = backup_of(alloc, self.given.keeping)?;
         let mut host = FileHost::new(alloc, *self.rt);
         host.set_facts(self.facts);
+        host.set_ahead(ahead);
         host.set_handling(handling_of(self.given));
         if let Some(backup) = backup {
             host.set_backup(backup);
@@ -266,10 +297,15 @@ impl<'f, R: System + Copy> Editing<'_, '_, '_, 'f, R> {
     }
 
     // A host for one file, on the terms of its edit.
-    fn host(&self, alloc: Global, terms: EditTerms<'f>) -> Result<PolicyHost<'f, R>, AllocError>
+    fn host(
+        &self,
+        alloc: Global,
+        terms: EditTerms<'f>,
+        ahead: Option<InputAhead<R>>,
+    ) -> Result<PolicyHost<'f, R>, AllocError>
         ensures { IfOk result (λ host. ⟦<PolicyHost<'f, R> as Host>⟧.files host ≡ Notes []) }
     {
-        Ok(PolicyHost::new(self.file_host(alloc)?, terms))
+        Ok(PolicyHost::new(self.file_host(alloc, ahead)?, terms))
     }
 
     // Writes what was typed over a file.
@@ -295,7 +331,7 @@ impl<'f, R: System + Copy> Editing<'_, '_, '_, 'f, R> {
     fn end_edit<O: Write + Drop, E: Write + Drop>(
         &self,
         console: &mut Console<O, E>,
-        folders: &mut Folders,
+        course: &mut Course<R>,
         runs: FileRuns<'_>,
         host: &PolicyHost<'f, R>,
     ) -> Result<EditEnd, ToolFault>
@@ -317,7 +353,7 @@ impl<'f, R: System + Copy> Editing<'_, '_, '_, 'f, R> {
         };
         let typed = without_code(typed, is_coded(outcome));
         self.write_typed(console.alloc, &mut console.out, name, typed)?;
-        folders.note_changed(host.host().changed_folder())?;
+        course.folders.note_changed(host.host().changed_folder())?;
         Ok(EditEnd { outcome, differs })
     }
 
@@ -326,7 +362,7 @@ impl<'f, R: System + Copy> Editing<'_, '_, '_, 'f, R> {
     fn edit_at<O: Write + Drop, E: Write + Drop, K: Ending>(
         &self,
         console: &mut Console<O, E>,
-        folders: &mut Folders,
+        course: &mut Course<R>,
         name: &[u8],
         ending: K,
     ) -> Result<EditedFile<'f, R>, ToolFault>
@@ -338,7 +374,7 @@ impl<'f, R: System + Copy> Editing<'_, '_, '_, 'f, R> {
             policies: self.given.policies,
             closes: K::replaces(),
         };
-        let host = self.host(console.alloc, terms)?;
+        let host = self.host(console.alloc, terms, course.ahead.take())?;
         let mut typed = Vec::new(console.alloc);
         let work = OneWork::new(self.job, name, ending);
         let Replaced {
@@ -359,7 +395,7 @@ impl<'f, R: System + Copy> Editing<'_, '_, '_, 'f, R> {
             typed: &typed,
             outcome,
         };
-        let ended = self.end_edit(console, folders, runs, &host)?;
+        let ended = self.end_edit(console, course, runs, &host)?;
         let counts = Counts::of(watched);
         Ok(EditedFile {
             ended,
@@ -372,7 +408,7 @@ impl<'f, R: System + Copy> Editing<'_, '_, '_, 'f, R> {
     fn edit_named<O: Write + Drop, E: Write + Drop>(
         &self,
         console: &mut Console<O, E>,
-        folders: &mut Folders,
+        course: &mut Course<R>,
         name: &[u8],
     ) -> Result<EditedFile<'f, R>, ToolFault>
         requires { length name.now < NAME }
@@ -381,8 +417,8 @@ impl<'f, R: System + Copy> Editing<'_, '_, '_, 'f, R> {
             (O.contents console.old.out) (O.contents console.new.out) edited.ended) }
     {
         match self.given.change {
-            Change::Made => self.edit_at(console, folders, name, Replaces),
-            Change::Listed | Change::Checked => self.edit_at(console, folders, name, Drops),
+            Change::Made => self.edit_at(console, course, name, Replaces),
+            Change::Listed | Change::Checked => self.edit_at(console, course, name, Drops),
         }
     }
 
@@ -390,14 +426,14 @@ impl<'f, R: System + Copy> Editing<'_, '_, '_, 'f, R> {
     fn edit_plainly<O: Write + Drop, E: Write + Drop>(
         &self,
         console: &mut Console<O, E>,
-        folders: &mut Folders,
+        course: &mut Course<R>,
         name: &[u8],
     ) -> Result<EditEnd, ToolFault>
         requires { length name.now < NAME }
         ensures { IfOk result (EditsPlainly self.now.given.now self.now.job name.now
             (O.contents console.old.out) (O.contents console.new.out)) }
     {
-        let EditedFile { ended, host, .. } = self.edit_named(console, folders, name)?;
+        let EditedFile { ended, host, .. } = self.edit_named(console, course, name)?;
         self.tell_ended(console, name, ended, &host)?;
         Ok(ended)
     }
@@ -406,7 +442,7 @@ impl<'f, R: System + Copy> Editing<'_, '_, '_, 'f, R> {
     fn edit_as_object<O: Write + Drop, E: Write + Drop>(
         &self,
         console: &mut Console<O, E>,
-        folders: &mut Folders,
+        course: &mut Course<R>,
         name: &[u8],
     ) -> Result<EditEnd, ToolFault>
         requires { length name.now < NAME }
@@ -419,7 +455,7 @@ impl<'f, R: System + Copy> Editing<'_, '_, '_, 'f, R> {
             ended,
             host,
             counts,
-        } = self.edit_named(&mut apart, folders, name)?;
+        } = self.edit_named(&mut apart, course, name)?;
         let typed = mem::replace(&mut apart.out, Vec::new(alloc));
         self.tell_ended(&mut apart, name, ended, &host)?;
         let (differences, messages) = apart.into_parts();
@@ -442,7 +478,7 @@ impl<'f, R: System + Copy> Editing<'_, '_, '_, 'f, R> {
     fn edit_and_tell<O: Write + Drop, E: Write + Drop>(
         &self,
         console: &mut Console<O, E>,
-        folders: &mut Folders,
+        course: &mut Course<R>,
         name: &[u8],
     ) -> Result<EditEnd, ToolFault>
         requires { length name.now < NAME }
@@ -450,9 +486,9 @@ impl<'f, R: System + Copy> Editing<'_, '_, '_, 'f, R> {
             (O.contents console.old.out) (O.contents console.new.out)) }
     {
         if self.given.prints_objects {
-            self.edit_as_object(console, folders, name)
+            self.edit_as_object(console, course, name)
         } else {
-            self.edit_plainly(console, folders, name)
+            self.edit_plainly(console, course, name)
         }
     }
 
@@ -492,7 +528,7 @@ impl<'f, R: System + Copy> Editing<'_, '_, '_, 'f, R> {
     fn edit_one<O: Write + Drop, E: Write + Drop>(
         &self,
         console: &mut Console<O, E>,
-        folders: &mut Folders,
+        course: &mut Course<R>,
         name: &[u8],
     ) -> Result<EditEnd, ToolFault>
         ensures { IfOk result (EditsOne self.now.given.now self.now.job name.now
@@ -503,26 +539,23 @@ impl<'f, R: System + Copy> Editing<'_, '_, '_, 'f, R> {
             return Ok(FAILED);
         }
         if let Change::Made = self.given.change {
-            folders.sweep(self.rt, &mut console.voice, name, self.facts)?;
+            let voice = &mut console.voice;
+            course.folders.sweep(self.rt, voice, name, self.facts)?;
         }
-        self.edit_and_tell(console, folders, name)
-    }
-
-    // Has a file a NUL near its beginning?
-    fn holds_nul(&self, alloc: Global, name: &[u8]) -> Result<bool, AllocError> {
-        has_nul(alloc, &mut self.file_host(alloc)?, name)
+        self.edit_and_tell(console, course, name)
     }
 
     // Is a file left as it is, since it is none that people read? That is said.
     fn is_left<E: Write + Drop>(
         &self,
         voice: &mut Voice<E>,
+        course: &mut Course<R>,
         file: &ChosenFile,
     ) -> Result<bool, ToolFault>
         ensures { IfOk result (λ left. left ≡ true → MayBeLeft self.now.given.now) }
     {
         let may_be_left = !self.given.takes_binary;
-        if may_be_left && self.holds_nul(voice.alloc(), &file.name)? {
+        if may_be_left && course.opens_nul(self.rt, voice.alloc(), &file.name)? {
             tell_left(voice, file);
             return Ok(true);
         }
@@ -624,17 +657,17 @@ impl<'f, R: System + Copy> Editing<'_, '_, '_, 'f, R> {
     fn edit_next<O: Write + Drop, E: Write + Drop>(
         &self,
         console: &mut Console<O, E>,
-        folders: &mut Folders,
+        course: &mut Course<R>,
         file: &ChosenFile,
         tally: EditTally,
     ) -> Result<EditTally, ToolFault>
         ensures { IfOk result (EditsNext self.now.given.now self.now.job file.now
             (O.contents console.old.out) (O.contents console.new.out) tally) }
     {
-        if self.is_left(&mut console.voice, file)? {
+        if self.is_left(&mut console.voice, course, file)? {
             return Ok(tally);
         }
-        let ended = self.edit_one(console, folders, &file.name)?;
+        let ended = self.edit_one(console, course, &file.name)?;
         Ok(tally.with(ended))
     }
 
@@ -642,7 +675,7 @@ impl<'f, R: System + Copy> Editing<'_, '_, '_, 'f, R> {
     fn edit_all<O: Write + Drop, E: Write + Drop>(
         &self,
         console: &mut Console<O, E>,
-        folders: &mut Folders,
+        course: &mut Course<R>,
         files: &[ChosenFile],
     ) -> Result<EditTally, ToolFault>
         ensures { EditsAll self.now.given.now self.now.job files.now
@@ -658,7 +691,7 @@ impl<'f, R: System + Copy> Editing<'_, '_, '_, 'f, R> {
                 name: &file.name,
             };
             progress.show(self.rt, &mut console.voice, place);
-            match self.edit_next(console, folders, file, tally) {
+            match self.edit_next(console, course, file, tally) {
                 Ok(after) => tally = after,
                 Err(fault) => return Err(fault),
             }
@@ -674,13 +707,13 @@ impl<'f, R: System + Copy> Editing<'_, '_, '_, 'f, R> {
         ensures { EditsFiles self.now.given.now self.now.job
             (O.contents console.old.out) (O.contents console.new.out) result }
     {
-        let mut folders = Folders::new(console.alloc);
-        let tally = match self.edit_all(console, &mut folders, self.given.files) {
+        let mut course = Course::new(console.alloc);
+        let tally = match self.edit_all(console, &mut course, self.given.files) {
             Ok(tally) => tally,
             Err(fault) => return Err(fault),
         };
         console.voice.clear();
-        folders.sync(self.rt);
+        course.folders.sync(self.rt);
         self.tell_tally(&mut console.voice, tally);
         Ok(tally.outcome_of(self.given.change))
     }

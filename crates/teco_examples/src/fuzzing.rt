@@ -1,6 +1,6 @@
 //! Texts made of what a macro looks for, on which it may do what was not meant.
 use crate::keeping::{first_broken, is_exact};
-use crate::running::{Came, TextRun, run_on_text};
+use crate::running::TextRun;
 use memchr::memmem;
 use std::alloc::{AllocError, Global};
 use std::io::{Input, Write};
@@ -9,6 +9,7 @@ use teco_acceptance::{read_library, refuse_macro, verified_by};
 use teco_base::Reg;
 use teco_console::{Console, Outcome, Request, Setting, Sourced};
 use teco_edit_parts::changed_lines;
+use teco_jobs::Came;
 use teco_library::Library;
 use teco_model::{Element, Kind};
 use teco_notes::{Example, FoundNote, NoPolicy, Note, element_at, notes_of, prototype_of};
@@ -204,7 +205,7 @@ fn made_of(
     example: &Example,
     text: &[u8],
 ) -> Result<Option<Vec<u8>>, ToolFault> {
-    match run_on_text(library, subject, example, text)? {
+    match subject.run_on(library, example, text)? {
         Came::Text(made) => Ok(Some(made)),
         Came::Code(_) => Ok(None),
     }

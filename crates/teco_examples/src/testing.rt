@@ -1,7 +1,7 @@
 //! `test`: the examples of a library are tried.
 use crate::keeping::{first_broken, is_exact, print_lines};
 use crate::report::ExampleReport;
-use crate::running::{Came, TextRun, run_on};
+use crate::running::TextRun;
 use std::fmt;
 use std::io::{Input, Write};
 use std::rt::Files;
@@ -10,6 +10,7 @@ use teco_base::{Code, Reg};
 use teco_console::{Console, Outcome, Request, Sourced, letters};
 use teco_edit_parts::write_diff;
 use teco_explain::note_of_code;
+use teco_jobs::Came;
 use teco_notes::{Example, FoundNote, NoPolicy, NoTakes, Note, NoteSite, notes_of};
 use teco_options::{LetterCase, Look};
 use teco_paths::search::ClaimSearch;
@@ -141,7 +142,7 @@ impl Trial<'_> {
         let source = &self.sourced.source;
         let Tests { case, look, .. } = *self.tests;
         let subject = TextRun::of::<S>(console.means(), self.sourced, finding.register, case);
-        match run_on(&self.sourced.library, &subject, example)? {
+        match subject.run_on(&self.sourced.library, example, &example.before)? {
             Came::Text(made) => {
                 let wanted = tell_text(console, source, finding, look, (&example.after, &made))?;
                 Ok(tell_broken(console, source, finding, example, &made)? && wanted)

@@ -132,7 +132,12 @@ fn copy<R: System>(rt: &R, alloc: Global, own: &str, path: &str) -> Result<(), T
 // Copies a file into an open one.
 fn copy_into<R: System>(rt: &R, alloc: Global, own: &str, mut file: R::File) -> io::Result<()> {
     let source = fs::open(rt, own)?;
-    let permissions = inherit_owner(rt, &file, &source.metadata()?);
+    let permissions = inherit_owner(
+        rt,
+        &file,
+        file.metadata().ok().as_ref(),
+        &source.metadata()?,
+    );
     let mut source = BufReader::new(alloc, source)?;
     io::copy(&mut source, &mut file)?;
     file.flush()?;

@@ -25,6 +25,11 @@ impl Identity {
         }
     }
 
+    /// How many bytes it had.
+    pub fn length(self) -> u64 {
+        self.length
+    }
+
     /// Is it the same file, changed or not?
     pub fn is_same_file(self, other: Identity) -> bool {
         self.device == other.device && self.number == other.number

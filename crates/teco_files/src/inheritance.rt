@@ -7,14 +7,28 @@ use std::os::unix::fs::{MetadataExt, PermissionsExt};
 const WITHOUT_SET_ID: u32 = 0o1777;
 
 /// Gives an open file the owner and the group of the one that it will replace, as far as the system
-/// lets it. Its permissions are given once it is written, since a write may take the set-id bits
-/// away: they are those of the other file, but without its owner and its group the set-id bits go.
-pub fn inherit_owner<R: System>(rt: &R, file: &R::File, replaced: &Metadata) -> Permissions {
+/// lets it, unless it was made with them. Its permissions are given once it is written, since a write
+/// may take the set-id bits away: they are those of the other file, but without its owner and its group
+/// the set-id bits go.
+pub fn inherit_owner<R: System>(
+    rt: &R,
+    file: &R::File,
+    made: Option<&Metadata>,
+    replaced: &Metadata,
+) -> Permissions {
     let mode = replaced.permissions().mode();
-    if takes_owner(rt, file, replaced) {
+    if has_owner(made, replaced) || takes_owner(rt, file, replaced) {
         Permissions::from_mode(mode)
     } else {
         Permissions::from_mode(mode & WITHOUT_SET_ID)
+    }
+}
+
+// Was the file made with the owner and the group of the other?
+fn has_owner(made: Option<&Metadata>, replaced: &Metadata) -> bool {
+    match made {
+        Some(made) => made.uid() == replaced.uid() && made.gid() == replaced.gid(),
+        None => false,
     }
 }
 

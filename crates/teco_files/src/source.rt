@@ -9,7 +9,7 @@ use crate::system::System;
 use crate::trouble::TroubleReason;
 use std::alloc::Global;
 use std::fs::{Metadata, OpenFile};
-use std::io::{BufReader, Read};
+use std::io::{BufRead, BufReader, Read};
 use std::{fs, io, str};
 
 // How many bytes are read ahead: the file's length, but no fewer and no more than these.
@@ -67,7 +67,7 @@ impl<F: OpenFile + Read + Drop> ReadFile<F> {
         ensures ahead { IfOk result (λ s. 0 < source_room s) }
         ensures none { IfOk result (λ s. source_ahead s ≡ []) }
     {
-        match BufReader::with_capacity(alloc, room_ahead(metadata.len()), file) {
+        match BufReader::with_capacity(alloc, room_for(metadata.len()), file) {
             Ok(reader) => Ok(ReadFile {
                 reader,
                 length,
@@ -84,6 +84,17 @@ impl<F: OpenFile + Read + Drop> ReadFile<F> {
         ensures { result ≡ source_told self.now }
     {
         self.length
+    }
+
+    /// The first of the bytes that it gives next, as many as the system gives at once; none where it
+    /// can't be read. They are given all the same.
+    pub fn first_bytes(&mut self) -> &[u8] {
+        self.reader.fill_buf().unwrap_or(&[])
+    }
+
+    /// The file itself.
+    pub fn file(&self) -> &F {
+        self.reader.get_ref()
     }
 
     /// Which file it was when it was opened.
@@ -160,9 +171,9 @@ fn check_regular(metadata: &Metadata) -> Result<(), TroubleReason> {
     }
 }
 
-// How many bytes are read ahead of a file of this length. A length of 0 tells nothing: pipes,
+// How many bytes are kept of a file of this length, be it read ahead or written. A length of 0 tells nothing: pipes,
 // devices and what the system makes up as it is read have it too.
-fn room_ahead(length: u64) -> usize
+pub(crate) fn room_for(length: u64) -> usize
     ensures least { LEAST ≤ result }
     ensures most { result ≤ MOST }
     ensures unknown { length ≡ 0 → result ≡ MOST }

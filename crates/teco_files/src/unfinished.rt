@@ -9,12 +9,13 @@ use crate::descriptor::above_standard;
 use crate::identity::Identity;
 use crate::inheritance::inherit_owner;
 use crate::process::ProcessFacts;
+use crate::source::room_for;
 use crate::system::System;
 use crate::target::{Target, folder_of};
 use crate::trouble::TroubleReason;
 use std::alloc::Global;
-use std::fs::{Files, OpenFile, OpenOptions, Permissions};
-use std::io::{BufRead, BufReader, BufWriter, Write};
+use std::fs::{Files, Metadata, OpenFile, OpenOptions, Permissions};
+use std::io::{BufWriter, Write};
 use std::os::unix::fs::OpenOptionsExt;
 use std::time::{Clock, Duration};
 use std::{fs, io, str};
@@ -26,8 +27,8 @@ const TRIES: u64 = 1000;
 // Until a file that will replace another has that file's permissions, nobody else may read it.
 const PRIVATE: u32 = 0o600;
 
-// How many bytes of small writes are kept together.
-const KEPT: usize = 1 << 16;
+// How many bytes are compared at a time, at most.
+const COMPARED: usize = 1 << 16;
 
 /// What becomes of an output that is closed.
 #[derive(Clone, Copy)]
@@ -77,6 +78,8 @@ pub struct Finish<'a> {
 pub struct Unfinished<F: Write + Drop> {
     // the file, and behind what it has what is kept of small writes
     writer: BufWriter<F>,
+    // which file it is, where the system told that
+    written: Option<Identity>,
     // where it is
     beside: String,
     // where it will be
@@ -104,13 +107,15 @@ impl<F: OpenFile + Write + Drop> Unfinished<F> {
         let target = Target::of(rt, alloc, str::from_utf8(name)?)?;
         check_only(&target, only)?;
         let (file, beside) = make_beside(rt, alloc, &target, facts)?;
-        let permissions = permissions_for(rt, &file, &target);
-        let Ok(writer) = BufWriter::with_capacity(alloc, KEPT, file) else {
+        let made = file.metadata().ok();
+        let permissions = permissions_for(rt, &file, made.as_ref(), &target);
+        let Ok(writer) = BufWriter::with_capacity(alloc, room_kept(&target), file) else {
             let _removed = fs::remove_file(rt, &beside);
             return Err(TroubleReason::Memory);
         };
         Ok(Unfinished {
             writer,
+            written: made.as_ref().map(Identity::of),
             beside,
             target: target.path,
             only,
@@ -158,9 +163,10 @@ impl<F: OpenFile + Write + Drop> Unfinished<F> {
         mut self,
         rt: &R,
         alloc: Global,
+        input: Option<&F>,
         how: Finish<'_>,
     ) -> Result<Ended, TroubleReason> {
-        match self.settle(rt, alloc, how) {
+        match self.settle(rt, alloc, input, how) {
             Ok(Settled::Moved) => Ok(self.moved()),
             Ok(Settled::Left(closed)) => self.left(rt, closed),
             Err(reason) => {
@@ -192,6 +198,7 @@ impl<F: OpenFile + Write + Drop> Unfinished<F> {
         &mut self,
         rt: &R,
         alloc: Global,
+        input: Option<&F>,
         how: Finish<'_>,
     ) -> Result<Settled, TroubleReason>
         ensures sent { OnOk result (unfinished_kept self.new ≡ []) }
@@ -204,7 +211,7 @@ impl<F: OpenFile + Write + Drop> Unfinished<F> {
         if let Some(closed) = self.compared(rt, alloc, how)? {
             return Ok(Settled::Left(closed));
         }
-        self.move_over(rt, alloc, how)?;
+        self.move_over(rt, alloc, input, how)?;
         Ok(Settled::Moved)
     }
 
@@ -234,6 +241,7 @@ impl<F: OpenFile + Write + Drop> Unfinished<F> {
         &self,
         rt: &R,
         alloc: Global,
+        input: Option<&F>,
         how: Finish<'_>,
     ) -> Result<(), TroubleReason> {
         let is_durable = how.handling.is_durable;
@@ -243,7 +251,7 @@ impl<F: OpenFile + Write + Drop> Unfinished<F> {
         if !self.is_in_place(rt) {
             return Err(TroubleReason::Taken);
         }
-        self.check_target(rt, alloc, how.old)?;
+        self.check_target(rt, alloc, input, how.old)?;
         replace(rt, alloc, how.backup, &self.beside, &self.target)?;
         if is_durable {
             // the name is there, and may only be lost with the power
@@ -253,19 +261,21 @@ impl<F: OpenFile + Write + Drop> Unfinished<F> {
     }
 
     // Is what it will replace still the file that it may replace, as it was? A change through a mapping
-    // shows in its bytes alone.
-    fn check_target<R: Files>(
+    // shows in its bytes alone, which are compared first: the system then tells of other changes.
+    fn check_target<R: System<File = F>>(
         &self,
         rt: &R,
         alloc: Global,
+        input: Option<&F>,
         old: Option<&[u8]>,
     ) -> Result<(), TroubleReason> {
         let Some(only) = self.only else {
             return Ok(());
         };
+        let has_old = has_bytes(rt, alloc, input, old, only.length())?;
         let found = Identity::of(&fs::symlink_metadata(rt, &self.target)?);
-        if found == only {
-            check_bytes(rt, alloc, &self.target, old)
+        if found == only && has_old {
+            Ok(())
         } else if found.is_same_file(only) {
             Err(TroubleReason::Changed)
         } else {
@@ -278,6 +288,7 @@ impl<F: OpenFile + Write + Drop> Unfinished<F> {
         let is_in_place = self.is_in_place(rt);
         let Self {
             writer,
+            written: _,
             beside,
             target: _,
             only: _,
@@ -294,11 +305,8 @@ impl<F: OpenFile + Write + Drop> Unfinished<F> {
 
     // Is what has its name still the file that was written? Another may have taken the name.
     fn is_in_place<R: Files>(&self, rt: &R) -> bool {
-        let written = self.writer.get_ref().metadata();
-        match (written, fs::symlink_metadata(rt, &self.beside)) {
-            (Ok(written), Ok(named)) => {
-                Identity::of(&written).is_same_file(Identity::of(&named))
-            }
+        match (self.written, fs::symlink_metadata(rt, &self.beside)) {
+            (Some(written), Ok(named)) => written.is_same_file(Identity::of(&named)),
             _ => false,
         }
     }
@@ -319,37 +327,41 @@ enum Settled {
     Left(Closed),
 }
 
-// Refuses a file that has other bytes than those that it must have, where they are known.
-fn check_bytes<R: Files>(
+// Has an open file the bytes that it must have, where they are known, and no others? Its end is looked
+// for unless it has that length.
+fn has_bytes<R: System>(
     rt: &R,
     alloc: Global,
-    path: &str,
+    file: Option<&R::File>,
     old: Option<&[u8]>,
-) -> Result<(), TroubleReason> {
-    let Some(mut rest) = old else {
-        return Ok(());
+    length: u64,
+) -> Result<bool, TroubleReason> {
+    let (Some(file), Some(old)) = (file, old) else {
+        return Ok(old.is_none());
     };
-    let mut file = BufReader::with_capacity(alloc, KEPT, fs::open(rt, path)?)?;
+    let ends = old.len() as u64 == length;
+    let mut room = vec![in alloc; 0; old.len().clamp(1, COMPARED)]?;
+    let mut place = 0usize;
     for _ in 0..u64::MAX {
-        let bytes = file.fill_buf()?;
-        let used = bytes.len();
-        match rest_behind(bytes, rest) {
-            Some(behind) if used > 0 => rest = behind,
-            Some(_) => return Ok(()),
-            None => break,
+        if ends && place == old.len() {
+            return Ok(true);
         }
-        file.consume(used);
+        let n = rt.read_at(file, &mut room, place as u64)?;
+        if n == 0 {
+            return Ok(place == old.len());
+        }
+        if !starts_at(old, place, &room[..n]) {
+            return Ok(false);
+        }
+        place = place.saturating_add(n);
     }
-    Err(TroubleReason::Changed)
+    Ok(false)
 }
 
-// What is left of a text behind bytes that are its first, all of it where there are none and it is
-// at its end; none where they are others.
-fn rest_behind<'a>(bytes: &[u8], text: &'a [u8]) -> Option<&'a [u8]> {
-    if bytes.is_empty() {
-        return text.is_empty().then_some(text);
-    }
-    text.strip_prefix(bytes)
+// Does a text have these bytes at a place?
+fn starts_at(text: &[u8], place: usize, bytes: &[u8]) -> bool {
+    text.get(place..)
+        .is_some_and(|rest| rest.starts_with(bytes))
 }
 
 // Refuses a target that is not the one file that may be replaced.
@@ -408,8 +420,22 @@ fn stamp<R: Clock>(rt: &R) -> u64 {
 }
 
 // The permissions that an open file is given of the one that its target replaces.
-fn permissions_for<R: System>(rt: &R, file: &R::File, target: &Target) -> Option<Permissions> {
-    Some(inherit_owner(rt, file, target.replaced.as_ref()?))
+fn permissions_for<R: System>(
+    rt: &R,
+    file: &R::File,
+    made: Option<&Metadata>,
+    target: &Target,
+) -> Option<Permissions> {
+    Some(inherit_owner(rt, file, made, target.replaced.as_ref()?))
+}
+
+// How many bytes of small writes are kept together: as many as are read ahead of the file that is
+// replaced.
+fn room_kept(target: &Target) -> usize {
+    match &target.replaced {
+        Some(replaced) => room_for(replaced.len()),
+        None => room_for(0),
+    }
 }
 
 /// Makes the names in a folder outlast a power cut.

@@ -85,6 +85,29 @@ fn chain_for(
     }
 }
 
+// How many symbols' terms of some are not among others.
+fn apart(terms: &[Term], others: &[Term]) -> usize {
+    terms
+        .iter()
+        .filter(|term| term.symbol.is_some() && !others.contains(term))
+        .count()
+}
+
+// How many kinds of symbols' terms of some are no kinds of a form's.
+fn foreign(terms: &[Term], form: &Form) -> usize {
+    terms
+        .iter()
+        .filter(|term| term.symbol.is_some() && Monomial::of(term).coefficient(form) == 0)
+        .count()
+}
+
+// Whether more than two symbols stay of a target behind a constraint, so that no chain shows what is left.
+fn is_far(target: &Form, constraint: &Form) -> bool {
+    let changed = apart(target.terms(), constraint.terms());
+    let added = foreign(constraint.terms(), target);
+    changed.saturating_add(added) > 2
+}
+
 // What of a target is left behind a constraint that is no bound on a difference.
 fn left_behind(
     constraints: &[Form],
@@ -93,7 +116,9 @@ fn left_behind(
     alloc: Global,
 ) -> Result<Option<Form>, ImpliedFault> {
     match constraints.get(place) {
-        Some(constraint) if !is_difference(constraint) => less(target, constraint, alloc),
+        Some(constraint) if !is_difference(constraint) && !is_far(target, constraint) => {
+            less(target, constraint, alloc)
+        }
         _ => Ok(None),
     }
 }

@@ -1,2 +1,4 @@
+pub mod InMemory
+pub mod Openings
 pub mod Steps
 pub mod Strict

@@ -15,7 +15,7 @@ use Rattle.teco_hosts.specs.HostFiles.{Telling}
 use Rattle.teco_run.specs.Holdings.{Holdings, Joined}
 use Rattle.teco_session.specs.declared.fault.SessionFault.{SessionFault}
 use Rattle.teco_tools.specs.Scripts.{new_machine}
-use Rattle.teco_tools.specs.Starts.{IsBare}
+use Rattle.teco_tools.specs.Starts.{IsBare, Prepares}
 use Rattle.teco_tools.specs.declared.fault.ToolFault.{ToolFault}
 use Rattle.teco_tools.specs.declared.fault.ToolFault.TheVariants as tool
 use Rattle.teco_console.specs.declared.outcome.Outcome.{Outcome}
@@ -98,6 +98,7 @@ pub record EditsFrom (task : Task) (call : PromisedCall) (names : Names) (files 
   pub new : Holdings
   pub before : Telling
   pub failures : ℕ
+  pub prepared : Joined (Prepares task.start) new_machine old files before
   pub same_machine : IsBare task.start → old ≡ new_machine
   pub same_files : IsBare task.start → before ≡ files
   pub same_failures : IsBare task.start → failures ≡ begun.failures

@@ -3,6 +3,7 @@
 
 mod bound;
 mod following;
+mod in_memory;
 mod jobs;
 pub mod laws;
 mod names;
@@ -10,8 +11,8 @@ mod opening;
 mod tracing;
 mod watching;
 
+pub use in_memory::{Came, TextCall, run_on_text};
 pub use jobs::{CountsForm, Job, OneWork, Replaced, Task, Watched, Work, edit_by, rewrite_by};
 pub use names::Names;
-pub use opening::{call, open_pages};
 pub use tracing::{Listing, TracedMacro, trace_library};
 pub use watching::Seen;

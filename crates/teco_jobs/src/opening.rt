@@ -1,12 +1,17 @@
 //! How files are opened and read for the run of a macro.
-ghost use Rattle.std.specs.Prelude.{◌≡◌, IfOk};
-ghost use Rattle.teco_apply.specs.Sure.{call_text};
+ghost use Rattle.std.specs.Prelude.{◌≡◌, IfOk, option_map};
+ghost use Rattle.teco_apply.specs.Sure.{MOST, call_text};
+ghost use Rattle.teco_jobs.specs.Openings as openings;
+ghost use Rattle.teco_jobs.specs.Openings.{AddsAll, Opens, Runs, Then, TurnsIfAny};
+ghost use Rattle.teco_run.specs.Holdings.{Joined};
+ghost use Rattle.teco_tools.specs.Codes.{code_at};
 
 use crate::names::Names;
 use std::alloc::{AllocError, Global};
 use teco_apply::PageChoice;
 use teco_base::bytes::ESC;
 use teco_base::{Reg, decimal};
+use teco_console::AnswerFault;
 use teco_hosts::Host;
 use teco_model::Stop;
 use teco_run::{Machine, Site, Stopped};
@@ -19,34 +24,22 @@ pub const PAGES: u64 = 4_294_967_296;
 /// What adds the next page to what is read, behind a form feed.
 const JOINING: &[u8] = &[b'Z', b'J', b'1', b'2', b'I', ESC, b'A'];
 
-// Adds the command string that opens files and reads the first page.
-fn push_opening(text: &mut Vec<u8>, names: Names<'_>) -> Result<(), AllocError> {
+// The command string that opens files and reads the first page.
+fn opening(alloc: Global, names: Names<'_>) -> Result<Vec<u8>, AllocError>
+    ensures { IfOk result (λ text.
+        text.items ≡ openings.opening names.entry.source.now names.entry.target.now) }
+{
+    let mut text = Vec::new(alloc);
     text.extend_from_slice(b"ER")?;
     text.extend_from_slice(names.source)?;
     text.extend_from_slice(&[ESC, b'E', b'W'])?;
     text.extend_from_slice(names.target)?;
     text.extend_from_slice(&[ESC, b'Y'])?;
-    Ok(())
-}
-
-// The command string that opens files and reads the first page.
-fn opening(alloc: Global, names: Names<'_>) -> Result<Vec<u8>, AllocError> {
-    let mut text = Vec::new(alloc);
-    push_opening(&mut text, names)?;
     Ok(text)
 }
 
 /// The command string that calls a macro.
-pub fn call(alloc: Global, entry: Reg, argument: Option<i32>) -> Result<String, AllocError> {
-    let name = char::from(entry.name());
-    match argument {
-        None => format!(in alloc; "M{name}"),
-        Some(n) => format!(in alloc; "{n}M{name}"),
-    }
-}
-
-/// The same, as bytes.
-pub fn call_bytes(alloc: Global, entry: Reg, argument: Option<i32>) -> Result<Vec<u8>, AllocError>
+pub fn call(alloc: Global, entry: Reg, argument: Option<i32>) -> Result<Vec<u8>, AllocError>
     ensures { IfOk result (λ text. text.items ≡ call_text entry argument) }
 {
     let mut text = Vec::new(alloc);
@@ -58,18 +51,36 @@ pub fn call_bytes(alloc: Global, entry: Reg, argument: Option<i32>) -> Result<Ve
     Ok(text)
 }
 
-/// Runs a command string, and tells how it stopped.
-pub fn run_text<T: TextStore, H: Host>(
+/// Runs a command string for at most so many steps, and tells how it stopped.
+pub fn run_within<T: TextStore, H: Host>(
     machine: &mut Machine<T>,
     host: &mut H,
     text: &[u8],
-) -> Result<Stopped, ToolFault> {
+    most: u64,
+) -> Result<Stopped, ToolFault>
+    ensures { IfOk result (λ stopped. Joined (Runs most text.now (code_at stopped.stop))
+        machine.old machine.new (H.files host.old) (H.files host.new)) }
+{
     let command = within_limit(text)?;
-    Ok(machine.run_to_stop(command, u64::MAX, host))
+    Ok(machine.run_to_stop(command, most, host))
+}
+
+// Runs a command string, and tells how it stopped.
+fn run_text<T: TextStore, H: Host>(
+    machine: &mut Machine<T>,
+    host: &mut H,
+    text: &[u8],
+) -> Result<Stopped, ToolFault>
+    ensures { IfOk result (λ stopped. Joined (Runs MOST text.now (code_at stopped.stop))
+        machine.old machine.new (H.files host.old) (H.files host.new)) }
+{
+    run_within(machine, host, text, u64::MAX)
 }
 
 // A command string that is not begun.
-fn not_begun(stop: Stop) -> Stopped {
+fn not_begun(stop: Stop) -> Stopped
+    ensures { result.stop ≡ stop }
+{
     Stopped {
         stop,
         steps: 0,
@@ -85,7 +96,11 @@ pub fn turn<T: TextStore, H: Host>(
     machine: &mut Machine<T>,
     host: &mut H,
     text: &[u8],
-) -> Result<Option<Stopped>, ToolFault> {
+) -> Result<Option<Stopped>, ToolFault>
+    ensures { IfOk result (λ stopped.
+        Joined (TurnsIfAny text.now (option_map (λ it. code_at it.stop) stopped))
+        machine.old machine.new (H.files host.old) (H.files host.new)) }
+{
     match machine.has_unread(host) {
         Ok(false) => Ok(None),
         Ok(true) => Ok(Some(run_text(machine, host, text)?)),
@@ -93,19 +108,38 @@ pub fn turn<T: TextStore, H: Host>(
     }
 }
 
-// Reads all pages behind the first as one with it, and goes to its start; how it stopped.
-fn gather<T: TextStore, H: Host>(
+// Adds all pages behind the first to it, and goes to its start; how it stopped.
+fn add_pages<T: TextStore, H: Host>(
     machine: &mut Machine<T>,
     host: &mut H,
-) -> Result<Stopped, ToolFault> {
+) -> Result<Stopped, ToolFault>
+    ensures { IfOk result (λ stopped. Joined (AddsAll (code_at stopped.stop))
+        machine.old machine.new (H.files host.old) (H.files host.new)) }
+{
     for _ in 0..PAGES {
         match turn(machine, host, JOINING)? {
-            None => break,
+            None => return run_text(machine, host, b"J"),
             Some(stopped) if code_of(stopped.stop).is_some() => return Ok(stopped),
             Some(_) => {}
         }
     }
-    run_text(machine, host, b"J")
+    Err(AnswerFault::Memory.into())
+}
+
+// Runs a command string, and adds all pages behind the first where no code comes of it.
+fn open_whole<T: TextStore, H: Host>(
+    machine: &mut Machine<T>,
+    host: &mut H,
+    opening: &[u8],
+) -> Result<Stopped, ToolFault>
+    ensures { IfOk result (λ stopped. Joined (Then (Runs MOST opening.now) AddsAll (code_at stopped.stop))
+        machine.old machine.new (H.files host.old) (H.files host.new)) }
+{
+    let stopped = run_text(machine, host, opening)?;
+    if code_of(stopped.stop).is_some() {
+        return Ok(stopped);
+    }
+    add_pages(machine, host)
 }
 
 /// Opens files of these names, and reads the first page, or all of them as one; how it stopped.
@@ -115,11 +149,14 @@ pub fn open_pages<T: TextStore, H: Host>(
     host: &mut H,
     names: Names<'_>,
     pages: PageChoice,
-) -> Result<Stopped, ToolFault> {
-    let opening = opening(alloc, names)?;
-    let stopped = run_text(machine, host, &opening)?;
+) -> Result<Stopped, ToolFault>
+    ensures { IfOk result (λ stopped.
+        Joined (Opens pages names.entry.source.now names.entry.target.now (code_at stopped.stop))
+        machine.old machine.new (H.files host.old) (H.files host.new)) }
+{
+    let text = opening(alloc, names)?;
     match pages {
-        PageChoice::Whole if code_of(stopped.stop).is_none() => gather(machine, host),
-        _ => Ok(stopped),
+        PageChoice::Whole => open_whole(machine, host, &text),
+        PageChoice::First | PageChoice::Each => run_text(machine, host, &text),
     }
 }

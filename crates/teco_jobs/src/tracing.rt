@@ -6,7 +6,7 @@ ghost use Rattle.teco_jobs.specs.Traces.{FollowsMacro, FollowsOnce, TracesLibrar
 use crate::following::{Followed, ListedRun, follow};
 use crate::jobs::Task;
 use crate::names::Names;
-use crate::opening::{PAGES, call_bytes, open_pages, turn};
+use crate::opening::{PAGES, call, open_pages, turn};
 use std::io::Write;
 use teco_apply::PageChoice;
 use teco_base::{Code, LIMIT};
@@ -110,7 +110,7 @@ fn follow_macro<H: Host + Reporting, O: Write + Drop, E: Write + Drop>(
     ensures { FollowsMacro task.now most
         machine.old machine.new (H.files host.old) (H.files host.new) result }
 {
-    let text = call_bytes(console.alloc, task.entry, task.argument)?;
+    let text = call(console.alloc, task.entry, task.argument)?;
     let command = text.as_slice();
     if command.len() > LIMIT {
         return Err(ToolFault::Answer(AnswerFault::Memory));

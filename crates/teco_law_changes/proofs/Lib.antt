@@ -8,4 +8,10 @@ mod Onward
 mod Firsts
 pub mod Runs
 mod Numbers
+mod Taking
+mod Staying
+mod Pending
+pub mod Characters
+mod Near
+mod Lasts
 pub mod Sharper

@@ -94,7 +94,7 @@ by_operator : (v : ℤ) (first value : Option ℤ) (operator : Option Operator) 
 by_operator v first value None none = (refl, refl)
 by_operator v first value (Some operator) none = absurd cc
 
-exact : (v : ℤ) (level : Level) → Complete level → IfOk (level_with v level) (Has v)
+pub exact : (v : ℤ) (level : Level) → Complete level → IfOk (level_with v level) (Has v)
 exact v level none = by_operator v level.first level.value level.operator none
 
 ends_some : (value : Option ℤ) (operator : Operator) → value_at_end value (Some operator) ≢ Ok None
@@ -490,12 +490,12 @@ at_end known.Number = refl
 at_end known.Value = refl
 at_end (known.Exactly n) = refl
 
-none_left : (k : Kind) (left : Option ℕ) → ((n : ℕ) → left ≡ Some n → is_long k ≡ true)
+pub none_left : (k : Kind) (left : Option ℕ) → ((n : ℕ) → left ≡ Some n → is_long k ≡ true)
     → is_long k ≡ false → left ≡ None
 none_left k None long short = refl
 none_left k (Some n) long short = absurd (let z : Path Bool true false = sym (long n refl) ∙ short in cc)
 
-left_long : (s : State) (e : Element) → IsLeftAt (Some e) s.left → (n : ℕ) → s.left ≡ Some n → is_long e.kind ≡ true
+pub left_long : (s : State) (e : Element) → IsLeftAt (Some e) s.left → (n : ℕ) → s.left ≡ Some n → is_long e.kind ≡ true
 left_long s e is n left = subst (λ l. IsLeftAt (Some e) l) left is
 
 -- what is known before an element that takes one step is so

@@ -3,20 +3,22 @@ use Rattle.std.proofs.Common.{◌≡◌, ℕ, zero, suc, List, refl, sym, ap, �
 use Rattle.std.proofs.Common.{None}
 use Rattle.std.proofs.Common.{Result, Ok, Err, Bool, true, false, is_some}
 use Rattle.teco_base.specs.declared.code.Code.{Code}
-use Rattle.std.specs.Prelude.{◌<◌}
+use Rattle.std.specs.Prelude.{◌≢◌, ◌<◌}
 use Rattle.std.specs.Option.{option_map_or}
 use Rattle.teco_changes.specs.Changes.{Changes}
 use Rattle.teco_changes.specs.Arguments.{IsSo, behind}
-use Rattle.teco_changes.specs.Elements.{changes_of, changes_told, either_told, told_with as told_by_kind}
+use Rattle.teco_changes.specs.Nearby.{IsNear, Nearby, Unreached, near_behind}
 use Rattle.teco_changes.specs.Worlds.{IsChangedBy, text_of}
 use Rattle.teco_changes.specs.declared.argument.NumericArgument.{NumericArgument}
 use Rattle.teco_changes.specs.declared.argument.NumericArgument.TheVariants as known
 use Rattle.teco_changes.specs.declared.change.Change.{Change}
 use Rattle.teco_changes.proofs.Closure.{changes_are_among, changes_follow}
 use Rattle.teco_changes.proofs.Elements.{no_change}
-use Rattle.teco_law_changes.specs.Runs.{Begins, EndsAreTold, IsAmong, IsOfMacro, RunsAreTold, Tells}
-use Rattle.teco_law_changes.specs.Steps.{HaveNoFirst, IsKnown, IsUnderway, Reads, is_ranged, told_with}
+use Rattle.teco_law_changes.specs.Runs.{Begins, EndsAreTold, IsAmong, IsOfMacro, RunsAreTold, Tells, colon_of}
+use Rattle.teco_law_changes.specs.Steps.{HaveNoFirst, IsKnown, IsKnownNear, IsUnderway, Reads, colon_in, is_ranged}
+use Rattle.teco_law_changes.specs.Steps.{told_with}
 use Rattle.teco_law_changes.proofs.Firsts.{steps_give_no_first}
+use Rattle.teco_law_changes.proofs.Near.{steps_leave_near}
 use Rattle.teco_law_changes.proofs.Onward.{steps_go_on}
 use Rattle.teco_law_changes.proofs.Numbers.{steps_leave_arguments}
 use Rattle.teco_law_changes.proofs.Sharper.{steps_are_told_with}
@@ -25,6 +27,7 @@ use Rattle.teco_law_runs.specs.Linked.{AreLinked}
 use Rattle.teco_law_runs.specs.Loaded.{StaysLoaded}
 use Rattle.teco_law_runs.specs.Run.{MovesFrom, Stayed, Went}
 use Rattle.teco_law_runs.specs.Steps.{IsLeftAt, is_long}
+use Rattle.teco_law_runs.specs.Was.{StepWas}
 use Rattle.teco_law_runs.proofs.Keeping.{end_stays}
 use Rattle.teco_law_runs.proofs.Pending.{argument_whole}
 use Rattle.teco_law_runs.proofs.Runs.{AtNode, ends, is_node, last_step, node_or_end, runs_end, steps_go_along_nodes}
@@ -36,17 +39,17 @@ use Rattle.teco_model.specs.Element.{Element, blank_end}
 unfoldable use Rattle.teco_model.specs.Element.{element_at}
 unfoldable use Rattle.teco_model.specs.Run.{run}
 use Rattle.teco_model.specs.Run.{Reaches}
-use Rattle.teco_model.specs.State.{End, Next, Outcome, State, World}
+use Rattle.teco_model.specs.State.{End, Kept, Next, Outcome, State, World}
 use Rattle.teco_model.specs.Step.{step}
+use Rattle.teco_model.specs.declared.arguments.Level.{Level}
 use Rattle.teco_model.specs.declared.kind.Kind.{Kind}
 use Rattle.teco_model.specs.declared.kind.Kind.TheVariants as kind
-use Rattle.teco_model.specs.declared.kind.Page.TheVariants as page
 use Rattle.teco_model.specs.Macros.{ArgumentRange, IsAsked, IsLoaded, Library, call_of, is_macro}
 use Rattle.teco_model.specs.laws.Whole.{AreBytes, IsWholeOutcome, IsWholeState, IsWholeWorld}
 use Rattle.teco_verifier.specs.expansion.Names.{writes_macro, written_by}
 use Rattle.teco_verifier.specs.expansion.Node.{Node, Stand, beginning, numbered, over, stand_at, stands}
 use Rattle.teco_verifier.specs.facts.Argument.{arguments_given}
-use Rattle.teco_verifier.specs.expansion.Position.{position_of, position_of_frames}
+use Rattle.teco_verifier.specs.expansion.Position.{Position, position_of, position_of_frames}
 use Rattle.teco_verifier.specs.expansion.Refusal.{◌>>=◌}
 use Rattle.teco_verifier.specs.expansion.Ways.{as_fault, pattern_parts, sound}
 unfoldable use Rattle.teco_verifier.specs.expansion.Ways.{read_at}
@@ -65,41 +68,6 @@ as_element s read h =
     let frame = s.frames.running in
     sym (element_at-again frame.text frame.place)
     ∙ read_is (element_at frame.text (blank_end frame.text frame.place)) read h
-
--- ---- of an element behind two arguments no more is told than of it alone
-abbrev Weaker : Option (List Change) → Option (List Change) → Type 0
-Weaker told less = (old new : List ℕ) → IsChangedBy told old new → IsChangedBy less old new
-
-by_kind : (k : Kind) (e : Element) → Weaker (changes_told k e false) (changes_told k e true)
-by_kind (kind.Page page.Next) e old new h = tt
-by_kind (kind.Page page.Yank) e old new h = tt
-by_kind (kind.Page page.Write) e old new h = tt
-by_kind (kind.Page page.Append) e old new h = h
-by_kind (kind.Argument a) e old new h = h
-by_kind (kind.Value v) e old new h = h
-by_kind (kind.Query q) e old new h = h
-by_kind (kind.Stack k) e old new h = h
-by_kind (kind.Call c) e old new h = h
-by_kind (kind.Flow f) e old new h = h
-by_kind (kind.Command c) e old new h = h
-by_kind (kind.Search x) e old new h = h
-by_kind (kind.File f) e old new h = h
-
-either_weaker : (sharp was said : Option (List Change)) → Weaker was said
-    → Weaker (either_told sharp was) (either_told sharp said)
-either_weaker None was said weaker old new h = weaker old new h
-either_weaker (Some changes) was said weaker old new h = h
-
-no_stronger : (read : Option Element) (was said : Bool) (before : NumericArgument) → (was ≡ true → said ≡ true)
-    → Weaker (told_with read was before) (told_with read said before)
-no_stronger read true true before same old new h = h
-no_stronger read false false before same old new h = h
-no_stronger read true false before same old new h = absurd (let z : Path Bool false true = same refl in cc)
-no_stronger None false true before same old new h = h
-no_stronger (Some e) false true before same old new h =
-    either_weaker (told_by_kind e.kind e.text before) (changes_of e false) (changes_of e true)
-    (by_kind e.kind e) old new
-    h
 
 among : (told : Option (List Change)) (changes : List Change) → IsAmong told changes → (old new : List ℕ)
     → IsChangedBy told old new → Changes changes old new
@@ -143,6 +111,9 @@ record Stands (all : List Stand) (number : ℕ) (s : State) : Type 0 where
   position : stand.position ≡ position_of s
   left : (read : Option Element) → read_at stand.position ≡ Ok read → IsLeftAt read s.left
 
+reached_by : (near : Nearby) (level : Level) (kept : Kept) → IsNear near level kept → near ≢ Unreached
+reached_by near level kept is none = subst (λ n. IsNear n level kept) none is
+
 -- ---- a step
 module _ (stays : StaysLoaded) (library : Library) (entry : ℕ) (nodes : List Node) (changes : List Change)
     (tells : Tells nodes changes) (linked : AreLinked library entry nodes) (first : State) where
@@ -155,6 +126,7 @@ module _ (stays : StaysLoaded) (library : Library) (entry : ℕ) (nodes : List N
     there : Stands (stands nodes entry) number s
     loaded : (n : ℕ) → s.left ≡ Some n → IsLoaded library s.world.kept
     known : (node : Node) → numbered nodes number ≡ Some node → IsKnown node.element (tells.before number) s
+    near : IsKnownNear (tells.near number) s
 
   ranged_said : (s : State) → (tells.ranged ≡ false → HaveNoFirst s.arguments) → (said : Bool) → tells.ranged ≡ said
       → is_ranged s ≡ true → said ≡ true
@@ -166,7 +138,7 @@ module _ (stays : StaysLoaded) (library : Library) (entry : ℕ) (nodes : List N
   -- from a node
   module _ (s t : State) (along : Along s) (k : ℕ) (node : Node) (at : numbered nodes k ≡ Some node)
       (stand : node.stand.position ≡ position_of s) (left : IsLeftAt node.element s.left)
-      (known : IsKnown node.element (tells.before k) s) (goes : step s ≡ Next t)
+      (known : IsKnown node.element (tells.before k) s) (near : IsKnownNear (tells.near k) s) (goes : step s ≡ Next t)
       (loaded : IsLoaded library s.world.kept) where
     here : read_at node.stand.position ≡ Ok node.element
     here = (linked.each k node at).reads
@@ -182,16 +154,26 @@ module _ (stays : StaysLoaded) (library : Library) (entry : ℕ) (nodes : List N
 
     told : Changes changes (text_of s.world) (text_of t.world)
     told =
-        among (told_with node.element tells.ranged (tells.before k)) changes (tells.each k node at) (text_of s.world)
-        (text_of t.world)
-        (no_stronger node.element (is_ranged s) tells.ranged (tells.before k)
-        (ranged_said s along.arguments tells.ranged refl) (text_of s.world) (text_of t.world)
-        (steps_are_told_with s t node.element (tells.before k) along.whole along.under left known reads goes))
+        among (told_with node.element tells.ranged (tells.before k) (tells.near k)) changes (tells.each k node at)
+        (text_of s.world) (text_of t.world)
+        (steps_are_told_with s t node.element tells.ranged (tells.before k) (tells.near k) along.whole along.under
+        (ranged_said s along.arguments tells.ranged refl) left known near reads goes)
+
+    near_behind_is : (way : ℕ) → StepWas node.element way s t
+        → IsNear (near_behind node.element (colon_of node) way (tells.before k) (tells.near k)) t.arguments.level
+        t.world.kept
+    near_behind_is way was =
+        subst (λ text. IsNear
+        (near_behind node.element (colon_in node.element text) way (tells.before k) (tells.near k))
+        t.arguments.level t.world.kept) (ap (λ (p : Position). p.running.text) (sym stand))
+        (steps_leave_near s t node.element way (tells.before k) (tells.near k) along.whole along.under left known
+        near reads was)
 
     comes : (number : ℕ) → Stands (stands nodes entry) number t
         → ((n : ℕ) → t.left ≡ Some n → IsLoaded library t.world.kept)
-        → ((node : Node) → numbered nodes number ≡ Some node → IsKnown node.element (tells.before number) t) → Along t
-    comes number there loaded known = record {
+        → ((node : Node) → numbered nodes number ≡ Some node → IsKnown node.element (tells.before number) t)
+        → IsKnownNear (tells.near number) t → Along t
+    comes number there loaded known near = record {
       whole = subst IsWholeOutcome goes (step_whole s along.whole);
       under = steps_go_on s t node.element along.under reads goes;
       arguments = λ none.
@@ -201,6 +183,7 @@ module _ (stays : StaysLoaded) (library : Library) (entry : ℕ) (nodes : List N
       there = there;
       loaded = loaded;
       known = known;
+      near = near;
     }
 
     moves : MovesFrom (stands nodes entry) k node s t → numbered (stands nodes entry) k ≡ Some node.stand → Along t
@@ -212,7 +195,14 @@ module _ (stays : StaysLoaded) (library : Library) (entry : ℕ) (nodes : List N
     }) (λ n more. no_more t.left n went.done more) (λ other there. record {
       begins = λ none. tells.known.goes k node went.way went.target at went.taken t.arguments.level behind_is;
       goes_on = λ n more. no_more t.left n went.done more;
-    })
+    }) (
+        let there = tells.nearby.goes k node went.way went.target at went.taken t.arguments.level t.world.kept
+        (near_behind_is went.way went.was) in
+        record {
+          reached = reached_by (tells.near went.target) t.arguments.level t.world.kept there;
+          begins = λ none. there;
+        }
+        )
     moves (Stayed still) standing = comes k (record {
       stand = node.stand;
       at = standing;
@@ -224,6 +214,9 @@ module _ (stays : StaysLoaded) (library : Library) (entry : ℕ) (nodes : List N
           begins = λ none. no_more t.left still.n none still.left;
           goes_on = λ n more. subst (λ (node : Node). IsSo (behind node.element (tells.before k)) t.arguments.level)
               (same_node node other (numbered nodes k) at there) behind_is;
+        }) (record {
+          reached = near.reached;
+          begins = λ none. no_more t.left still.n none still.left;
         })
 
   at_node : (s t : State) (along : Along s) (k : ℕ) → along.number ≡ suc k
@@ -234,7 +227,8 @@ module _ (stays : StaysLoaded) (library : Library) (entry : ℕ) (nodes : List N
       (ap (λ (stand : Stand). read_at stand.position) (sym same) ∙ (linked.each (suc k) node at).reads) in
       moves s t along (suc k) node at stand left
       (subst (λ number. (node : Node) → numbered nodes number ≡ Some node
-      → IsKnown node.element (tells.before number) s) is along.known node at) goes loaded
+      → IsKnown node.element (tells.before number) s) is along.known node at)
+      (subst (λ number. IsKnownNear (tells.near number) s) is along.near) goes loaded
       (steps_go_along_nodes library entry nodes (suc k) node s t linked at stand left loaded goes)
       (ap (numbered (stands nodes entry)) (sym is) ∙ along.there.at ∙ ap Some (sym same))
   at_node s t along k is (ends same) goes loaded =
@@ -269,6 +263,12 @@ module _ (stays : StaysLoaded) (library : Library) (entry : ℕ) (nodes : List N
       begins = λ none. tells.known.first first.arguments.level b.complete;
       goes_on = λ n left. no_more first.left n b.done left;
     };
+    near =
+        let there = tells.nearby.first first.arguments.level first.world.kept (tt, tt, (tt, tt)) in
+        record {
+          reached = reached_by (tells.near 1) first.arguments.level first.world.kept there;
+          begins = λ none. there;
+        };
   }
 
   loaded_there : (s : State) → Along s → (s.left ≡ None → IsLoaded library s.world.kept) → IsLoaded library s.world.kept

@@ -1,15 +1,17 @@
 -- What searches do to the text of the world.
 use Rattle.std.proofs.Common.{◌≡◌, ℕ, zero, suc, List, [], ◌∷◌, refl, ap, ◌∙◌, subst, Option, Some, None}
 use Rattle.std.proofs.Common.{Ok, length, ◌-◌}
-use Rattle.std.specs.Prelude.{IfOk, ⊤, nat_le}
+use Rattle.std.specs.Prelude.{◌≢◌, IfOk, ⊤, nat_le}
 use Rattle.std.specs.Option.{ok_or, option_map_or}
 use Rattle.teco_base.specs.Text.{text_after_replacement}
 use Rattle.teco_base.specs.declared.TheConstants.{LIMIT}
 use Rattle.teco_base.specs.declared.code.Code.TheVariants as code
 use Rattle.teco_changes.specs.Changes.{Changes}
 use Rattle.teco_changes.specs.Elements.{sought as sought_changes, swapped}
+use Rattle.teco_changes.specs.Nearby.{JustFound}
 use Rattle.teco_changes.specs.Worlds.{text_of}
 use Rattle.teco_changes.proofs.Elements.{no_change}
+use Rattle.teco_changes.proofs.Lasts.{just_found}
 use Rattle.teco_changes.proofs.Replaced.{IsFound, among, found_at, matched, replaced_text, swap}
 use Rattle.teco_law_changes.proofs.Results.{given, of_ok, tested, onward, onward_any}
 use Rattle.teco_law_changes.proofs.Worlds.{in_world, passing_keeps, turning_keeps}
@@ -21,8 +23,8 @@ use Rattle.teco_model.specs.Paging.{look_for}
 use Rattle.teco_model.specs.Paging.{look_here, looked_on, looked_through, needed_output, page_looked_for, page_turned}
 use Rattle.teco_model.specs.Paging.{match_count, sought, unread, world_seeking}
 use Rattle.teco_model.specs.Pattern.{Pattern}
-use Rattle.teco_model.specs.Search.{Finding, Found, Missed, count_of, finding_of, kept_after, match_of}
-use Rattle.teco_model.specs.Search.{pattern_of, replacement, search, search_text_of, text_or}
+use Rattle.teco_model.specs.Search.{Finding, Found, Missed, count_of, finding_of, kept_after, kept_at}
+use Rattle.teco_model.specs.Search.{match_of, pattern_of, replacement, search, search_text_of, text_or}
 use Rattle.teco_model.specs.State.{Kept, World}
 use Rattle.teco_model.specs.declared.arguments.Taken.{Taken}
 use Rattle.teco_model.specs.declared.kind.Search.{Search}
@@ -52,27 +54,46 @@ module _ (p : Pattern) (text : List ℕ) where
       on_or (first_from p text at) (suc (suc n)) span (λ s. sought p text s.end (suc n))
       (λ s. sought_is_found (suc n) s.end span) h
 
+-- what S and N found stands before the pointer
+abbrev pub IsSought : Search → Element → Kept → Type 0
+IsSought search_kind.Find e kept = e.text ≢ [] → JustFound e.text kept
+IsSought search_kind.FindInPages e kept = e.text ≢ [] → JustFound e.text kept
+IsSought x e kept = ⊤
+
 -- what is kept where a match was found
 abbrev pub Finds : Search → Element → Kept → Kept → Type 0
 Finds x e old new =
-    (new.form_feed ≡ old.form_feed) × Changes (sought_changes x e) old.text new.text
+    (new.form_feed ≡ old.form_feed) × Changes (sought_changes x e) old.text new.text × IsSought x e new
+
+own_text : (text last : List ℕ) → text ≢ [] → text_or text last ≡ text
+own_text [] last some = absurd (some refl)
+own_text (b ∷ text) last some = refl
 
 module _ (e : Element) (kept : Kept) (p : Pattern) (span : Span)
     (says : pattern_of (text_or e.text kept.search_text) kept ≡ Ok p) (found : IsFound p kept.text span)
   where
-    replaced : IfOk (replacement span e.second kept) (λ new. (new.form_feed ≡ kept.form_feed)
-        × Changes (swapped e.text e.second) kept.text new.text)
+    abbrev Replaces : Kept → Type 0
+    Replaces new =
+        (new.form_feed ≡ kept.form_feed) × Changes (swapped e.text e.second) kept.text new.text × ⊤
+
+    replaced : IfOk (replacement span e.second kept) Replaces
     replaced = given _ (replacement span e.second kept) (λ new is. (
       of_ok (λ (new : Kept). new.form_feed ≡ kept.form_feed) (replacement span e.second kept) new
           (tested (λ (new : Kept). new.form_feed ≡ kept.form_feed)
           (nat_le (length (text_after_replacement kept.text span.start span.end e.second)) LIMIT) _ code.Ful refl) is,
       swap e.second kept p span (found_at p kept.text found.at span found.here_is) new.text
           (replaced_text span e.second kept new is) e.text says,
+      tt,
     ))
 
+    sought_is : e.text ≢ [] → JustFound e.text (kept_at span kept)
+    sought_is some =
+        just_found e.text kept p span (found_at p kept.text found.at span found.here_is)
+        (subst (λ text. pattern_of text kept ≡ Ok p) (own_text e.text kept.search_text some) says)
+
     pub after_is : (x : Search) → IfOk (kept_after x e span kept) (Finds x e kept)
-    after_is search_kind.Find = (refl, no_change [] kept.text kept.text refl)
-    after_is search_kind.FindInPages = (refl, no_change [] kept.text kept.text refl)
+    after_is search_kind.Find = (refl, no_change [] kept.text kept.text refl, sought_is)
+    after_is search_kind.FindInPages = (refl, no_change [] kept.text kept.text refl, sought_is)
     after_is search_kind.Replace = replaced
     after_is search_kind.ReplaceInPages = replaced
 
@@ -115,7 +136,7 @@ abbrev pub SameBut : World → World → Type 0
 SameBut old new = (text_of new ≡ text_of old) × (new.kept.search_text ≡ old.kept.search_text)
 
 abbrev pub LookTold : Search → Element → World → Looked → Type 0
-LookTold x e world (Met new) = Changes (sought_changes x e) (text_of world) (text_of new)
+LookTold x e world (Met new) = Changes (sought_changes x e) (text_of world) (text_of new) × IsSought x e new.kept
 LookTold x e world (Turned n new) = SameBut world new
 LookTold x e world (Through last) = (text_of last ≡ text_of world) × (text_of (looked_through last) ≡ text_of world)
 
@@ -149,7 +170,7 @@ module _ (x : Search) (e : Element) (world : World)
         (turning_keeps world output is) (λ turned same. same)
 
     on_is_told : (here : Here) → HereTold x e world.kept here → IfOk (looked_on here world) (LookTold x e world)
-    on_is_told (MetHere new) told = in_world (sought_changes x e) world new told.0 told.1
+    on_is_told (MetHere new) told = (in_world (sought_changes x e) world new told.0 told.1, told.2)
     on_is_told (WantedYet n) told =
         onward_any (LookTold x e world) (needed_output world) (λ output. page_looked_for (unread world.files) n world)
         (λ output is. by_page (unread world.files) n output (output_is world.files.output output is))

@@ -146,7 +146,8 @@ module _ (s : State) (e : Element) where
       ))
 
   -- ---- pages
-  first_taken : (first value : Option ℤ) (taken : Taken) → arguments_from first value ≡ Ok taken → taken.first ≡ first
+  pub first_taken : (first value : Option ℤ) (taken : Taken) → arguments_from first value ≡ Ok taken → taken.first ≡
+      first
   first_taken (Some m) (Some n) taken is = let same : taken.first ≡ Some m = cc in same
   first_taken (Some m) None taken is = absurd cc
   first_taken None value taken is = let same : taken.first ≡ None = cc in same
@@ -180,7 +181,7 @@ module _ (s : State) (e : Element) where
       onward_made Pages (Told (Some [])) r (λ progress. while_left progress.left arguments progress.world) i
       (λ progress same. waits progress.left arguments progress.world same)
 
-  taken_none : (taken : Taken) → s.arguments.level.first ≡ None → arguments_of s.arguments.level ≡ Ok taken
+  pub taken_none : (taken : Taken) → s.arguments.level.first ≡ None → arguments_of s.arguments.level ≡ Ok taken
       → taken.first ≡ None
   taken_none taken none is =
       of_ok (λ (t : Taken). t.first ≡ None) (arguments_of s.arguments.level) taken
@@ -253,7 +254,7 @@ module _ (s : State) (e : Element) where
     looked_told : (arguments : Arguments) (world : World) → text_of world ≡ text_of s.world → (look : Looked)
         → LookTold x e world look → Searches (looked miss arguments look)
     looked_told arguments world same (Met new) d =
-        subst (λ text. Changes (sought_changes x e) text (text_of new)) same d
+        subst (λ text. Changes (sought_changes x e) text (text_of new)) same d.0
     looked_told arguments world same (Turned n new) d = as_was (sought_changes x e) new (d.0 ∙ same)
     looked_told arguments world same (Through last) d =
         misses miss None arguments last (looked_through last) (d.0 ∙ same) (d.1 ∙ same)

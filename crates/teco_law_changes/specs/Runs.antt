@@ -2,11 +2,12 @@
 use Rattle.std.specs.Prelude.{◌≡◌, ℕ, ◌<◌, List, All, Contains, slice_get, Bool, false, Option, Some, None, Ok}
 use Rattle.teco_changes.specs.Arguments.{Implies, IsSo, behind}
 use Rattle.teco_changes.specs.Changes.{Changes}
+use Rattle.teco_changes.specs.Nearby.{ImpliesNear, Nearby, anything, near_behind}
 use Rattle.teco_changes.specs.Worlds.{text_of}
 use Rattle.teco_changes.specs.declared.argument.NumericArgument.{NumericArgument}
 use Rattle.teco_changes.specs.declared.argument.NumericArgument.TheVariants as known
 use Rattle.teco_changes.specs.declared.change.Change.{Change}
-use Rattle.teco_law_changes.specs.Steps.{HaveNoFirst, gives_first_in, told_with}
+use Rattle.teco_law_changes.specs.Steps.{HaveNoFirst, colon_in, gives_first_in, told_with}
 use Rattle.teco_law_runs.specs.Linked.{AreLinked}
 use Rattle.teco_model.specs.Macros.{IsLoaded, Library}
 use Rattle.teco_model.specs.Run.{Ends, Reaches}
@@ -35,15 +36,31 @@ pub record AreKnown (nodes : List Node) (before : ℕ → NumericArgument) : Typ
       → numbered nodes number ≡ Some node → slice_get node.ways way ≡ Some target
       → Implies (behind node.element (before number)) (before target)
 
+-- does a search at a node count as having a colon?
+abbrev pub colon_of : Node → Bool
+colon_of node = colon_in node.element node.stand.position.running.text
+
+-- So much is known near the pointer before each node: nothing at the first, and where a way leads no more than is known
+-- behind the node that it leads from, on that way.
+pub record AreNear (nodes : List Node) (before : ℕ → NumericArgument) (near : ℕ → Nearby) : Type 0 where
+  pub first : ImpliesNear anything (near 1)
+  pub goes :
+      (number : ℕ) (node : Node) (way target : ℕ)
+      → numbered nodes number ≡ Some node → slice_get node.ways way ≡ Some target
+      → ImpliesNear (near_behind node.element (colon_of node) way (before number) (near number)) (near target)
+
 -- A list has all that the elements of the nodes can do.
 pub record Tells (nodes : List Node) (changes : List Change) : Type 0 where
   pub ranged : Bool
   pub none : ranged ≡ false → NoneGivesFirst nodes
   pub before : ℕ → NumericArgument
   pub known : AreKnown nodes before
+  pub near : ℕ → Nearby
+  pub nearby : AreNear nodes before near
   pub each :
       (number : ℕ) (node : Node)
-      → numbered nodes number ≡ Some node → IsAmong (told_with node.element ranged (before number)) changes
+      → numbered nodes number ≡ Some node
+      → IsAmong (told_with node.element ranged (before number) (near number)) changes
 
 -- It has all that the elements of a macro can do.
 abbrev pub TellsOf : Library → ℕ → List Change → Type 0

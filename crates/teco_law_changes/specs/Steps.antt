@@ -1,16 +1,19 @@
 -- Each step changes the text of the world by what is told of its element.
-use Rattle.std.specs.Prelude.{◌≡◌, ℕ, List, [], Bool, true, false, Option, Some, None, is_some, Ok}
+use Rattle.std.specs.Prelude.{◌≡◌, ◌≢◌, ℕ, List, [], Bool, true, false, Option, Some, None, is_some, Ok}
 use Rattle.std.specs.List.{AllByRecursion}
 use Rattle.teco_changes.specs.Arguments.{IsSo, behind}
 use Rattle.teco_changes.specs.Elements.{changes_of, changes_with}
+use Rattle.teco_changes.specs.Nearby.{IsNear, Nearby, Unreached, near_behind}
 use Rattle.teco_changes.specs.Worlds.{IsChangedBy, text_of}
 use Rattle.teco_changes.specs.declared.argument.NumericArgument.{NumericArgument}
 use Rattle.teco_changes.specs.declared.change.Change.{Change}
 use Rattle.teco_law_runs.specs.Steps.{IsLeftAt, is_long}
+use Rattle.teco_law_runs.specs.Was.{StepWas}
 use Rattle.teco_model.specs.Arguments.{Arguments}
 use Rattle.teco_model.specs.Element.{Element, element_at}
 use Rattle.teco_model.specs.Search.{search_text_of}
-use Rattle.teco_model.specs.State.{State, Next}
+use Rattle.teco_model.specs.Searching.{has_colon}
+use Rattle.teco_model.specs.State.{State, Next, frame_of}
 use Rattle.teco_model.specs.Step.{step}
 use Rattle.teco_model.specs.declared.arguments.Level.{Level}
 use Rattle.teco_model.specs.declared.kind.Argument.TheVariants.{Comma}
@@ -89,13 +92,32 @@ StepsLeaveArguments =
     → IsLeftAt read s.left → IsKnown read before s → Reads s read → step s ≡ Next t
     → IsSo (behind read before) t.arguments.level
 
+-- what counts as a colon at an element that is read in a text
+abbrev pub colon_in : Option Element → List ℕ → Bool
+colon_in None text = false
+colon_in (Some e) text = has_colon e (frame_of text)
+
+-- A run comes there, and where an element begins, what is known near the pointer is so.
+pub record IsKnownNear (near : Nearby) (s : State) : Type 0 where
+  pub reached : near ≢ Unreached
+  pub begins : s.left ≡ None → IsNear near s.arguments.level s.world.kept
+
+-- Behind it that is so, by the way that the step goes.
+abbrev pub StepsLeaveNear : Type 0
+StepsLeaveNear =
+    (s t : State) (read : Option Element) (way : ℕ) (before : NumericArgument) (near : Nearby)
+    → IsWholeState s → IsUnderway s → IsLeftAt read s.left → IsKnown read before s → IsKnownNear near s → Reads s read
+    → StepWas read way s t
+    → IsNear (near_behind read (colon_in read s.frames.running.text) way before near) t.arguments.level t.world.kept
+
 -- what is read can do so much where that is known
-abbrev pub told_with : Option Element → Bool → NumericArgument → Option (List Change)
-told_with None ranged before = Some []
-told_with (Some e) ranged before = changes_with e ranged before
+abbrev pub told_with : Option Element → Bool → NumericArgument → Nearby → Option (List Change)
+told_with None ranged before near = Some []
+told_with (Some e) ranged before near = changes_with e ranged before near
 
 abbrev pub StepsAreToldWith : Type 0
 StepsAreToldWith =
-    (s t : State) (read : Option Element) (before : NumericArgument)
-    → IsWholeState s → IsUnderway s → IsLeftAt read s.left → IsKnown read before s → Reads s read → step s ≡ Next t
-    → IsChangedBy (told_with read (is_ranged s) before) (text_of s.world) (text_of t.world)
+    (s t : State) (read : Option Element) (ranged : Bool) (before : NumericArgument) (near : Nearby)
+    → IsWholeState s → IsUnderway s → (is_ranged s ≡ true → ranged ≡ true)
+    → IsLeftAt read s.left → IsKnown read before s → IsKnownNear near s → Reads s read → step s ≡ Next t
+    → IsChangedBy (told_with read ranged before near) (text_of s.world) (text_of t.world)

@@ -1,7 +1,7 @@
 //! Laws of what a run changes.
 ghost use Rattle.teco_law_changes.specs.Runs.{EndsAreTold, RunsAreTold};
 ghost use Rattle.teco_law_changes.specs.Steps.{StepsAreTold, StepsAreToldWith, StepsGiveNoFirst};
-ghost use Rattle.teco_law_changes.specs.Steps.{StepsGoOn, StepsLeaveArguments};
+ghost use Rattle.teco_law_changes.specs.Steps.{StepsGoOn, StepsLeaveArguments, StepsLeaveNear};
 
 /// Each step changes the text by what is told of its element.
 pub fn steps_are_told()
@@ -16,6 +16,11 @@ pub fn steps_are_told_with()
 /// Behind each element that is known which it leaves.
 pub fn steps_leave_arguments()
     ensures { StepsLeaveArguments }
+{}
+
+/// So it is of what is known near the pointer.
+pub fn steps_leave_near()
+    ensures { StepsLeaveNear }
 {}
 
 /// An element of several steps that goes on is read again, and a search looks for its own text.

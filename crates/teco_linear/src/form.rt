@@ -1,5 +1,6 @@
 // Linear forms.
-ghost use Rattle.std.specs.Prelude.{◌≡◌, ◌<◌, ◌↔◌, ℕ, ℤ, pos, [], ◌+ℤ◌, ◌-ℤ◌, ◌*ℤ◌, IfOk, IsTrue};
+ghost use Rattle.std.specs.Prelude.{◌≡◌, ◌<◌, ◌≤◌, ◌↔◌, ℕ, ℤ, pos, [], ◌+ℤ◌, ◌-ℤ◌, ◌*ℤ◌, IfOk, IfErr, IsTrue, length};
+ghost use Rattle.std.specs.Prelude.{vec_len};
 ghost use Rattle.std.specs.List.{All};
 ghost use Rattle.teco_linear.specs.Form.{Valuation, scale_value, term_value, value, values, form_in_place, IsHarmless};
 
@@ -8,37 +9,49 @@ use crate::term::{MAX_POWER, Scale, Term};
 use crate::terms;
 use std::alloc::Global;
 use std::marker::Model;
+use std::rc::Rc;
 
 /// The most terms that a form may have.
 pub const MAX_TERMS: usize = 4096;
 
 /// A linear form: a sum of whole numbers times powers of N times symbols. As a constraint it says
-/// that its value is at least 0.
+/// that its value is at least 0. Copies share their terms, which never change.
 #[derive(Drop)]
 pub struct Form {
-    terms: Vec<Term>,
+    terms: Option<Rc<Vec<Term>>>,
 }
 
 impl Model for Form {
-    ghost use Rattle.std.specs.Prelude.{List, ◌≤◌, vec_len};
+    ghost use Rattle.std.specs.Prelude.{List, ◌≤◌, length};
     ghost use Rattle.teco_linear.specs.declared.term.Term.{Term};
     ghost use Rattle.teco_linear.specs.declared.form.TheConstants.{MAX_TERMS};
+    ghost use Rattle.teco_linear.specs.Shared.{terms_in};
 
     ghost Value = { List Term };
 
-    ghost view = { λ f. f.terms.items };
+    ghost view = { λ f. terms_in f.terms };
 
-    ghost invariant = { λ f. vec_len f.terms ≤ MAX_TERMS };
+    ghost invariant = { λ f. length (terms_in f.terms) ≤ MAX_TERMS };
 }
 
 impl Form {
     /// The form that is 0.
-    pub fn zero(alloc: Global) -> Form
+    pub fn zero(_alloc: Global) -> Form
         ensures { result ≡ [] }
     {
-        Form {
-            terms: Vec::new(alloc),
-        }
+        Form { terms: None }
+    }
+
+    // The form of these terms.
+    fn of_terms(terms: Vec<Term>, alloc: Global) -> Result<Form, LinearFault>
+        requires { vec_len terms ≤ MAX_TERMS }
+        ensures same { IfOk result (λ form. form ≡ terms.items) }
+        ensures memory { IfErr result (λ fault. fault ≡ LinearFault.Memory) }
+    {
+        let shared = Rc::new(alloc, terms)?;
+        Ok(Form {
+            terms: Some(shared),
+        })
     }
 
     /// The form of one term; refused where its power is above `MAX_POWER`.
@@ -50,11 +63,12 @@ impl Form {
         if term.power > MAX_POWER {
             return Err(LinearFault::PowerTooHigh);
         }
-        let mut terms = Vec::new(alloc);
-        if term.coefficient != 0 {
-            terms.push(term)?;
+        if term.coefficient == 0 {
+            return Ok(Form::zero(alloc));
         }
-        Ok(Form { terms })
+        let mut terms = Vec::with_capacity(alloc, 1)?;
+        terms.push(term)?;
+        Form::of_terms(terms, alloc)
     }
 
     /// The form that is this number.
@@ -82,18 +96,33 @@ impl Form {
     }
 
     /// A copy of the form.
-    pub fn copied(&self, alloc: Global) -> Result<Form, LinearFault>
+    pub fn copied(&self, _alloc: Global) -> Result<Form, LinearFault>
         ensures { IfOk result (λ copy. copy ≡ self.now) }
     {
-        let terms = Vec::from_slice(alloc, &self.terms)?;
-        Ok(Form { terms })
+        match &self.terms {
+            None => Ok(Form { terms: None }),
+            Some(shared) => Ok(Form {
+                terms: Some(shared.clone()?),
+            }),
+        }
     }
 
     /// The terms, by symbol and then by power. None has the coefficient 0.
     pub fn terms(&self) -> &[Term]
         ensures { result.now ≡ self.now }
     {
-        &self.terms
+        self.few_terms()
+    }
+
+    // The terms, of which there are not too many.
+    fn few_terms(&self) -> &[Term]
+        ensures same { result.now ≡ self.now }
+        ensures length { length result.now ≤ MAX_TERMS }
+    {
+        match &self.terms {
+            None => &[],
+            Some(shared) => shared.as_slice(),
+        }
     }
 
     /// The sum. It is refused where a coefficient passes 128 bits, or there are too many terms.
@@ -101,8 +130,8 @@ impl Form {
         ensures { IfOk result (λ sum. (n : ℕ) (v : Valuation)
             → value sum n v ≡ value self.now n v +ℤ value other.now n v) }
     {
-        let terms = terms::sum(&self.terms, &other.terms, alloc)?;
-        Ok(Form { terms })
+        let terms = terms::sum(self.terms(), other.terms(), alloc)?;
+        Form::of_terms(terms, alloc)
     }
 
     /// The difference. It is refused as a sum is.
@@ -110,13 +139,8 @@ impl Form {
         ensures { IfOk result (λ difference. (n : ℕ) (v : Valuation)
             → value difference n v ≡ value self.now n v -ℤ value other.now n v) }
     {
-        let minus_one = Scale {
-            factor: -1,
-            power: 0,
-        };
-        let negated = other.scaled(&minus_one, alloc)?;
-        let difference = self.add(&negated, alloc)?;
-        Ok(difference)
+        let terms = terms::difference(self.few_terms(), other.few_terms(), alloc)?;
+        Form::of_terms(terms, alloc)
     }
 
     /// The product with `scale`. It is refused where a coefficient passes 128 bits, or a power
@@ -125,8 +149,8 @@ impl Form {
         ensures { IfOk result (λ product. (n : ℕ) (v : Valuation)
             → value product n v ≡ scale_value scale.now n *ℤ value self.now n v) }
     {
-        let terms = terms::scaled(&self.terms, scale, alloc)?;
-        Ok(Form { terms })
+        let terms = terms::scaled(self.few_terms(), scale, alloc)?;
+        Form::of_terms(terms, alloc)
     }
 
     /// The form with forms in place of its symbols, as a claim on the measures of a state becomes one
@@ -136,28 +160,30 @@ impl Form {
         ensures { IfOk result (λ form. (n : ℕ) (v : Valuation)
             → value form n v ≡ value self.now n (values forms.now n v)) }
     {
-        substituted(&self.terms, forms, alloc)
+        let terms = substituted(self.terms(), forms, alloc)?;
+        Form::of_terms(terms, alloc)
     }
 
     /// Whether it has no symbol and no negative coefficient, and so is never below 0.
     pub fn is_harmless(&self) -> bool
         ensures { IsTrue result ↔ All IsHarmless self.now }
     {
-        terms::are_harmless(&self.terms)
+        terms::are_harmless(self.terms())
     }
 }
 
 // The sum of terms in which forms stand for the symbols.
-fn substituted(terms: &[Term], forms: &[Form], alloc: Global) -> Result<Form, LinearFault>
-    ensures { IfOk result (λ form. (n : ℕ) (v : Valuation)
-        → value form n v ≡ value terms.now n (values forms.now n v)) }
+fn substituted(terms: &[Term], forms: &[Form], alloc: Global) -> Result<Vec<Term>, LinearFault>
+    ensures value { IfOk result (λ sum. (n : ℕ) (v : Valuation)
+        → value sum.items n v ≡ value terms.now n (values forms.now n v)) }
+    ensures length { IfOk result (λ sum. vec_len sum ≤ MAX_TERMS) }
 {
     let one = Form::constant(1, alloc)?;
-    let mut sum = Form::zero(alloc);
+    let mut sum = Vec::new(alloc);
     for term in terms {
         let form = in_place(term.symbol, &one, forms)?;
-        let product = form.scaled(&term.scale(), alloc)?;
-        sum = sum.add(&product, alloc)?;
+        let product = terms::scaled(form.few_terms(), &term.scale(), alloc)?;
+        sum = terms::sum(&sum, &product, alloc)?;
     }
     Ok(sum)
 }

@@ -1,5 +1,5 @@
 // Arithmetic on the terms of forms, which stand in order: by symbol, and then by power.
-ghost use Rattle.std.specs.Prelude.{◌≡◌, ◌≤◌, ◌↔◌, ℕ, ℤ, ◌+ℤ◌, ◌*ℤ◌, IfOk, OnOk, IsTrue, vec_len, length};
+ghost use Rattle.std.specs.Prelude.{◌≡◌, ◌≤◌, ◌↔◌, ℕ, ℤ, ◌+ℤ◌, ◌-ℤ◌, ◌*ℤ◌, IfOk, OnOk, IsTrue, vec_len, length};
 ghost use Rattle.std.specs.List.{All};
 ghost use Rattle.teco_linear.specs.Form.{Valuation, scale_value, term_value, value, IsHarmless};
 
@@ -78,6 +78,22 @@ pub fn scaled(terms: &[Term], scale: &Scale, alloc: Global) -> Result<Vec<Term>,
         push(&mut scaled, term.scaled(scale)?)?;
     }
     Ok(scaled)
+}
+
+// The terms of a form less another.
+pub fn difference(left: &[Term], right: &[Term], alloc: Global) -> Result<Vec<Term>, LinearFault>
+    requires { length right.now ≤ MAX_TERMS }
+    ensures value { IfOk result (λ difference. (n : ℕ) (v : Valuation)
+        → value difference.items n v ≡ value left.now n v -ℤ value right.now n v) }
+    ensures length { IfOk result (λ difference. vec_len difference ≤ MAX_TERMS) }
+{
+    let minus_one = Scale {
+        factor: -1,
+        power: 0,
+    };
+    let negated = scaled(right, &minus_one, alloc)?;
+    let difference = sum(left, &negated, alloc)?;
+    Ok(difference)
 }
 
 // Whether no term has a symbol or a negative coefficient.

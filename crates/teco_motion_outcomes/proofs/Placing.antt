@@ -9,6 +9,15 @@ place_of : (text : List ℕ) (x : ℤ) → pos 0 ≤ℤ x → pos 0 ≤ℤ (pos 
 place_of text (pos k) h l = (k, refl, omega (arith, ints))
 place_of text (negsuc k) h l = absurd (omega (arith, ints))
 
+pub placed : (text : List ℕ) (n : ℕ) (v : Valuation) (place a b : List Term) (conditions : List (List Term))
+    → conditions ≡ a ∷ b ∷ [] → value a n v ≡ value place n v → value b n v ≡ pos (length text) -ℤ value place n v
+    → All (linear.Holds n v) conditions → IsPlace text (value place n v)
+placed text n v place a b conditions e f g holds =
+    let P = linear.Holds n v in
+    let all = subst (All P) e holds in
+    place_of text (value place n v) (subst (λ x. pos 0 ≤ℤ x) f (All-head P a (b ∷ []) all))
+    (subst (λ x. pos 0 ≤ℤ x) g (All-head P b [] (All-tail P a (b ∷ []) all)))
+
 pub placed_both : (text : List ℕ) (n : ℕ) (v : Valuation) (first second a b c d : List Term)
     (conditions : List (List Term)) → conditions ≡ a ∷ b ∷ c ∷ d ∷ [] → value a n v ≡ value first n v
     → value b n v ≡ pos (length text) -ℤ value first n v → value c n v ≡ value second n v

@@ -216,9 +216,11 @@ pub fn in_buffer(case: &Case, place: &Form, alloc: Global) -> Result<Vec<Form>, 
         → All (Holds n v) conditions.items → IsPlace s.kept.text (value place.now n v)) }
 {
     let size = single(case, Single::Size, alloc)?;
+    let least = place.copied(alloc)?;
+    let most = size.sub(place, alloc)?;
     let mut conditions = Vec::new(alloc);
-    conditions.push(place.add(&Form::zero(alloc), alloc)?)?;
-    conditions.push(size.sub(place, alloc)?)?;
+    conditions.push(least)?;
+    conditions.push(most)?;
     Ok(conditions)
 }
 

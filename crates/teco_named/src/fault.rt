@@ -24,12 +24,6 @@ pub enum NamedFault {
     Again {
         site: String,
     },
-    /// A parameter is a search text.
-    #[error("{name} takes {parameter} as a search text, which is not done yet")]
-    Search {
-        name: String,
-        parameter: String,
-    },
     /// The texts that are given are not those that the macro takes.
     #[error("{name} takes {parameters}: {what}")]
     Texts {
@@ -48,9 +42,22 @@ pub enum NamedFault {
     Memory,
 }
 
+// Was memory refused?
+fn is_memory(fault: &AnswerFault) -> bool {
+    match fault {
+        AnswerFault::Memory => true,
+        AnswerFault::Read { reason, .. } => reason.kind() == io::ErrorKind::OutOfMemory,
+        _ => false,
+    }
+}
+
 impl From<AnswerFault> for NamedFault {
     fn from(fault: AnswerFault) -> NamedFault {
-        NamedFault::Answer(fault)
+        if is_memory(&fault) {
+            NamedFault::Memory
+        } else {
+            NamedFault::Answer(fault)
+        }
     }
 }
 

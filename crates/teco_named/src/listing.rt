@@ -112,6 +112,7 @@ impl CalledMacro {
             library: self.origin(),
             escape,
             method: method_for(None, true),
+            searches: &[],
         };
         Ok(read_source(rt, alloc, request)?)
     }

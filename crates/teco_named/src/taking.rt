@@ -1,6 +1,7 @@
 //! The texts that a macro takes.
 use crate::called::CalledMacro;
 use crate::fault::NamedFault;
+use crate::searches::are_whole;
 use crate::spelling::{Spelled, all_declared};
 use std::alloc::{AllocError, Global};
 use teco_base::Reg;
@@ -14,6 +15,13 @@ use teco_source::{LineAndByte, Shown, Source};
 pub struct GivenTexts<'a> {
     pub words: Vec<Given<'a>>,
     pub settings: Vec<Setting>,
+}
+
+/// The texts that registers have as a macro begins, and the search texts that stand in its library.
+#[derive(Drop)]
+pub struct BoundTexts {
+    pub settings: Vec<Setting>,
+    pub searches: Vec<Setting>,
 }
 
 // Where a comment stands, as messages have it.
@@ -136,38 +144,69 @@ fn unbound(
     })
 }
 
-// Refuses a parameter that is a search text.
-fn check_texts(
+// What is wrong with search texts, each by itself, if something is.
+fn wrong_search(
+    alloc: Global,
+    parameters: &[Parameter],
+    searches: &[Setting],
+    library: &[u8],
+) -> Result<Option<String>, AllocError> {
+    for search in searches.chunks(1) {
+        let name = Spelled(name_of(parameters, search));
+        if search.iter().all(|given| given.text().is_empty()) {
+            let told = "is a search text, and an empty one stands for the one before it";
+            return Ok(Some(format!(in alloc; "{name} {told}")?));
+        }
+        if !are_whole(alloc, search, library)? {
+            let told =
+                "is a search text, and this one ends early: it has what ends a text of the macro";
+            return Ok(Some(format!(in alloc; "{name} {told}")?));
+        }
+    }
+    Ok(None)
+}
+
+// The name of the parameter of the first of some texts.
+fn name_of<'a>(parameters: &'a [Parameter], given: &[Setting]) -> &'a [u8] {
+    let named = parameters.iter().find(|parameter| {
+        given.iter().any(|given| given.register().index() == parameter.register.index())
+    });
+    match named {
+        Some(parameter) => &parameter.name,
+        None => &[],
+    }
+}
+
+// Refuses search texts that would not stand in the library as such.
+fn check_searches(
     alloc: Global,
     called: &CalledMacro,
     parameters: &[Parameter],
+    searches: &[Setting],
+    source: &Source,
 ) -> Result<(), NamedFault> {
-    for parameter in parameters {
-        if parameter.is_search {
-            return Err(NamedFault::Search {
-                name: String::from_str(alloc, called.name())?,
-                parameter: format!(in alloc; "{}", Spelled(&parameter.name))?,
-            });
-        }
+    match wrong_search(alloc, parameters, searches, source.text())? {
+        Some(what) => Err(unbound(alloc, called, parameters, what)?),
+        None => Ok(()),
     }
-    Ok(())
 }
 
-// The settings of parameters, which have these texts.
+// The texts of parameters, each in the place that it has.
 fn push_bound(
     alloc: Global,
     called: &CalledMacro,
     parameters: &[Parameter],
     texts: Vec<Vec<u8>>,
-    settings: &mut Vec<Setting>,
+    bound: &mut BoundTexts,
 ) -> Result<(), NamedFault> {
     for (at, text) in texts.into_iter().enumerate() {
-        let register = match parameters.get(at) {
-            Some(parameter) => parameter.register,
-            None => Reg::default(),
+        let (register, is_search) = match parameters.get(at) {
+            Some(parameter) => (parameter.register, parameter.is_search),
+            None => (Reg::default(), false),
         };
         match Setting::of(register, text) {
-            Some(setting) => settings.push(setting)?,
+            Some(setting) if is_search => bound.searches.push(setting)?,
+            Some(setting) => bound.settings.push(setting)?,
             None => {
                 let name = Spelled(name_at(parameters, at));
                 let what = format!(in alloc; "{name} has more than 268,435,456 bytes")?;
@@ -212,18 +251,21 @@ fn bound(
     }
 }
 
-/// The texts that registers have as a macro begins that is called by name: those of its parameters, as
-/// they are given or by default, and others that options give.
-pub fn settings_for(
+/// The texts of a macro that is called by name: those of its parameters, as they are given or by
+/// default, and others that options give registers.
+pub fn texts_for_macro(
     alloc: Global,
     called: &CalledMacro,
     source: &Source,
     given: GivenTexts<'_>,
-) -> Result<Vec<Setting>, NamedFault> {
+) -> Result<BoundTexts, NamedFault> {
     let parameters = parameters_in(alloc, source)?;
-    check_texts(alloc, called, &parameters)?;
     let texts = bound(alloc, called, &parameters, &given)?;
-    let mut settings = others(alloc, &parameters, given.settings)?;
-    push_bound(alloc, called, &parameters, texts, &mut settings)?;
-    Ok(settings)
+    let mut bound = BoundTexts {
+        settings: others(alloc, &parameters, given.settings)?,
+        searches: Vec::new(alloc),
+    };
+    push_bound(alloc, called, &parameters, texts, &mut bound)?;
+    check_searches(alloc, called, &parameters, &bound.searches, source)?;
+    Ok(bound)
 }

@@ -12,6 +12,7 @@ ghost use Rattle.std.specs.Io.KnownBytes.{WriteAppends};
 mod calls;
 
 use self::calls::Calls;
+use crate::ahead::{InputAhead, open_source};
 use crate::texts::{Texts, no_texts, open_input, open_output, read, write};
 use std::alloc::Global;
 use std::fs::{Files, OpenFile};
@@ -67,6 +68,8 @@ pub struct FileHost<R: System> {
     alloc: Global,
     // read where the first output is opened, if they were not given
     facts: Option<ProcessFacts>,
+    // the file that is the input where that has its name, opened ahead
+    ahead: Option<InputAhead<R>>,
     input: Option<ReadFile<R::File>>,
     // how many bytes of the input were read
     given: usize,
@@ -91,6 +94,7 @@ impl<R: System> FileHost<R> {
             rt,
             alloc,
             facts: None,
+            ahead: None,
             input: None,
             given: 0,
             output: None,
@@ -107,6 +111,13 @@ impl<R: System> FileHost<R> {
         ensures noted { ⟦<FileHost<R> as Host>⟧.files self.new ≡ ⟦<FileHost<R> as Host>⟧.files self.old }
     {
         self.facts = Some(facts);
+    }
+
+    /// The next input is this file, if it has its name. Inputs are regular files then.
+    pub fn set_ahead(&mut self, ahead: Option<InputAhead<R>>)
+        ensures noted { ⟦<FileHost<R> as Host>⟧.files self.new ≡ ⟦<FileHost<R> as Host>⟧.files self.old }
+    {
+        self.ahead = ahead;
     }
 
     /// From now on files are treated so.
@@ -184,6 +195,11 @@ impl<R: System> FileHost<R> {
         self.calls.trouble.as_ref()
     }
 
+    // The file that is open as the input, if one is.
+    fn input_file(&self) -> Option<&R::File> {
+        Some(self.input.as_ref()?.file())
+    }
+
     // How the output that is open is closed.
     fn finish(&self) -> Finish<'_> {
         Finish {
@@ -212,6 +228,7 @@ impl<R: System> Drop for FileHost<R> {
             rt,
             alloc: _,
             facts: _,
+            ahead: _,
             input: _,
             given: _,
             output,
@@ -233,7 +250,8 @@ impl<R: System> Host for FileHost<R> {
     ghost given = { λ h. h.given };
 
     fn open_in(&mut self, name: &[u8]) -> Result<(), Failed> {
-        match ReadFile::open(&self.rt, self.alloc, name, self.handling.in_place) {
+        let ahead = self.ahead.take();
+        match open_source(&self.rt, self.alloc, ahead, name, self.handling.in_place) {
             Ok(file) => {
                 self.input = Some(file);
                 self.given = 0;
@@ -289,7 +307,7 @@ impl<R: System> Host for FileHost<R> {
     fn close_out(&mut self) -> Result<(), Failed> {
         let output = self.output.take();
         let finish = self.finish();
-        match close(&self.rt, self.alloc, output, finish) {
+        match close(&self.rt, self.alloc, output, self.input_file(), finish) {
             Ok(ended) => {
                 self.ended = Some(ended);
                 self.calls.history.closed();
@@ -306,7 +324,7 @@ impl<R: System> Host for FileHost<R> {
         self.calls.history.dropped();
         let output = self.output.take();
         let finish = self.finish();
-        match let_go(&self.rt, self.alloc, output, finish) {
+        match let_go(&self.rt, self.alloc, output, self.input_file(), finish) {
             Ok(ended) => {
                 if ended.is_some() {
                     self.ended = ended;
@@ -458,11 +476,12 @@ fn close<R: System>(
     rt: &R,
     alloc: Global,
     output: Option<Unfinished<R::File>>,
+    input: Option<&R::File>,
     finish: Finish<'_>,
 ) -> Result<Ended, TroubleReason> {
     match output {
         Some(output) if finish.handling.closing != Closing::Compares => {
-            output.finish(rt, alloc, finish)
+            output.finish(rt, alloc, input, finish)
         }
         output => {
             abandon(rt, output)?;
@@ -476,11 +495,12 @@ fn let_go<R: System>(
     rt: &R,
     alloc: Global,
     output: Option<Unfinished<R::File>>,
+    input: Option<&R::File>,
     finish: Finish<'_>,
 ) -> Result<Option<Ended>, TroubleReason> {
     match output {
         Some(output) if finish.handling.closing == Closing::Compares => {
-            Ok(Some(output.finish(rt, alloc, finish)?))
+            Ok(Some(output.finish(rt, alloc, input, finish)?))
         }
         output => {
             abandon(rt, output)?;

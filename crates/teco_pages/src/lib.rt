@@ -1,10 +1,12 @@
 //! The host of the files of the system, and all of hosts and pages.
 #![tactic(auto)]
 
+mod ahead;
 mod file_host;
 mod policy_host;
 mod texts;
 
+pub use ahead::InputAhead;
 pub use file_host::FileHost;
 pub use policy_host::{Broken, EditTerms, PolicyHost};
 pub use teco_files::{

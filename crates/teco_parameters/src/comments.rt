@@ -118,6 +118,38 @@ pub fn comments_of(alloc: Global, library: &[u8]) -> Result<Vec<Comment>, AllocE
     Ok(comments.found)
 }
 
+// Adds the places where the elements of a text end that begins at a place of the library.
+fn push_ends(ends: &mut Vec<usize>, text: &[u8], begin: usize) -> Result<(), AllocError> {
+    let mut at = 0;
+    for _ in 0..text.len() {
+        let Some(found) = element_at(text, at) else {
+            break;
+        };
+        at = found.next;
+        ends.push(begin.saturating_add(at))?;
+    }
+    Ok(())
+}
+
+/// The places where the elements of a library end, one behind another; before the end of one that gives
+/// a register its text stand those of the elements in that text.
+pub fn ends_of(alloc: Global, library: &[u8]) -> Result<Vec<usize>, AllocError> {
+    let mut ends = Vec::new(alloc);
+    let mut at = 0;
+    for _ in 0..library.len() {
+        let Some(found) = element_at(library, at) else {
+            break;
+        };
+        if register_given(&found).is_some() {
+            let end = found.next.saturating_sub(1);
+            push_ends(&mut ends, found.text, end.saturating_sub(found.text.len()))?;
+        }
+        at = found.next;
+        ends.push(at)?;
+    }
+    Ok(ends)
+}
+
 /// What a library says of itself: its first comment, if it begins with one.
 pub fn summary_of(library: &[u8]) -> Option<&[u8]> {
     let Some(found) = element_at(library, 0) else {

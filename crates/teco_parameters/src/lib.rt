@@ -12,7 +12,7 @@ mod spelling;
 mod takes;
 
 pub use binding::{BindingFault, Given, texts_for};
-pub use comments::{Comment, comments_of, summary_of};
+pub use comments::{Comment, comments_of, ends_of, summary_of};
 pub use given::given_in;
 pub use lookup::{is_name, places};
 pub use parameter::Parameter;

@@ -30,3 +30,13 @@ sharper case ahead more ahead_is more_is implied sharp with n s whole d =
     let line = ends_behind s.kept.text s.kept.pointer (line_place s.kept.text s.kept.pointer (pos 1))
     (line_end s.kept.text s.kept.pointer whole.inside) before in
     (v, with n v s d.1 (omega (arith, ints, line, more_is n v s d.1)))
+
+-- what is implied may be said
+pub implied_sharper : (case : Case) (form : List Term) → Implies case.constraints.items form → (more : Case)
+    → IsWith case form more → IsSharper case more
+implied_sharper case form implied more with n s whole d =
+    let v = d.0 in (v, with n v s d.1 (implied n v d.1.fits.constraints))
+
+-- from case to case
+pub sharper_still : (case more most : Case) → IsSharper case more → IsSharper more most → IsSharper case most
+sharper_still case more most first second n s whole d = second n s whole (first n s whole d)

@@ -4,12 +4,14 @@ ghost use Rattle.std.specs.Bool.{OnTrue};
 ghost use Rattle.std.specs.List.{All};
 ghost use Rattle.teco_paths.specs.Claims.{AreSaid, HasNoCut};
 ghost use Rattle.teco_paths.specs.Paths.{Arrives, IsFollowed, Leads, LeadsOn};
+ghost use Rattle.teco_paths.specs.Steps.{IsSharper};
 
 use crate::course::MacroGraph;
 use crate::cut::{CutState, case_of, comes_to};
 use crate::fault::PathFault;
 use crate::halves::halves;
 use crate::light::lighter;
+use crate::room::with_room;
 use crate::sharp::sharpened;
 use crate::spot::NodeCase;
 use crate::steps::{behind, is_in_time, is_small, types_no_more};
@@ -121,6 +123,22 @@ fn spots_ahead(
     behind(course, spot.number, &spot.case, alloc)
 }
 
+// The case with what is shown of how much is held, where a path goes on.
+fn noted(
+    course: &MacroGraph<'_>,
+    number: usize,
+    case: Case,
+    alloc: Global,
+) -> Result<Case, PathFault>
+    ensures { IfOk result (λ more. IsSharper case more) }
+{
+    if number <= course.nodes.len() && is_no_cut(course, number) {
+        with_room(course, case, alloc)
+    } else {
+        Ok(case)
+    }
+}
+
 // The spots behind one, of whose case all is taken that is known, and no more than is of use.
 fn onward(
     course: &MacroGraph<'_>,
@@ -133,9 +151,10 @@ fn onward(
     let NodeCase { number, case } = spot;
     let sharp = sharpened(case, alloc)?;
     let light = lighter(sharp, alloc)?;
+    let known = noted(course, number, light, alloc)?;
     let spot = NodeCase {
         number,
-        case: light,
+        case: known,
     };
     spots_ahead(course, &spot, alloc)
 }

@@ -15,6 +15,7 @@ pub mod laws;
 mod light;
 pub mod outcomes;
 mod possible;
+mod room;
 pub mod search;
 pub mod shapes;
 mod sharp;

@@ -44,8 +44,8 @@ fn is_of(constraint: &Form, is_live: &[bool]) -> bool {
         })
 }
 
-// Whether a constraint stands among these.
-fn is_among(constraint: &Form, others: &[Form]) -> bool {
+/// Whether a constraint stands among these.
+pub fn is_among(constraint: &Form, others: &[Form]) -> bool {
     others
         .iter()
         .any(|other| other.terms() == constraint.terms())

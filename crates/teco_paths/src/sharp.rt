@@ -7,6 +7,7 @@ ghost use Rattle.teco_rows.specs.declared.measure.Single.TheVariants.{Pointer};
 ghost use Rattle.teco_rows.specs.States.{Point, IsTrueOf, single as measure};
 
 use crate::fault::PathFault;
+use crate::light::is_among;
 use std::alloc::Global;
 use teco_implied::is_so_nearby;
 use teco_linear::Form;
@@ -14,8 +15,8 @@ use teco_rows::case::Case;
 use teco_rows::forms::single;
 use teco_rows::measure::Single;
 
-// The case with one constraint more.
-fn with_constraint(case: Case, form: Form) -> Result<Case, PathFault>
+/// The case with one constraint more.
+pub fn with_constraint(case: Case, form: Form) -> Result<Case, PathFault>
     ensures { IfOk result (λ more. IsWith case form more) }
 {
     let Case {
@@ -55,13 +56,16 @@ fn beyond_pointer(case: &Case, which: Single, alloc: Global) -> Result<Form, Pat
 }
 
 // That the line's end is behind the pointer, where the pointer is known to be in front of the end of
-// the buffer.
+// the buffer, and the case does not say it yet.
 fn line_goes_on(case: &Case, alloc: Global) -> Result<Option<Form>, PathFault>
     ensures { IfOk result (λ found. IfSome found (λ more. (sharp : Case)
         → IsWith case.now more sharp → IsSharper case.now sharp)) }
 {
-    let ahead = beyond_pointer(case, Single::Size, alloc)?;
     let more = beyond_pointer(case, Single::LineEnd, alloc)?;
+    if is_among(&more, &case.constraints) {
+        return Ok(None);
+    }
+    let ahead = beyond_pointer(case, Single::Size, alloc)?;
     if is_so_nearby(case, &ahead, alloc)? {
         Ok(Some(more))
     } else {

@@ -160,6 +160,15 @@ const LINE_ENDS: &[(&[Given], bool)] = &[
     (&[Given::Takes(11, 255)], false),
     (&[Given::TakesMatch(b"foo")], true),
     (&[Given::TakesMatch(b"foo\x0b")], false),
+    // A run of blanks has no line end; of other classes that is not known.
+    (&[Given::TakesMatch(b"^ES")], true),
+    (&[Given::TakesMatch(b"a^es b")], true),
+    (&[Given::TakesMatch(b"\x05Sa\x05s")], true),
+    (&[Given::TakesMatch(b"^ES\n")], false),
+    (&[Given::TakesMatch(b"^EL")], false),
+    (&[Given::TakesMatch(b"^ESE^")], false),
+    (&[Given::TakesMatch(b"^E")], false),
+    (&[Given::TakesMatch(b"^N^ES")], false),
     (&[Given::TakesAny], false),
 ];
 

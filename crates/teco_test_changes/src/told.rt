@@ -61,6 +61,57 @@ const ROWS: &[Row] = &[
         b"@^UA/FS\x1bbar\x1b/",
         Some(&[Given::TakesAny, Given::Puts(b"bar")]),
     ),
+    // What was just found is taken: by as many characters as each match has, by its length or by its place.
+    (b"@^UA/<Sfoo\x1b;-3D>/", Some(&[Given::TakesMatch(b"foo")])),
+    (b"@^UA/<Nx\x1b;-D>/", Some(&[Given::TakesMatch(b"x")])),
+    (
+        b"@^UA/<S\x18\x1b;\x13D>/",
+        Some(&[Given::TakesMatch(b"\x18")]),
+    ),
+    (
+        b"@^UA/<Sfoo\x1b;\x19K>/",
+        Some(&[Given::TakesMatch(b"foo")]),
+    ),
+    (b"@^UA/<Sfoo\x1b;-2D>/", Some(&[Given::TakesAny])),
+    (b"@^UA/<Sfoo\x1b;-3K>/", Some(&[Given::TakesAny])),
+    (b"@^UA/<S\x18\x1b;-D>/", Some(&[Given::TakesAny])),
+    (b"@^UA/<Sfoo\x1b;QB-3D>/", Some(&[Given::TakesAny])),
+    // It was found where its answer is not 0, and nothing moved since.
+    (
+        b"@^UA/:Sfoo\x1b\"S-3D'/",
+        Some(&[Given::TakesMatch(b"foo")]),
+    ),
+    (
+        b"@^UA/:Sfoo\x1b\"F|-3D'/",
+        Some(&[Given::TakesMatch(b"foo")]),
+    ),
+    (b"@^UA/:Sfoo\x1b\"F-3D'/", Some(&[Given::TakesAny])),
+    (b"@^UA/:Sfoo\x1bUB-3D/", Some(&[Given::TakesAny])),
+    (
+        b"@^UA/<Sfoo\x1b;0A-32\"E-3D'>/",
+        Some(&[Given::TakesMatch(b"foo")]),
+    ),
+    (b"@^UA/<Sfoo\x1b;R-3D>/", Some(&[Given::TakesAny])),
+    (b"@^UA/<Sfoo\x1b;QB\"ER'-3D>/", Some(&[Given::TakesAny])),
+    (b"@^UA/<S\x1b;-3D>/", Some(&[Given::TakesAny])),
+    // A character of which a test has told is taken, at the pointer or before it.
+    (b"@^UA/<0A\"DD|0;'>/", Some(&[Given::Takes(48, 57)])),
+    (b"@^UA/<0A-44\"ED|0;'>/", Some(&[Given::Takes(44, 44)])),
+    (b"@^UA/<-1A-32\"E-D|0;'>/", Some(&[Given::Takes(32, 32)])),
+    (b"@^UA/<-A-32\"E-D|0;'>/", Some(&[Given::Takes(32, 32)])),
+    (b"@^UA/<0A-33:;D>/", Some(&[Given::Takes(33, 255)])),
+    (b"@^UA/<0A-33;D>/", Some(&[Given::Takes(0, 32)])),
+    (b"@^UA/J0A-32\"N|D'/", Some(&[Given::Takes(32, 32)])),
+    (b"@^UA/J0A-32\"GD'/", Some(&[Given::Takes(33, 255)])),
+    (b"@^UA/J0A-32\"G|D'/", Some(&[Given::Takes(0, 32)])),
+    (b"@^UA/J0A-47\"G0A-58\"LD''/", Some(&[Given::Takes(48, 57)])),
+    (b"@^UA/J0A-32\"EQB\"ED''/", Some(&[Given::Takes(32, 32)])),
+    (b"@^UA/<-1A-32\"ED|0;'>/", Some(&[Given::TakesAny])),
+    (b"@^UA/J0A-32\"E|D'/", Some(&[Given::TakesAny])),
+    (b"@^UA/J0A-32\"ERD'/", Some(&[Given::TakesAny])),
+    (b"@^UA/J0A-32\"E2D'/", Some(&[Given::TakesAny])),
+    (b"@^UA/J0A-32\"EK'/", Some(&[Given::TakesAny])),
+    (b"@^UA/JQB-32\"ED'/", Some(&[Given::TakesAny])),
     // What changes no text.
     (b"@^UA/J<Sa\x1b;XB=>/", Some(&[])),
     (b"@^UA/NEND\x1bP/", Some(&[])),
@@ -91,6 +142,7 @@ fn is_given(change: &Change, given: Given) -> bool {
             [range] => range.first == first && range.last == last,
             _ => false,
         },
+        (Change::TakesMatch(wanted), Given::TakesMatch(from)) => wanted.as_slice() == from,
         (Change::TakesAny, Given::TakesAny) => true,
         (Change::Swaps(wanted, text), Given::Swaps(from, into)) => {
             wanted.as_slice() == from && text.as_slice() == into

@@ -36,7 +36,7 @@ const LINES: &[Line] = &[
     (&[Given::Takes(9, 13)], "only takes line ends or \"^I^M\""),
     (
         &[Given::TakesMatch(b"foo")],
-        "only takes foo; keeps line ends",
+        "only takes foo; keeps line ends; only lines with a match change",
     ),
     (&[Given::TakesAny], "adds nothing"),
     // Swaps of one search text leave other lines as they are.
@@ -50,11 +50,19 @@ const LINES: &[Line] = &[
     ),
     (
         &[Given::Swaps(b"foo", b"bar"), Given::Swaps(b"x", b"y")],
-        "puts \"bar\" for \"foo\" and \"y\" for \"x\"; keeps lines",
+        "puts \"bar\" for \"foo\" and \"y\" for \"x\"; keeps lines; only lines with a match change",
     ),
     (
         &[Given::Swaps(b"foo", b"")],
-        "only takes foo; keeps line ends",
+        "only takes foo; keeps line ends; only lines with a match change",
+    ),
+    (
+        &[Given::Swaps(b"^ES", b" ")],
+        "puts \" \" for \"^ES\"; lines without \"^ES\" stay as they are",
+    ),
+    (
+        &[Given::Swaps(b"^ESa", b"b")],
+        "puts b for \"^ESa\"; lines without \"^ESa\" in either case stay as they are",
     ),
     // Several changes.
     (
@@ -144,6 +152,12 @@ const KNOWN: &[Known] = &[
         Some(b"12Ff"),
         None,
     ),
+    (
+        &[Given::Swaps(b"^ES", b" ")],
+        Some(b" "),
+        None,
+        Some(b"^ES"),
+    ),
     // A last line may go, or a line end, and a class may match one.
     (&[Given::Swaps(b"f", b"")], Some(b""), Some(b"Ff"), None),
     (&[Given::Swaps(b"f", b"\n")], Some(b"\n"), Some(b"Ff"), None),
@@ -173,5 +187,52 @@ fn is_known(alloc: Global, row: &Known) -> Option<bool> {
 fn facts_are_known(rt: HostRuntime) {
     for (number, row) in KNOWN.iter().enumerate() {
         assert!(rt; is_known(rt.alloc(), row) == Some(true), "row {number}");
+    }
+}
+
+// Changes, and search texts without which lines stay as they are, though a last line may come or go.
+type Left = (&'static [Given], Option<&'static [&'static [u8]]>);
+
+const LEFT: &[Left] = &[
+    (&[], None),
+    (&[Given::Swaps(b"f", b"x")], Some(&[b"f"])),
+    (&[Given::Swaps(b"f", b"")], Some(&[b"f"])),
+    (&[Given::TakesMatch(b"f")], Some(&[b"f"])),
+    (&[Given::TakesMatch(b"^ES")], Some(&[b"^ES"])),
+    (
+        &[
+            Given::Swaps(b"a", b"b"),
+            Given::TakesMatch(b"b"),
+            Given::Swaps(b"a", b"c"),
+        ],
+        Some(&[b"a", b"b"]),
+    ),
+    (&[Given::Swaps(b"a", b"\n")], None),
+    (&[Given::TakesMatch(b"a\n")], None),
+    (&[Given::TakesMatch(b"^ED")], None),
+    (&[Given::TakesMatch(b"f"), Given::Puts(b"x")], None),
+    (&[Given::TakesMatch(b"f"), Given::Takes(48, 57)], None),
+];
+
+fn is_left(alloc: Global, row: &Left) -> Option<bool> {
+    let changes = changes_of(alloc, row.0).ok()?;
+    let facts = Facts::of(alloc, changes.as_slice()).ok()?;
+    Some(match (&facts.leaves_lines_without, row.1) {
+        (Some(texts), Some(expected)) => {
+            texts.len() == expected.len()
+                && texts
+                    .iter()
+                    .zip(expected.iter())
+                    .all(|(text, bytes)| text.as_slice() == *bytes)
+        }
+        (None, None) => true,
+        _ => false,
+    })
+}
+
+#[test]
+fn lines_are_left(rt: HostRuntime) {
+    for (number, row) in LEFT.iter().enumerate() {
+        assert!(rt; is_left(rt.alloc(), row) == Some(true), "row {number}");
     }
 }

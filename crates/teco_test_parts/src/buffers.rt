@@ -56,17 +56,22 @@ fn is_sent_on(host: &mut FileHost<Faulty>, text: &[u8]) -> bool {
     is_as_wanted && host.close_out().is_ok()
 }
 
-// Is a fault told where an output is closed? What was kept of it is gone: nothing of it is in the next ones.
+// Is a fault told where an output is closed? What was kept of it is gone: nothing of it is in the next ones. As much
+// is kept as the file before has.
 fn is_nothing_left(rt: &HostRuntime, faulty: &mut FileHost<Faulty>, text: &[u8]) -> bool {
-    fs::write(rt, PATH, b"old").is_ok()
+    let Ok(mut old) = text.to_vec(rt.alloc()) else {
+        return false;
+    };
+    old.push(b'o').is_ok()
+        && fs::write(rt, PATH, &old).is_ok()
         && begin_out(faulty, PATH, b"")
         && write_pieces(faulty, text, 4096)
         && faulty.close_out().is_err()
         && is_told(faulty, Purpose::CloseOutput)
-        && is_alone(rt, FOLDER, PATH, b"old")
+        && is_alone(rt, FOLDER, PATH, &old)
         && begin_out(faulty, PATH, b"")
         && faulty.drop_out().is_ok()
-        && is_alone(rt, FOLDER, PATH, b"old")
+        && is_alone(rt, FOLDER, PATH, &old)
         && put_whole(&mut host(rt), PATH, b"new")
         && is_file(rt, PATH, b"new")
 }

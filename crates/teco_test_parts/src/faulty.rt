@@ -161,6 +161,10 @@ impl System for Faulty {
         self.rt.give_owner(&file.file, owner, group)
     }
 
+    fn read_at(&self, file: &FaultyFile, buf: &mut [u8], place: u64) -> io::Result<usize> {
+        self.rt.read_at(&file.file, buf, place)
+    }
+
     fn is_standard(&self, file: &FaultyFile) -> bool {
         self.rt.is_standard(&file.file)
     }

@@ -1,5 +1,5 @@
 -- What is true of the changes that are told of a macro is so of each text that a run of it leaves.
-use Rattle.std.proofs.Common.{ℕ, List, Option, Some, None, Result, Ok, Err}
+use Rattle.std.proofs.Common.{List, Option, Some, None, Result, Ok, Err}
 use Rattle.std.specs.Prelude.{IfOk, IfSome}
 use Rattle.std.specs.declared.alloc.AllocError.{AllocError}
 use Rattle.teco_change_policies.specs.Facts.{AreTrue}
@@ -25,6 +25,8 @@ hold promise changes facts tells true old new got =
       puts_only = if_some _ _ facts.puts_only (λ characters keep. keep old new does) true.puts_only;
       takes_only = if_some _ _ facts.takes_only (λ characters keep. keep old new does) true.takes_only;
       changes_only_with = if_some _ _ facts.changes_only_with (λ wanted keep. keep old new does) true.changes_only_with;
+      leaves_lines_without =
+          if_some _ _ facts.leaves_lines_without (λ wanted keep. keep old new does) true.leaves_lines_without;
     }
 
 pub known_hold : (promise : Promise) (changes : List Change) (result : Result Facts AllocError)
@@ -41,4 +43,5 @@ nothing_holds promise old new got = record {
   puts_only = tt;
   takes_only = tt;
   changes_only_with = tt;
+  leaves_lines_without = tt;
 }

@@ -4,3 +4,6 @@ mod Telling
 mod Holding
 mod Tables
 mod Weaker
+mod Ways
+mod NearTables
+mod Signs

@@ -1,6 +1,6 @@
 -- What is told of a macro at once, and what that says of each text that a run of it leaves.
 use Rattle.std.specs.Prelude.{ℕ, List, false, None, IfSome, IsTrue}
-use Rattle.teco_change_policies.specs.Laws.{others}
+use Rattle.teco_change_policies.specs.Laws.{OthersStay, others}
 use Rattle.teco_change_policies.specs.declared.facts.Facts.{Facts}
 use Rattle.teco_law_changes.specs.Runs.{IsGot}
 use Rattle.teco_policy.specs.Lines.{EndAlike}
@@ -17,6 +17,7 @@ pub record AreSo (facts : Facts) (old new : List ℕ) : Type 0 where
   pub puts_only : IfSome facts.puts_only (λ characters. Keeps (policy.AddOnly characters) old new)
   pub takes_only : IfSome facts.takes_only (λ characters. Keeps (policy.TakeOnly characters) old new)
   pub changes_only_with : IfSome facts.changes_only_with (λ wanted. Keeps (others wanted.items) old new)
+  pub leaves_lines_without : IfSome facts.leaves_lines_without (λ wanted. OthersStay wanted.items old new)
 
 -- Whatever is told is so of each text that is got from another.
 abbrev pub HoldOf : Promise → Facts → Type 0
@@ -32,4 +33,5 @@ nothing_told = record {
   puts_only = None;
   takes_only = None;
   changes_only_with = None;
+  leaves_lines_without = None;
 }

@@ -2,3 +2,4 @@
 pub mod Growing
 pub mod Facts
 pub mod Table
+pub mod Seen

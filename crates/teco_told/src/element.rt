@@ -3,7 +3,10 @@ ghost use Rattle.std.specs.Prelude.{◌≡◌, ◌∷◌, [], IfOk, option_map, 
 ghost use Rattle.teco_changes.specs.Elements as model;
 ghost use Rattle.teco_model.specs.Element as definition;
 ghost use Rattle.teco_model.specs.declared.kind.Page.TheVariants as page;
+ghost use Rattle.teco_told.specs.Seen.{near_seen};
 
+use crate::last::deleted_near;
+use crate::near::Nearby;
 use std::alloc::{AllocError, Global};
 use teco_base::arithmetic::byte_of;
 use teco_base::bytes::{FF, TAB};
@@ -11,8 +14,8 @@ use teco_changes::{Change, Class, NumericArgument, Range, Text};
 use teco_model::Element;
 use teco_model::kind::{Command, Insertion, Kind, Page, Query, Search, Storage};
 
-// A text of these bytes.
-fn text_of(alloc: Global, bytes: &[u8]) -> Result<Text, AllocError>
+/// A text of these bytes.
+pub(crate) fn text_of(alloc: Global, bytes: &[u8]) -> Result<Text, AllocError>
     ensures { IfOk result (λ text. text ≡ bytes.now) }
 {
     let mut copy = Vec::new(alloc);
@@ -20,8 +23,8 @@ fn text_of(alloc: Global, bytes: &[u8]) -> Result<Text, AllocError>
     Ok(Text::of(copy))
 }
 
-// A list of one.
-fn one(alloc: Global, change: Change) -> Result<Vec<Change>, AllocError>
+/// A list of one.
+pub(crate) fn one(alloc: Global, change: Change) -> Result<Vec<Change>, AllocError>
     ensures { IfOk result (λ changes. changes.items ≡ change ∷ []) }
 {
     let mut changes = Vec::new(alloc);
@@ -189,18 +192,52 @@ fn told_with(
     }
 }
 
-/// What an element can do to a text at most, where so much is known of the argument before it.
-pub fn changes_with(
+// What is told where so much is near.
+fn told_near(
+    alloc: Global,
+    kind: Kind,
+    ranged: bool,
+    near: Nearby<'_>,
+) -> Result<Option<Vec<Change>>, AllocError>
+    ensures { IfOk result (λ told. option_map (λ changes. changes.items) told
+        ≡ model.told_near kind ranged (near_seen near.entry)) }
+{
+    match kind {
+        Kind::Command(Command::Deletion(unit)) => deleted_near(alloc, unit, ranged, near),
+        _ => Ok(None),
+    }
+}
+
+// What an element can do, where so much is known of the argument before it.
+fn changes_by_argument(
     alloc: Global,
     element: &Element<'_>,
     ranged: bool,
     known: NumericArgument,
 ) -> Result<Option<Vec<Change>>, AllocError>
     ensures { IfOk result (λ told. option_map (λ changes. changes.items) told
-        ≡ model.changes_with (definition.seen element.now) ranged known) }
+        ≡ model.either_told (model.told_with element.now.kind element.now.text.now known)
+        (model.changes_of (definition.seen element.now) ranged)) }
 {
     match told_with(alloc, element.kind, element.text, known)? {
         Some(changes) => Ok(Some(changes)),
         None => changes_of(alloc, element, ranged),
+    }
+}
+
+/// What an element can do to a text at most, where so much is known of the argument before it, and of what is near.
+pub(crate) fn changes_with(
+    alloc: Global,
+    element: &Element<'_>,
+    ranged: bool,
+    known: NumericArgument,
+    near: Nearby<'_>,
+) -> Result<Option<Vec<Change>>, AllocError>
+    ensures { IfOk result (λ told. option_map (λ changes. changes.items) told
+        ≡ model.changes_with (definition.seen element.now) ranged known (near_seen near.entry)) }
+{
+    match told_near(alloc, element.kind, ranged, near)? {
+        Some(changes) => Ok(Some(changes)),
+        None => changes_by_argument(alloc, element, ranged, known),
     }
 }

@@ -21,6 +21,7 @@ fn nothing_told() -> Facts
         puts_only: None,
         takes_only: None,
         changes_only_with: None,
+        leaves_lines_without: None,
     }
 }
 

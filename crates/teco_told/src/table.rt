@@ -12,8 +12,8 @@ use std::alloc::{AllocError, Global};
 use teco_changes::NumericArgument;
 use teco_expansion::Nodes;
 
-// How often all ways are gone at most, until a table no longer changes.
-const ROUNDS: usize = 64;
+/// How often all ways are gone at most, until a table no longer changes.
+pub(crate) const ROUNDS: usize = 64;
 
 /// What is known before the element of a number.
 #[tactic(auto, using(crate::proofs::Tables::entry))]

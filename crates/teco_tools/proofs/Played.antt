@@ -1,6 +1,6 @@
 -- Scripts that are played in turn.
 use Rattle.std.proofs.Common.{◌≡◌, refl, sym, subst, ap, ◌∙◌, ℕ, ◌+◌, ◌<◌, ◌≤◌, inl, inr, List, [], ◌∷◌, ◌++◌, length}
-use Rattle.std.proofs.Common.{get_or, Bool, true, false, ◌||◌, Option, Some, None, Result, Ok, Err, IsErr, take, drop}
+use Rattle.std.proofs.Common.{get_or, Bool, true, false, ◌||◌, Option, Some, Result, Ok, Err, IsErr, take, drop}
 use Rattle.std.proofs.Common.{take-append-drop}
 use Rattle.std.proofs.lemmas.List.{take_all, drop_more}
 use Rattle.teco_model.specs.State.{World}
@@ -12,7 +12,7 @@ use Rattle.teco_session.specs.FirstCode.{Hears}
 use Rattle.teco_session.specs.Sessions.{Setting, setting}
 use Rattle.teco_session.specs.declared.fault.SessionFault.{SessionFault}
 use Rattle.teco_session.specs.declared.sessions.Done.{Done}
-use Rattle.teco_tools.specs.Scripts.{Around, at, Comes, EndsIn, HearsScript, IsAnswer, IsInput, Plays, PlaysOut}
+use Rattle.teco_tools.specs.Scripts.{Around, at, EndsIn, HearsScript, IsAnswer, IsInput, Plays, PlaysOut}
 use Rattle.teco_tools.specs.Scripts.{Terms, is_last, none, one_more}
 use Rattle.teco_tools.specs.declared.fault.ToolFault.{ToolFault}
 use Rattle.teco_console.specs.declared.outcome.Outcome.{Outcome}

@@ -8,7 +8,7 @@ use Rattle.teco_hosts.specs.HostFiles.{Telling}
 use Rattle.teco_run.specs.Holdings.{Holdings, Joined}
 use Rattle.teco_hosts.specs.Held.{nothing_held}
 use Rattle.teco_session.specs.Sessions.{Setting, setting}
-use Rattle.teco_tools.specs.Starts.{IsBare}
+use Rattle.teco_tools.specs.Starts.{IsBare, Prepares}
 use Rattle.teco_session.specs.declared.fault.SessionFault.{SessionFault}
 use Rattle.teco_session.specs.declared.sessions.Done.{Done}
 use Rattle.teco_source.specs.Scripts.{text_begin}
@@ -164,6 +164,7 @@ pub record Begins (terms : Terms) (run : Run) (fresh : Holdings) (old new : Arou
   pub left : Holdings
   pub before : Telling
   pub failures : ℕ
+  pub prepared : Joined (Prepares run.start) fresh begun files before
   pub same_machine : IsBare run.start → begun ≡ fresh
   pub same_files : IsBare run.start → before ≡ files
   pub same_failures : IsBare run.start → failures ≡ old.failures

@@ -21,7 +21,8 @@ pub fn machine_with(alloc: Global, cap: usize) -> Machine<GapText>
 
 /// A command string, as long as a machine takes one. Names and numbers never make a longer one.
 pub fn within_limit(text: &[u8]) -> Result<&[u8], ToolFault>
-    ensures { IfOk result (λ text. length text.now ≤ LIMIT) }
+    ensures same { IfOk result (λ command. command.now ≡ text.now) }
+    ensures within { IfOk result (λ command. length command.now ≤ LIMIT) }
 {
     if text.len() > LIMIT {
         return Err(AnswerFault::Memory.into());

@@ -1,9 +1,10 @@
 //! What registers have before a run.
-ghost use Rattle.std.specs.Prelude.{◌≡◌, ◌≤◌, [], length};
+ghost use Rattle.std.specs.Prelude.{◌≡◌, ◌≤◌, [], Some, None, OnOk, length, replicate, set};
 ghost use Rattle.std.specs.List.{All};
-ghost use Rattle.teco_base.specs.declared.TheConstants.{LIMIT};
+ghost use Rattle.teco_base.specs.declared.TheConstants.{LIMIT, REGISTERS};
 ghost use Rattle.teco_regs.specs.Texts.{IsTextWithinLimit};
-ghost use Rattle.teco_tools.specs.Starts.{IsBare};
+ghost use Rattle.teco_run.specs.Holdings.{Joined};
+ghost use Rattle.teco_tools.specs.Starts.{IsBare, Prepares, case_command, with_settings};
 
 use crate::fault::ToolFault;
 use crate::machines::within_limit;
@@ -16,7 +17,8 @@ use teco_text::TextStore;
 
 // No texts.
 fn no_texts<'a>() -> [Option<&'a [u8]>; REGISTERS]
-    ensures { All IsTextWithinLimit result }
+    ensures none { result ≡ replicate REGISTERS None }
+    ensures all { All IsTextWithinLimit result }
 {
     [None; REGISTERS]
 }
@@ -30,14 +32,17 @@ fn with_text<'a>(
 ) -> [Option<&'a [u8]>; REGISTERS]
     requires all { All IsTextWithinLimit texts }
     requires within { length text.now ≤ LIMIT }
-    ensures { All IsTextWithinLimit result }
+    ensures given { result ≡ set texts.entry register (Some text.entry) }
+    ensures all { All IsTextWithinLimit result }
 {
     texts[register.index()] = Some(text);
     texts
 }
 
 // The command string that makes searches treat case so.
-fn command_of(case: LetterCase) -> &'static [u8] {
+fn command_of(case: LetterCase) -> &'static [u8]
+    ensures { result.now ≡ case_command case }
+{
     match case {
         LetterCase::Exact => b"1^X",
         LetterCase::Any => b"0^X",
@@ -64,7 +69,11 @@ impl Start<'_> {
 }
 
 // Gives registers their texts, one after another.
-fn set_each<T: TextStore>(machine: &mut Machine<T>, settings: &[Setting]) -> Result<(), ToolFault> {
+fn set_each<T: TextStore>(machine: &mut Machine<T>, settings: &[Setting]) -> Result<(), ToolFault>
+    ensures { OnOk result (machine.new ≡ record machine.old {
+      kept = with_settings settings.now machine.old.kept;
+    }) }
+{
     for given in settings {
         machine.load(with_text(no_texts(), given.register(), given.text()))?;
     }
@@ -73,7 +82,10 @@ fn set_each<T: TextStore>(machine: &mut Machine<T>, settings: &[Setting]) -> Res
 
 // Gives registers their texts, if there are any.
 fn set_texts<T: TextStore>(machine: &mut Machine<T>, settings: &[Setting]) -> Result<(), ToolFault>
-    ensures { settings.now ≡ [] → machine.new ≡ machine.old }
+    ensures none { settings.now ≡ [] → machine.new ≡ machine.old }
+    ensures given { OnOk result (machine.new ≡ record machine.old {
+      kept = with_settings settings.now machine.old.kept;
+    }) }
 {
     match settings {
         [] => Ok(()),
@@ -90,6 +102,8 @@ pub fn prepare<T: TextStore, H: Host>(
     ensures machine { IsBare start.entry → machine.new ≡ machine.old }
     ensures files { IsBare start.entry → H.files host.new ≡ H.files host.old }
     ensures failures { IsBare start.entry → H.failures host.new ≡ H.failures host.old }
+    ensures prepares { OnOk result (Joined (Prepares start.entry)
+        machine.old machine.new (H.files host.old) (H.files host.new)) }
 {
     set_texts(machine, start.settings)?;
     let Some(case) = start.case else {

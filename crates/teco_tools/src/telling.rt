@@ -1,4 +1,7 @@
 //! What is said of stops: the code, where it was met, and what it means.
+ghost use Rattle.std.specs.Prelude.{◌≡◌};
+ghost use Rattle.teco_tools.specs.Codes.{code_at};
+
 use std::fmt;
 use std::io::Write;
 use teco_base::{Code, Reg};
@@ -10,7 +13,9 @@ use teco_source::{LineAndByte, Shown};
 use teco_text::TextStore;
 
 /// The code that is typed for a stop.
-pub fn code_of(stop: Stop) -> Option<Code> {
+pub fn code_of(stop: Stop) -> Option<Code>
+    ensures { result ≡ code_at stop }
+{
     match stop {
         Stop::Ended { .. } | Stop::Exit { .. } => None,
         Stop::Error(code) => Some(code),

@@ -184,7 +184,7 @@ fn simply_between(trail: &Trail, one: &ToldForm<'_>, other: &ToldForm<'_>) -> Op
     let (left, more) = one.simple?;
     let (right, less) = other.simple?;
     if left == right {
-        return None;
+        return Some(more.checked_sub(less).unwrap_or(NONE));
     }
     let most = match (one.row, other.row) {
         (Some(row), Some(column)) => trail.bounds.at(row, column),

@@ -117,6 +117,46 @@ impl<'a> AskedTrail<'a> {
     }
 }
 
+// Those of some symbols that are found in forms, in the order in which they are found first, and which of
+// them are not found yet.
+#[derive(Drop)]
+struct LiveSymbols {
+    is_sought: Vec<bool>,
+    found: Vec<u32>,
+}
+
+impl LiveSymbols {
+    // None of these is found yet.
+    fn among(symbols: &[u32], space: &mut Workspace) -> LiveSymbols {
+        let mut count = 0usize;
+        for symbol in symbols {
+            count = count.max((*symbol as usize).saturating_add(1));
+        }
+        let mut is_sought = space.repeated(false, count);
+        for symbol in symbols {
+            if let Some(mark) = is_sought.get_mut(*symbol as usize) {
+                *mark = true;
+            }
+        }
+        LiveSymbols {
+            is_sought,
+            found: Vec::new(space.alloc),
+        }
+    }
+
+    // Finds those of a form.
+    fn add(&mut self, form: &Form, space: &mut Workspace) {
+        for symbol in form.terms().iter().filter_map(|term| term.symbol) {
+            if let Some(mark) = self.is_sought.get_mut(symbol as usize)
+                && *mark
+            {
+                *mark = false;
+                space.push(&mut self.found, symbol);
+            }
+        }
+    }
+}
+
 impl Trail {
     // The case with the constraints that bound differences, and no forms.
     fn whole(&self, space: &mut Workspace) -> Case {
@@ -156,27 +196,27 @@ impl Trail {
         space.push(&mut self.case.constraints, copy);
     }
 
-    // That the measure in a place is above the pointer.
-    fn above_pointer(&self, place: u32, space: &mut Workspace) -> Form {
+    // How far the measure in a place is above the pointer.
+    fn from_pointer(&self, place: u32, space: &mut Workspace) -> Form {
         let forms = &self.case.forms;
         let (Some(pointer), Some(measure)) = (form_in(forms, POINTER), form_in(forms, place)) else {
             space.stop(Stop::TooMuch);
             return Form::zero(space.alloc);
         };
-        let one = space.constant(1);
-        let behind = space.sum(pointer, &one);
-        space.difference(measure, &behind)
+        space.difference(measure, pointer)
     }
 
     // In front of the buffer's end the line's end is behind the pointer.
     pub fn sharpen(&mut self, space: &mut Workspace) {
-        let ahead = self.above_pointer(SIZE, space);
-        if !self.bounds.shows(&ahead) {
+        let ahead = self.from_pointer(SIZE, space);
+        if !self.bounds.shows_above(&ahead) {
             return;
         }
-        let more = self.above_pointer(LINE_END, space);
-        if !self.bounds.shows(&more) {
-            self.assume(&more, space);
+        let more = self.from_pointer(LINE_END, space);
+        if !self.bounds.shows_above(&more) {
+            let one = space.constant(1);
+            let behind = space.difference(&more, &one);
+            self.assume(&behind, space);
         }
     }
 
@@ -211,18 +251,17 @@ impl Trail {
 
     // Keeps of the bounds those of symbols that measures are given by.
     pub fn forget(&mut self, space: &mut Workspace) {
-        let mut live = Vec::new(space.alloc);
+        let mut live = LiveSymbols::among(self.bounds.symbols(), space);
         for form in self.case.forms.iter().flatten() {
-            add_symbols(&mut live, form, space);
+            live.add(form, space);
         }
         if self.is_lean {
             for form in &self.case.constraints {
-                add_symbols(&mut live, form, space);
+                live.add(form, space);
             }
         }
-        live.retain(|symbol| self.bounds.place(Some(*symbol)).is_some());
-        if live.len() < self.bounds.symbols().len() {
-            self.bounds = self.bounds.of_symbols(&live, space);
+        if live.found.len() < self.bounds.symbols().len() {
+            self.bounds = self.bounds.of_symbols(&live.found, space);
         }
     }
 }

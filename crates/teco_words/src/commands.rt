@@ -1,8 +1,8 @@
 //! The commands of the program and their options.
 use crate::rows::Parameter;
 use crate::tables::{
-    APPLY_PAGE, CHECK_PAGE, EDIT_PAGE, EXPLAIN_PAGE, LIST_PAGE, RUN_PAGE, SHOW_PAGE, TEST_PAGE,
-    TRACE_PAGE, VERIFY_PAGE,
+    APPLIED_BY_NAME, APPLY_PAGE, CHECK_PAGE, EDIT_PAGE, EXPLAIN_PAGE, LIST_PAGE, RUN_PAGE,
+    SHOW_PAGE, TEST_PAGE, TRACE_PAGE, VERIFY_PAGE,
 };
 use clap::{Arg, Command};
 use std::alloc::{AllocError, Global};
@@ -47,16 +47,27 @@ fn bare<'a>(alloc: Global, page: &HelpPage) -> Command<'a> {
         .after_help(page.examples)
 }
 
-// Adds the arguments of a command to others. Where options name the macro, words do not.
-fn push_page<'a>(
+// What names the macro of a command.
+#[derive(Clone, Copy)]
+enum NamedBy {
+    // words for a library and a register
+    Words,
+    Options,
+    // a macro's name, with texts and files behind it
+    Name,
+}
+
+// Adds the words of a command to others. Where options name the macro, words do not.
+fn push_words<'a>(
     alloc: Global,
     page: &HelpPage,
-    is_by_options: bool,
+    named_by: NamedBy,
     args: &mut Vec<Arg<'a>>,
 ) -> Result<(), AllocError> {
-    push_args(alloc, page.options, args)?;
-    if !is_by_options {
-        push_args(alloc, page.library, args)?;
+    match named_by {
+        NamedBy::Words => push_args(alloc, page.library, args)?,
+        NamedBy::Options => {}
+        NamedBy::Name => return push_args(alloc, APPLIED_BY_NAME, args),
     }
     push_args(alloc, page.words, args)
 }
@@ -65,10 +76,11 @@ fn push_page<'a>(
 fn subcommand<'a>(
     alloc: Global,
     page: &HelpPage,
-    is_by_options: bool,
+    named_by: NamedBy,
 ) -> Result<Command<'a>, AllocError> {
     let mut args = Vec::new(alloc);
-    push_page(alloc, page, is_by_options, &mut args)?;
+    push_args(alloc, page.options, &mut args)?;
+    push_words(alloc, page, named_by, &mut args)?;
     bare(alloc, page).args(args)
 }
 
@@ -97,6 +109,17 @@ fn is_by_options<S: AsStr>(words: &[S]) -> bool {
     false
 }
 
+// What names the macro, where it is known whether a name calls it.
+fn named_by<S: AsStr>(words: &[S], calls_name: bool) -> NamedBy {
+    if is_by_options(words) {
+        NamedBy::Options
+    } else if calls_name {
+        NamedBy::Name
+    } else {
+        NamedBy::Words
+    }
+}
+
 // Whether one of the words is a name.
 fn is_among<S: AsStr>(words: &[S], name: &str) -> bool {
     for word in words {
@@ -113,9 +136,10 @@ fn command_of<'a, S: AsStr>(
     alloc: Global,
     words: &[S],
     page: &HelpPage,
+    calls_name: bool,
 ) -> Result<Command<'a>, AllocError> {
     if is_among(words, page.name) {
-        subcommand(alloc, page, is_by_options(words))
+        subcommand(alloc, page, named_by(words, calls_name))
     } else {
         Ok(bare(alloc, page))
     }
@@ -128,7 +152,19 @@ fn add<'a, S: AsStr>(
     page: &HelpPage,
 ) -> Result<(), AllocError> {
     let alloc = *commands.allocator();
-    commands.push(command_of(alloc, words, page)?)?;
+    commands.push(command_of(alloc, words, page, false)?)?;
+    Ok(())
+}
+
+// Adds a command that applies macros to others. One may be called by its name.
+fn add_applying<'a, S: AsStr>(
+    commands: &mut Vec<Command<'a>>,
+    words: &[S],
+    page: &HelpPage,
+    calls_name: bool,
+) -> Result<(), AllocError> {
+    let alloc = *commands.allocator();
+    commands.push(command_of(alloc, words, page, calls_name)?)?;
     Ok(())
 }
 
@@ -148,8 +184,12 @@ fn add_check<S: AsStr>(commands: &mut Vec<Command<'_>>, words: &[S]) -> Result<(
 }
 
 // Adds the command `apply`.
-fn add_apply<S: AsStr>(commands: &mut Vec<Command<'_>>, words: &[S]) -> Result<(), AllocError> {
-    add(commands, words, &APPLY_PAGE)
+fn add_apply<S: AsStr>(
+    commands: &mut Vec<Command<'_>>,
+    words: &[S],
+    calls_name: bool,
+) -> Result<(), AllocError> {
+    add_applying(commands, words, &APPLY_PAGE, calls_name)
 }
 
 // Adds the command `edit`.
@@ -158,8 +198,12 @@ fn add_edit<S: AsStr>(commands: &mut Vec<Command<'_>>, words: &[S]) -> Result<()
 }
 
 // Adds the command `trace`.
-fn add_trace<S: AsStr>(commands: &mut Vec<Command<'_>>, words: &[S]) -> Result<(), AllocError> {
-    add(commands, words, &TRACE_PAGE)
+fn add_trace<S: AsStr>(
+    commands: &mut Vec<Command<'_>>,
+    words: &[S],
+    calls_name: bool,
+) -> Result<(), AllocError> {
+    add_applying(commands, words, &TRACE_PAGE, calls_name)
 }
 
 // Adds the command `test`.
@@ -184,13 +228,17 @@ fn add_explain<S: AsStr>(commands: &mut Vec<Command<'_>>, words: &[S]) -> Result
 
 // Adds all commands. Each comes from a function of its own: a constant of them all is more than is
 // proved at once.
-fn add_all<S: AsStr>(commands: &mut Vec<Command<'_>>, words: &[S]) -> Result<(), AllocError> {
+fn add_all<S: AsStr>(
+    commands: &mut Vec<Command<'_>>,
+    words: &[S],
+    calls_name: bool,
+) -> Result<(), AllocError> {
     add_run(commands, words)?;
     add_verify(commands, words)?;
     add_check(commands, words)?;
-    add_apply(commands, words)?;
+    add_apply(commands, words, calls_name)?;
     add_edit(commands, words)?;
-    add_trace(commands, words)?;
+    add_trace(commands, words, calls_name)?;
     add_test(commands, words)?;
     add_list(commands, words)?;
     add_show(commands, words)?;
@@ -206,9 +254,14 @@ fn program<'a>(alloc: Global) -> Command<'a> {
         .subcommand_required(true)
 }
 
-/// The commands of the program, to read these words. Those that a word names have their arguments.
-pub fn command<'a, S: AsStr>(alloc: Global, words: &[S]) -> Result<Command<'a>, AllocError> {
+/// The commands of the program, to read these words. Those that a word names have their arguments:
+/// `apply` and `trace` those behind the name of a macro, where one calls it.
+pub fn command<'a, S: AsStr>(
+    alloc: Global,
+    words: &[S],
+    calls_name: bool,
+) -> Result<Command<'a>, AllocError> {
     let mut commands = Vec::new(alloc);
-    add_all(&mut commands, words)?;
+    add_all(&mut commands, words, calls_name)?;
     program(alloc).subcommands(commands)
 }

@@ -28,6 +28,9 @@ pub enum WordsFault {
     /// A word stands behind a name where none may.
     #[error("nothing stands behind the name of a macro here: its register is A, and ./NAME is a file")]
     BehindName,
+    /// Behind the name of a macro that is applied stand other files than are wanted.
+    #[error("behind the name of a macro and its texts stand the files, {0} here")]
+    Applied(&'static str),
     /// An argument is another number.
     #[error("an argument is a number of decimal digits, 0 to 2147483647")]
     Argument,
@@ -38,7 +41,7 @@ pub enum WordsFault {
     #[error("--esc takes one ASCII character, or none")]
     Escape,
     /// A word is neither a code nor a refusal.
-    #[error("explain takes a code, as POP, a refusal, as X7, a command, as FS, or a file and a register")]
+    #[error("explain takes a code, as POP, a refusal, as X7, a command, as FS, a macro, or a file and a register")]
     Unknown,
     /// The examples of a library are to be tried that can't be read twice.
     #[error("--tested wants a file as LIB, since standard input can't be read twice")]

@@ -2,6 +2,7 @@
 #![tactic(auto)]
 
 mod arguments;
+mod called;
 mod commands;
 mod fault;
 mod hints;
@@ -11,14 +12,15 @@ mod tables;
 mod words;
 
 pub use arguments::CommandLine;
+pub use called::applied_name;
 pub use commands::command;
 pub use fault::WordsFault;
 pub use hints::hint_for;
 pub use policies::policies_of;
 pub use words::{
-    BehindName, VerdictForm, cap, case, change, check_escape, check_name, check_register,
-    check_streams, check_tested, check_texts, choice, effort_of, entry, escape_of, file_name,
-    file_names, form_of_source, given, has_macro_options, keeping, limit, look, mark_of, method_of,
-    name_in, name_of, names_macro, names_register, naming, origin, pages, scripts, setting_files,
-    settings, source_name, target_name, verdict_form, word,
+    AppliedTo, BehindName, VerdictForm, cap, case, change, check_escape, check_name,
+    check_register, check_tested, check_texts, choice, effort_of, entry, escape_of, file_names,
+    form_of_source, given, has_macro_options, keeping, limit, look, mark_of, method_of, name_in,
+    name_of, names_macro, names_register, naming, origin, pages, scripts, setting_files, settings,
+    verdict_form, word,
 };

@@ -57,6 +57,7 @@ pub const APPLY_PAGE: HelpPage = HelpPage {
     name: "apply",
     about: "Edits a file by a verified macro",
     examples: "Examples:\n\
+        \x20 teco apply replace-word old=foo new=bar in.txt out.txt\n\
         \x20 teco apply -e 'J<FSfoo$bar$;>' in.txt out.txt\n\
         \x20 teco apply --pages each --strict trim.tes A in.txt out.txt\n\
         \x20 printf 'a  \\n' | teco apply trim.tes A - -",
@@ -160,6 +161,7 @@ pub const TRACE_PAGE: HelpPage = HelpPage {
     name: "trace",
     about: "Lists the steps of a macro on a file, and writes no file",
     examples: "Examples:\n\
+        \x20 teco trace replace-word old=foo new=bar in.txt\n\
         \x20 teco trace -e 'J<FSfoo$bar$;>' in.txt\n\
         \x20 teco trace --limit 100 trim.tes A in.txt",
     options: &[
@@ -210,6 +212,7 @@ pub const EXPLAIN_PAGE: HelpPage = HelpPage {
         known at each element of a macro",
     examples: "Examples:\n\
         \x20 teco explain X9\n\
+        \x20 teco explain replace-word\n\
         \x20 teco explain -e 'J<FSfoo$bar$;>'\n\
         \x20 teco explain trim.tes A",
     options: &[MACRO, FROM, CALLED, JSON_ROWS, RULES, EFFORT, ESCAPE],
@@ -537,9 +540,9 @@ const SHOWN: Parameter = Parameter {
 
 const EXPLAINED: Parameter = Parameter {
     id: "LIB",
-    kind: ParameterKind::NamedWord("WORD|LIB"),
-    help: "A code, as POP, a refusal, as X7, a command, as FS, or a file of macros; without it \
-        all words are listed",
+    kind: ParameterKind::NamedWord("WORD|NAME|LIB"),
+    help: "A code, as POP, a refusal, as X7, a command, as FS, the name of a macro, or a file of \
+        macros; without it all words are listed",
 };
 
 const IN_LIBRARY: Parameter = Parameter {
@@ -622,6 +625,16 @@ const NAME_OR_LIBRARY: Parameter = Parameter {
     kind: ParameterKind::Called("NAME|LIB"),
     help: "The name of a macro, as teco list prints it, or a file of macros, or of one macro, which \
         is then A; - for standard input",
+};
+
+/// The words that stand behind `apply` and `trace` where a macro is called by its name.
+pub const APPLIED_BY_NAME: &[Parameter] = &[NAME_OR_LIBRARY, BEHIND_NAME];
+
+const BEHIND_NAME: Parameter = Parameter {
+    id: "FILE",
+    kind: ParameterKind::Words,
+    help: "The texts that the macro takes, as KEY=TEXT, and behind them IN, and OUT where a file is \
+        written",
 };
 
 const OF_EDIT: Parameter = Parameter {

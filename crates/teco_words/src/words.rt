@@ -171,6 +171,102 @@ impl<'m> BehindName<'m> {
     }
 }
 
+/// What a macro is applied to, as words name it, and the texts that they give it.
+#[derive(Drop)]
+pub struct AppliedTo<'m> {
+    pub given: Vec<Given<'m>>,
+    /// The file that is read, or what stands for standard input.
+    pub source: &'m [u8],
+    /// The file that is written, or what stands for standard output; empty where none is.
+    pub target: &'m [u8],
+}
+
+impl<'m> AppliedTo<'m> {
+    /// By the words for a library, its register and the files.
+    pub fn read(
+        alloc: Global,
+        words: &'m ArgMatches<'_>,
+        arguments: &'m CommandLine,
+    ) -> AppliedTo<'m> {
+        AppliedTo {
+            given: Vec::new(alloc),
+            source: arguments.bytes(word(words, "IN")),
+            target: arguments.bytes(word(words, "OUT")),
+        }
+    }
+
+    /// By the words behind a name, of which the last are the file that is read and the one that is
+    /// written, if one is.
+    pub fn behind_name(behind: BehindName<'m>, writes: bool) -> Result<AppliedTo<'m>, WordsFault> {
+        let BehindName { given, files } = behind;
+        match files.as_slice() {
+            [source, target] if writes => Ok(AppliedTo {
+                given,
+                source: *source,
+                target: *target,
+            }),
+            [source] if !writes => Ok(AppliedTo {
+                given,
+                source: *source,
+                target: &[],
+            }),
+            _ if writes => Err(WordsFault::Applied("IN and OUT")),
+            _ => Err(WordsFault::Applied("IN alone")),
+        }
+    }
+
+    // Is standard input read?
+    fn reads_stream(&self) -> bool {
+        self.source == STREAM.as_bytes()
+    }
+
+    /// Refuses words that ask for what a stream can't be.
+    pub fn check_streams(&self, words: &ArgMatches<'_>, is_strict: bool) -> Result<(), WordsFault> {
+        if !self.reads_stream() {
+            return Ok(());
+        }
+        if named(words, "LIB", "library") == Some(STREAM) {
+            return Err(WordsFault::TwoStreams);
+        }
+        if is_strict {
+            return Err(WordsFault::Strict);
+        }
+        Ok(())
+    }
+
+    /// The name of the file that is read, or of standard input.
+    pub fn source_name(&self) -> Result<&'m [u8], WordsFault>
+        ensures { IfOk result (λ name. length name.now ≤ NAME) }
+    {
+        if self.reads_stream() {
+            Ok(INPUT)
+        } else {
+            file_name(self.source)
+        }
+    }
+
+    /// The name of the file that is written, or of standard output.
+    pub fn target_name(&self) -> Result<&'m [u8], WordsFault>
+        ensures { IfOk result (λ name. length name.now ≤ NAME) }
+    {
+        if self.target == STREAM.as_bytes() {
+            Ok(OUTPUT)
+        } else {
+            file_name(self.target)
+        }
+    }
+}
+
+// The name of a file that a macro is applied to. It may be no text.
+fn file_name(name: &[u8]) -> Result<&[u8], WordsFault>
+    ensures { IfOk result (λ name. length name.now ≤ NAME) }
+{
+    if name.len() > NAME || name.contains(&ESC) {
+        return Err(WordsFault::FileName);
+    }
+    Ok(name)
+}
+
 /// Refuses a register behind a name.
 pub fn check_name(words: &ArgMatches<'_>) -> Result<(), WordsFault> {
     match words.get_str("REGISTER") {
@@ -367,7 +463,7 @@ fn push_allowed<'a>(
     allowed: &mut Vec<&'a str>,
 ) -> Result<(), AllocError> {
     allowed.extend_from_slice(&[word(words, "IN"), word(words, "OUT")])?;
-    if command == "edit" {
+    if matches!(command, "edit" | "apply" | "trace") {
         allowed.extend_from_slice(words.get_strs("FILE").unwrap_or(&[]))?;
         if name_of(words).is_some() {
             allowed.push(word(words, "REGISTER"))?;
@@ -497,72 +593,10 @@ pub fn keeping<'a>(words: &ArgMatches<'a>) -> Option<Keeping<'a>> {
     })
 }
 
-// Is a word the name of a standard stream?
-fn is_stream(words: &ArgMatches<'_>, id: &str) -> bool {
-    word(words, id) == STREAM
-}
-
-/// Refuses words that ask for what a stream can't be.
-pub fn check_streams(words: &ArgMatches<'_>, is_strict: bool) -> Result<(), WordsFault> {
-    if !is_stream(words, "IN") {
-        return Ok(());
-    }
-    if named(words, "LIB", "library") == Some(STREAM) {
-        return Err(WordsFault::TwoStreams);
-    }
-    if is_strict {
-        return Err(WordsFault::Strict);
-    }
-    Ok(())
-}
-
 /// Refuses to try the examples of a library that can't be read twice.
 pub fn check_tested(words: &ArgMatches<'_>) -> Result<(), WordsFault> {
     if named(words, "LIB", "library") == Some(STREAM) {
         return Err(WordsFault::Tested);
     }
     Ok(())
-}
-
-/// The name of the file that is read, or of standard input.
-pub fn source_name<'a>(
-    words: &ArgMatches<'a>,
-    arguments: &'a CommandLine,
-) -> Result<&'a [u8], WordsFault>
-    ensures { IfOk result (λ name. length name.now ≤ NAME) }
-{
-    if is_stream(words, "IN") {
-        Ok(INPUT)
-    } else {
-        file_name(words, "IN", arguments)
-    }
-}
-
-/// The name of the file that is written, or of standard output.
-pub fn target_name<'a>(
-    words: &ArgMatches<'a>,
-    arguments: &'a CommandLine,
-) -> Result<&'a [u8], WordsFault>
-    ensures { IfOk result (λ name. length name.now ≤ NAME) }
-{
-    if is_stream(words, "OUT") {
-        Ok(OUTPUT)
-    } else {
-        file_name(words, "OUT", arguments)
-    }
-}
-
-/// The name of a file that a macro is applied to. It may be no text.
-pub fn file_name<'a>(
-    words: &ArgMatches<'a>,
-    id: &str,
-    arguments: &'a CommandLine,
-) -> Result<&'a [u8], WordsFault>
-    ensures { IfOk result (λ name. length name.now ≤ NAME) }
-{
-    let name = arguments.bytes(word(words, id));
-    if name.len() > NAME || name.contains(&ESC) {
-        return Err(WordsFault::FileName);
-    }
-    Ok(name)
 }

@@ -10,4 +10,5 @@ returns c = record {
   puts_only = c.in_ok-puts_only.ensures;
   takes_only = c.in_ok-takes_only.ensures;
   changes_only_with = c.in_ok-changes_only_with.ensures;
+  leaves_lines_without = c.in_ok-leaves_lines_without.ensures;
 }
