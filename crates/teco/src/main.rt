@@ -19,7 +19,7 @@ use teco_applied::{Errand, apply_macro, edit_files, trace_macro};
 use teco_base::Reg;
 use teco_console::{
     Console, Outcome, Request, Setting, explain, explain_all, explain_as_json, method_for, show,
-    show_source,
+    show_source, tell_near,
 };
 use teco_edit_parts::{ChosenFile, choose};
 use teco_edits::{EditOutcome, InPlaceEdits};
@@ -604,15 +604,18 @@ fn explain_known<O: Write + Drop, E: Write + Drop>(
     })
 }
 
-// `explain`, of the macro that a word calls by its name, if there is one.
+// `explain`, of the macro that a word calls by its name, if there is one; or else what is near to the word
+// is said.
 fn explain_called<O: Write + Drop, E: Write + Drop>(
     rt: &HostRuntime,
     console: &mut Console<O, E>,
     given: &ArgMatches<'_>,
+    word: &str,
 ) -> Result<Outcome, ProgramFault> {
     match called(rt, given) {
         Ok(Some(called)) => explain_known(rt, console, given, Some(&called)),
         Ok(None) | Err(ProgramFault::Named(NamedFault::Unfound { .. })) => {
+            tell_near(console, word)?;
             Err(WordsFault::Unknown.into())
         }
         Err(fault) => Err(fault),
@@ -643,7 +646,7 @@ fn explain_what<O: Write + Drop, E: Write + Drop>(
     };
     match explained {
         Some(outcome) => Ok(outcome),
-        None => explain_called(rt, console, given),
+        None => explain_called(rt, console, given, word),
     }
 }
 

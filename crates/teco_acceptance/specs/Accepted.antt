@@ -40,6 +40,12 @@ pub record IsOf (library : LibraryFile) (entry : ℕ) (accepted : Accepted) : Ty
   pub of_entry : (promise_of accepted).entry ≡ entry
   pub declared : (promise_of accepted).argument ≡ argument_of library entry
 
+-- The macro of an entry of a library is accepted: its table is closed, or its claims hang together, with the argument
+-- that the library declares.
+pub record IsAccepted (library : LibraryFile) (entry : ℕ) (accepted : Accepted) : Type 0 where
+  pub proved : IsProved accepted
+  pub is : IsOf library entry accepted
+
 -- an edition of the rules is one by which a method verifies
 abbrev pub IsAmong : Method → Edition → Type 0
 IsAmong (Only asked) edition = edition ≡ asked

@@ -26,7 +26,10 @@ pub use damage::{MENDING, is_whole};
 pub use failing::{Unclaimed, claimed_by};
 pub use failure_words::words_of_witness;
 pub use known::{words_of, words_of_choice};
-pub use library::{Setup, explained, library_of, read_library, read_library_for};
+pub use library::{
+    AcceptedMacro, ReadFor, Setup, UnacceptedMacro, explained, library_of, read_library,
+    read_library_for,
+};
 pub use reasoning::{RefusedMacro, reason_of};
 pub use refusing::{
     other_edition, refuse, refuse_claim, refuse_known, refuse_macro, tell_other_edition,

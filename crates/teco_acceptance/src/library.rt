@@ -3,10 +3,13 @@ ghost use Rattle.std.specs.Prelude.{◌≤◌, IfOk};
 ghost use Rattle.std.specs.Result.{IfErr};
 ghost use Rattle.teco_base.specs.declared.TheConstants.{LIMIT};
 ghost use Rattle.teco_library.specs.Reads.{Reads};
+ghost use Rattle.teco_acceptance.specs.Accepted.{IsAccepted};
 ghost use Rattle.teco_acceptance.specs.Refused.{ReadsNone};
 
-use crate::acceptance::verified_by;
+use crate::acceptance::{Accepted, verified_by};
+use crate::claim::{ClaimedCertificate, accepted};
 use crate::refusing::refuse;
+use crate::unaccepted::Unaccepted;
 use std::alloc::Global;
 use std::io::Write;
 use teco_base::{LIMIT, Reg};
@@ -72,7 +75,6 @@ pub fn read_library<R: Shelf, O: Write + Drop, E: Write + Drop>(
 /// The macro of a library that is to be run, and what registers are given before.
 #[derive(Clone, Copy)]
 pub struct Setup<'a> {
-    pub entry: Reg,
     pub settings: &'a [Setting],
     /// May these texts become a part of the library, so that the verifier knows their lengths?
     pub is_open: bool,
@@ -90,30 +92,6 @@ fn check_settings(library: &Library, settings: &[Setting]) -> Result<(), AnswerF
     Ok(())
 }
 
-// Is a macro refused since it writes a text of the library?
-fn is_written(refusal: &Refusal) -> bool {
-    matches!(
-        refusal,
-        Refusal::No {
-            why: Why::Written,
-            ..
-        }
-    )
-}
-
-// Is a library better that has the texts which registers are given? Not where the macro writes one of
-// them, and not where it alone is refused.
-fn is_better<S: ClaimSearch>(means: Means, fixed: &Sourced, plain: &Sourced, entry: Reg) -> bool {
-    let found = verified_by::<S>(means, &fixed.library, entry, fixed.method);
-    let Some(unaccepted) = found.err() else {
-        return true;
-    };
-    if is_written(&unaccepted.refusal) {
-        return false;
-    }
-    verified_by::<S>(means, &plain.library, entry, plain.method).is_err()
-}
-
 // A library with the texts that registers are given, if they and it are one.
 fn fixed_library<O: Write + Drop, E: Write + Drop>(
     console: &mut Console<O, E>,
@@ -125,14 +103,95 @@ fn fixed_library<O: Write + Drop, E: Write + Drop>(
     library_in(console, source, method)
 }
 
-/// Reads a library for the run of a macro. What registers are given is a part of it, if that may be
-/// and the macro does not write it. Where the file is none, the refusal is printed, and there is none.
-pub fn read_library_for<S: ClaimSearch, R: Shelf, O: Write + Drop, E: Write + Drop>(
+/// A library that is read for the run of a macro.
+#[derive(Drop)]
+pub struct ReadFor {
+    /// What registers are given is a part of it, where that may be.
+    pub sourced: Sourced,
+    /// The library alone, where that is another.
+    pub alone: Option<Sourced>,
+}
+
+/// A macro that is accepted, with its library.
+#[derive(Drop)]
+pub struct AcceptedMacro<'l> {
+    pub sourced: &'l Sourced,
+    pub accepted: Accepted<'l>,
+}
+
+/// A macro that is refused, with its library.
+#[derive(Drop)]
+pub struct UnacceptedMacro<'l> {
+    pub sourced: &'l Sourced,
+    pub unaccepted: Unaccepted,
+}
+
+impl ReadFor {
+    /// The macro, by its certificate if there is one, or verified; by the library alone where it is refused
+    /// with what registers are given.
+    pub fn accepted<S: ClaimSearch>(
+        &self,
+        means: Means,
+        entry: Reg,
+        claim: Option<&ClaimedCertificate<'_>>,
+    ) -> Result<AcceptedMacro<'_>, UnacceptedMacro<'_>>
+        ensures { IfOk result (λ found. IsAccepted found.sourced.now.library entry found.accepted) }
+    {
+        let sourced = &self.sourced;
+        match accepted::<S>(means, &sourced.library, entry, sourced.method, claim) {
+            Ok(accepted) => {
+                accepted.is_proved();
+                Ok(AcceptedMacro { sourced, accepted })
+            }
+            Err(unaccepted) => self.accepted_alone::<S>(means, entry, unaccepted),
+        }
+    }
+
+    // The macro by the library alone, if there is one. Where that refuses it too, it is to blame only if
+    // the macro writes what registers are given.
+    fn accepted_alone<S: ClaimSearch>(
+        &self,
+        means: Means,
+        entry: Reg,
+        unaccepted: Unaccepted,
+    ) -> Result<AcceptedMacro<'_>, UnacceptedMacro<'_>>
+        ensures { IfOk result (λ found. IsAccepted found.sourced.now.library entry found.accepted) }
+    {
+        let sourced = &self.sourced;
+        let Some(alone) = &self.alone else {
+            return Err(UnacceptedMacro {
+                sourced,
+                unaccepted,
+            });
+        };
+        match verified_by::<S>(means, &alone.library, entry, alone.method) {
+            Ok(accepted) => {
+                accepted.is_proved();
+                Ok(AcceptedMacro {
+                    sourced: alone,
+                    accepted,
+                })
+            }
+            Err(unaccepted_alone) if unaccepted.is_written() => Err(UnacceptedMacro {
+                sourced: alone,
+                unaccepted: unaccepted_alone,
+            }),
+            Err(_) => Err(UnacceptedMacro {
+                sourced,
+                unaccepted,
+            }),
+        }
+    }
+}
+
+/// Reads a library for the run of a macro. Where the file is none, the refusal is printed, and there is
+/// none.
+pub fn read_library_for<R: Shelf, O: Write + Drop, E: Write + Drop>(
     rt: &R,
     console: &mut Console<O, E>,
     request: Request<'_>,
     setup: Setup<'_>,
-) -> Result<Option<Sourced>, AnswerFault> {
+) -> Result<Option<ReadFor>, AnswerFault> {
     let written = ReadLibrary::read(rt, console.alloc, request)?;
     let source = written.source(console.alloc)?;
     let Some(plain) = library_in(console, source, request.method)? else {
@@ -140,14 +199,22 @@ pub fn read_library_for<S: ClaimSearch, R: Shelf, O: Write + Drop, E: Write + Dr
     };
     check_settings(&plain.library, setup.settings)?;
     if setup.settings.is_empty() || !setup.is_open {
-        return Ok(Some(plain));
+        return Ok(Some(ReadFor {
+            sourced: plain,
+            alone: None,
+        }));
     }
-    match fixed_library(console, &written, setup.settings, request.method)? {
-        Some(fixed) if is_better::<S>(console.means(), &fixed, &plain, setup.entry) => Ok(Some(
-            fixed,
-        )),
-        _ => Ok(Some(plain)),
-    }
+    let read = match fixed_library(console, &written, setup.settings, request.method)? {
+        Some(fixed) => ReadFor {
+            sourced: fixed,
+            alone: Some(plain),
+        },
+        None => ReadFor {
+            sourced: plain,
+            alone: None,
+        },
+    };
+    Ok(Some(read))
 }
 
 /// What a refusal of a macro of this source by an edition of the rules is for people; none for want of

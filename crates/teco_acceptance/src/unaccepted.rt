@@ -2,6 +2,7 @@
 ghost use Rattle.std.specs.Prelude.{◌≡◌};
 
 use crate::failing::Unclaimed;
+use teco_verifier::RefusalReason as Why;
 use teco_verify::Refusal;
 use teco_witness::Witness;
 
@@ -25,6 +26,17 @@ impl From<Refusal> for Unaccepted {
 }
 
 impl Unaccepted {
+    /// Is the macro refused since it writes a text of its library?
+    pub fn is_written(&self) -> bool {
+        matches!(
+            self.refusal,
+            Refusal::No {
+                why: Why::Written,
+                ..
+            }
+        )
+    }
+
     /// A small world on which the macro fails, if one was found.
     pub fn witness(&self) -> Option<&Witness> {
         self.unclaimed.as_ref()?.witness.as_ref()

@@ -3,7 +3,6 @@ use Rattle.std.proofs.Common.{◌≡◌, sym, subst, inl, inr, Option, List, [],
 use Rattle.std.specs.Prelude.{IfOk}
 use Rattle.std.proofs.KnownBytes.{Appends-nil}
 use Rattle.teco_applied.specs.InPlace.{AreAsked, EditsByJob, EditsIfAny, EditsNoFile, EditsSubject, EditsTask}
-use Rattle.teco_applied.specs.Tasks.{IsAccepted}
 use Rattle.teco_edits.specs.Files.{EditsFiles}
 use Rattle.teco_edits.specs.declared.editing.InPlaceEdits.{InPlaceEdits}
 use Rattle.teco_edits.specs.declared.outcome.EditOutcome.{EditOutcome}
@@ -14,7 +13,7 @@ use Rattle.teco_jobs.specs.declared.jobs.Task.{Task}
 use Rattle.teco_library.specs.Library.{LibraryFile}
 use Rattle.teco_policy.specs.declared.policy.Policy.{Policy}
 use Rattle.teco_tools.specs.declared.fault.ToolFault.{ToolFault}
-use Rattle.teco_acceptance.specs.Accepted.{promise_of}
+use Rattle.teco_acceptance.specs.Accepted.{IsAccepted, promise_of}
 use Rattle.teco_acceptance.specs.declared.acceptance.Accepted.{Accepted}
 
 -- the edits of a job are those of its task and its macro
@@ -26,17 +25,17 @@ by_job given task found job old new result same promised edits =
 
 pub subject_edits : (given : InPlaceEdits) (task : Task) (library : LibraryFile) (found : Accepted)
     (old new : Option (List ℕ)) (result : Result EditOutcome ToolFault) → IsAccepted library task.entry found
-    → EditsIfAny given task found old new result → EditsSubject given task library old new result
+    → EditsIfAny given task found old new result → EditsSubject given task old new result
 subject_edits given task library found old new result accepted (inl none) = inl none
 subject_edits given task library found old new result accepted (inr edits) =
-    inr (record { found = found; accepted = accepted; edits = edits })
+    inr (library, record { found = found; accepted = accepted; edits = edits })
 
 -- edits by the library that is read, with its policies behind those that are asked for
-pub read_edits : (given all : InPlaceEdits) (asked : List Policy) (task : Task) (library : LibraryFile)
-    (old new : Option (List ℕ)) (result : Result EditOutcome ToolFault) → AreAsked given asked all
-    → EditsSubject all task library old new result → EditsTask given asked task old new result
-read_edits given all asked task library old new result are_asked (inl none) = inl none
-read_edits given all asked task library old new result are_asked (inr edits) =
+pub read_edits : (given all : InPlaceEdits) (asked : List Policy) (task : Task) (old new : Option (List ℕ))
+    (result : Result EditOutcome ToolFault) → AreAsked given asked all → EditsSubject all task old new result
+    → EditsTask given asked task old new result
+read_edits given all asked task old new result are_asked (inl none) = inl none
+read_edits given all asked task old new result are_asked (inr (library, edits)) =
     inr (record { library = library; all = all; are_asked = are_asked; edits = edits })
 
 -- nothing is printed

@@ -1,6 +1,6 @@
 -- What the edit of files in place does, by the macro that a task is about.
 use Rattle.std.specs.Prelude.{ℕ, ◌≡◌, ◌⊎◌, ⊤, List, Option, Result, Ok, Err}
-use Rattle.teco_applied.specs.Tasks.{AskFor, IsAccepted}
+use Rattle.teco_applied.specs.Tasks.{AskFor}
 use Rattle.teco_edits.specs.Files.{EditsFiles}
 use Rattle.teco_edits.specs.declared.editing.InPlaceEdits.{InPlaceEdits}
 use Rattle.teco_edits.specs.declared.outcome.EditOutcome.{EditOutcome}
@@ -11,7 +11,7 @@ use Rattle.teco_jobs.specs.declared.jobs.Task.{Task}
 use Rattle.teco_library.specs.Library.{LibraryFile}
 use Rattle.teco_policy.specs.declared.policy.Policy.{Policy}
 use Rattle.teco_tools.specs.declared.fault.ToolFault.{ToolFault}
-use Rattle.teco_acceptance.specs.Accepted.{promise_of}
+use Rattle.teco_acceptance.specs.Accepted.{IsAccepted, promise_of}
 use Rattle.teco_acceptance.specs.declared.acceptance.Accepted.{Accepted}
 
 -- No file is edited: that is refused, or a fault comes before.
@@ -42,10 +42,10 @@ pub record EditsByAccepted (given : InPlaceEdits) (task : Task) (library : Libra
   pub accepted : IsAccepted library task.entry found
   pub edits : EditsByJob given task found old new result
 
-abbrev pub EditsSubject : InPlaceEdits → Task → LibraryFile → Option (List ℕ) → Option (List ℕ)
-    → Result EditOutcome ToolFault → Type 0
-EditsSubject given task library old new result =
-    EditsNoFile old new result ⊎ EditsByAccepted given task library old new result
+abbrev pub EditsSubject : InPlaceEdits → Task → Option (List ℕ) → Option (List ℕ) → Result EditOutcome ToolFault
+    → Type 0
+EditsSubject given task old new result =
+    EditsNoFile old new result ⊎ ((library : LibraryFile) × EditsByAccepted given task library old new result)
 
 -- the same edits, whose policies are those that are asked for and, behind them, those of the library
 pub record AreAsked (given : InPlaceEdits) (asked : List Policy) (all : InPlaceEdits) : Type 0 where

@@ -11,19 +11,13 @@ use Rattle.teco_hosts.specs.HostFiles.{Telling}
 use Rattle.teco_tools.specs.declared.fault.ToolFault.{ToolFault}
 use Rattle.teco_tools.specs.declared.fault.ToolFault.TheVariants as tool
 use Rattle.teco_console.specs.declared.fault.AnswerFault.TheVariants as answering
-use Rattle.teco_acceptance.specs.Accepted.{IsOf, IsProved, promise_of}
+use Rattle.teco_acceptance.specs.Accepted.{IsAccepted, promise_of}
 use Rattle.teco_acceptance.specs.Lines.{refused_line}
 use Rattle.teco_acceptance.specs.declared.acceptance.Accepted.{Accepted}
 use Rattle.teco_policy.specs.declared.policy.Policy.{Policy}
 use Rattle.teco_console.specs.declared.outcome.Outcome.{Outcome}
 use Rattle.teco_console.specs.declared.outcome.Outcome.TheVariants.{Done, Coded, Refused}
 use Rattle.teco_verify.specs.declared.refusal.Refusal.{Refusal}
-
--- The macro of an entry of a library is accepted: its table is closed, or its claims hang together, with the argument
--- that the library declares.
-pub record IsAccepted (library : LibraryFile) (entry : ℕ) (accepted : Accepted) : Type 0 where
-  pub proved : IsProved accepted
-  pub is : IsOf library entry accepted
 
 -- A macro is refused with the line of a refusal; with a fault no more is said of what was written.
 abbrev pub Refuses : {E : Type 0} → Option (List ℕ) → Option (List ℕ) → Result Outcome E → Type 0
@@ -66,13 +60,7 @@ pub record EditsAccepted (task : Task) (library : LibraryFile) (names : Names) (
   pub accepted : IsAccepted library task.entry found
   pub edits : EditsBy task (task_call task found) names files after begun left result
 
--- or nothing is edited
-abbrev pub AppliesIn : Task → LibraryFile → Names → Telling → Telling → Trace → Trace → Result Outcome ToolFault
-    → Type 0
-AppliesIn task library names files after begun left result =
-    EditsNone files after begun left result ⊎ EditsAccepted task library names files after begun left result
-
--- by a macro of the library that is read, if one is
+-- by a macro of the library that is read, if one is; or nothing is edited
 abbrev pub Applies : Task → Names → Telling → Telling → Trace → Trace → Result Outcome ToolFault → Type 0
 Applies task names files after begun left result =
     EditsNone files after begun left result

@@ -1,6 +1,6 @@
 //! `apply`: a file is edited by a verified macro.
 ghost use Rattle.std.specs.Prelude.{◌≡◌, [], true, IfOk};
-ghost use Rattle.teco_applied.specs.Tasks.{AnswersNone, Applies, AppliesAsAsked, AppliesIn, task_call};
+ghost use Rattle.teco_applied.specs.Tasks.{AnswersNone, Applies, AppliesAsAsked, task_call};
 ghost use Rattle.teco_hosts.specs.HostFiles.{Notes};
 ghost use Rattle.teco_jobs.specs.Edits.{EditsBy, trace_of};
 ghost use Rattle.teco_pages.specs.Policies.{IsMet};
@@ -11,7 +11,7 @@ use std::fs::{Files, Metadata};
 use std::io::{Input, Write};
 use std::os::unix::fs::MetadataExt;
 use std::{fs, str};
-use teco_acceptance::Accepted;
+use teco_acceptance::{Accepted, AcceptedMacro};
 use teco_console::{AnswerFault, Console, Outcome};
 use teco_hosts::Host;
 use teco_jobs::{Job, Names, Task, Work, edit_by};
@@ -89,18 +89,18 @@ fn apply_subject<'p, S: ClaimSearch, H: Host + Reporting + Drop, O: Write + Drop
     subject: &Subject<'_>,
     host: &mut Judged<'p, H>,
 ) -> Result<Outcome, ToolFault>
-    ensures { AppliesIn task.now subject.now.sourced.library files.entry.names
+    ensures { Applies task.now files.entry.names
         (⟦<Judged<'p, H> as Host>⟧.files host.old) (⟦<Judged<'p, H> as Host>⟧.files host.new)
         (trace_of (⟦<Judged<'p, H> as Host>⟧.failures host.old) (O.contents console.old.out))
         (trace_of (⟦<Judged<'p, H> as Host>⟧.failures host.new) (O.contents console.new.out)) result }
 {
     match subject.accepted::<S>(console.means(), task.entry) {
         Ok(_) if files.are_one => refuse_names(console),
-        Ok(accepted) => {
-            warn_empty(console, &subject.sourced, &accepted)?;
+        Ok(AcceptedMacro { sourced, accepted }) => {
+            warn_empty(console, sourced, &accepted)?;
             edit_and_tell(console, task, files.names, &accepted, host)
         }
-        Err(unaccepted) => refuse_subject::<S, _, _>(console, subject, task.entry, unaccepted),
+        Err(refused) => refuse_subject::<S, _, _>(console, subject, task.entry, refused),
     }
 }
 
@@ -116,7 +116,7 @@ fn ask_noted<'p, H: Host + Drop, O: Write + Drop, E: Write + Drop>(
     ensures failures { ⟦<Judged<'p, H> as Host>⟧.failures host.new ≡ ⟦<Judged<'p, H> as Host>⟧.failures host.old }
     ensures printed { console.new.out ≡ console.old.out }
 {
-    match noted_policies(&mut console.voice, &subject.sourced, task)? {
+    match noted_policies(&mut console.voice, &subject.read.sourced, task)? {
         Some(policies) => {
             host.ask(policies);
             Ok(true)
@@ -166,7 +166,7 @@ fn apply_as_asked<
         names,
         are_one: are_one_file(rt, names),
     };
-    let Some(subject) = read_subject::<S, _, _, _>(rt, console, task)? else {
+    let Some(subject) = read_subject(rt, console, task)? else {
         return Ok(Outcome::Refused);
     };
     if ask_noted(console, task, &subject, host)? {

@@ -11,8 +11,8 @@ use crate::subject::{
 };
 use std::alloc::Global;
 use std::io::{Input, Write};
-use teco_acceptance::{Accepted, tell_promise};
-use teco_console::{Console, Premise, Sourced, Voice};
+use teco_acceptance::{AcceptedMacro, tell_promise};
+use teco_console::{Console, Premise, Voice};
 use teco_edit_parts::taken_backup;
 use teco_edits::{EditOutcome, InPlaceEdits, edit_by_job};
 use teco_files::System;
@@ -40,13 +40,6 @@ fn is_lost(job: Job<'_>) -> bool {
     matches!(job.task.pages, PageChoice::Whole) && job.turns_pages()
 }
 
-// A macro that is accepted, with its source.
-#[derive(Clone, Copy)]
-struct AcceptedMacro<'a> {
-    sourced: &'a Sourced,
-    accepted: &'a Accepted<'a>,
-}
-
 // Edits files by a macro that is accepted, unless its promise holds for no text, or it turns pages
 // itself and files are edited whole.
 #[tactic(auto, using(crate::proofs::InPlace::by_job, crate::proofs::InPlace::no_line, crate::proofs::InPlace::failed))]
@@ -55,16 +48,16 @@ fn edit_by_accepted<R, O, E>(
     console: &mut Console<O, E>,
     task: &Task<'_, '_>,
     given: &InPlaceEdits<'_>,
-    subject: AcceptedMacro<'_>,
+    found: &AcceptedMacro<'_>,
 ) -> Result<EditOutcome, ToolFault>
 where
     R: System + Copy,
     O: Write + Drop,
     E: Write + Drop,
-    ensures { EditsIfAny given.now task.now subject.entry.accepted.now
+    ensures { EditsIfAny given.now task.now found.now.accepted
         (O.contents console.old.out) (O.contents console.new.out) result }
 {
-    let AcceptedMacro { sourced, accepted } = subject;
+    let AcceptedMacro { sourced, accepted } = found;
     let promise = accepted.promise();
     if task.is_strict && Premise::of_promise(&promise).is_empty() {
         refuse_empty(console, sourced, accepted)?;
@@ -99,19 +92,13 @@ where
     R: System + Copy,
     O: Write + Drop,
     E: Write + Drop,
-    ensures { EditsSubject given.now task.now subject.now.sourced.library
+    ensures { EditsSubject given.now task.now
         (O.contents console.old.out) (O.contents console.new.out) result }
 {
     match subject.accepted::<S>(console.means(), task.entry) {
-        Ok(accepted) => {
-            let found = AcceptedMacro {
-                sourced: &subject.sourced,
-                accepted: &accepted,
-            };
-            edit_by_accepted(rt, console, task, given, found)
-        }
-        Err(unaccepted) => {
-            say_refused::<S, _, _>(console, subject, task.entry, unaccepted)?;
+        Ok(found) => edit_by_accepted(rt, console, task, given, &found),
+        Err(refused) => {
+            say_refused::<S, _, _>(console, subject, task.entry, refused)?;
             Ok(EditOutcome::Refused)
         }
     }
@@ -165,7 +152,7 @@ where
         (O.contents console.old.out) (O.contents console.new.out) result }
 {
     let EditOrder { given, asked } = order;
-    let Some(all) = all_policies(&mut console.voice, &subject.sourced, task, asked)? else {
+    let Some(all) = all_policies(&mut console.voice, &subject.read.sourced, task, asked)? else {
         return Ok(EditOutcome::Refused);
     };
     let edits = InPlaceEdits {
@@ -197,7 +184,7 @@ where
 {
     check_keeping(rt, console.alloc, given)?;
     let mut apart = heard(console.means());
-    match read_subject::<S, _, _, _>(rt, &mut apart, task)? {
+    match read_subject(rt, &mut apart, task)? {
         Some(subject) => {
             say_unless_quiet(&mut console.voice, apart);
             let order = EditOrder { given, asked };

@@ -1,6 +1,7 @@
 //! What a task is about: a macro of a library.
 ghost use Rattle.std.specs.Prelude.{◌≡◌, IfOk, OnOk};
-ghost use Rattle.teco_applied.specs.Tasks.{IsAccepted, ReadsSubject, Refuses};
+ghost use Rattle.teco_acceptance.specs.Accepted.{IsAccepted};
+ghost use Rattle.teco_applied.specs.Tasks.{ReadsSubject, Refuses};
 ghost use Rattle.teco_jobs.specs.Edits.{Prints};
 ghost use Rattle.teco_console.specs.declared.outcome.Outcome.TheVariants.{Refused};
 
@@ -8,9 +9,9 @@ use std::io::{Input, Write};
 use std::rt::Files;
 use std::{fmt, str};
 use teco_acceptance::{
-    Accepted, ClaimedCertificate, MENDING, Setup, Unaccepted, accepted, accepted_by_claims,
-    is_whole, other_edition, read_claim, read_library_for, refuse_claim, refuse_macro,
-    tell_no_text, warn_no_text,
+    Accepted, AcceptedMacro, ClaimedCertificate, MENDING, ReadFor, Setup, UnacceptedMacro,
+    accepted_by_claims, is_whole, other_edition, read_claim, read_library_for, refuse_claim,
+    refuse_macro, tell_no_text, warn_no_text,
 };
 use teco_base::Reg;
 use teco_console::{AnswerFault, Console, Edition, Means, Outcome, Sourced, Voice, lint};
@@ -23,7 +24,7 @@ use teco_tools::ToolFault;
 /// A library, and the certificate of a macro of it, if one is named.
 #[derive(Drop)]
 pub struct Subject<'a> {
-    pub sourced: Sourced,
+    pub read: ReadFor,
     claim: Option<ClaimedCertificate<'a>>,
 }
 
@@ -33,26 +34,17 @@ impl Subject<'_> {
         &self,
         means: Means,
         entry: Reg,
-    ) -> Result<Accepted<'_>, Unaccepted>
-        ensures { IfOk result (IsAccepted self.now.sourced.library entry) }
+    ) -> Result<AcceptedMacro<'_>, UnacceptedMacro<'_>>
+        ensures { IfOk result (λ found. IsAccepted found.sourced.now.library entry found.accepted) }
     {
-        let claim = self.claim.as_ref();
-        let library = &self.sourced.library;
-        match accepted::<S>(means, library, entry, self.sourced.method, claim) {
-            Ok(accepted) => {
-                accepted.is_proved();
-                Ok(accepted)
-            }
-            Err(unaccepted) => Err(unaccepted),
-        }
+        self.read.accepted::<S>(means, entry, self.claim.as_ref())
     }
 }
 
-/// The macro of a task, and what registers are given before its runs. These texts do not belong to a
-/// library that a certificate is for.
+/// What registers are given before the runs of a task. These texts do not belong to a library that a
+/// certificate is for.
 pub fn setup_of<'a>(task: &'a Task<'_, '_>) -> Setup<'a> {
     Setup {
-        entry: task.entry,
         settings: task.start.settings,
         is_open: task.certificate.is_none(),
     }
@@ -114,7 +106,7 @@ fn repeat<O: Write + Drop, E: Write + Drop>(
 
 /// Reads the certificate and the library of a task. Where the file is no library, the refusal is
 /// printed, and there is none.
-pub fn read_subject<'a, S: ClaimSearch, R: Files + Input, O: Write + Drop, E: Write + Drop>(
+pub fn read_subject<'a, R: Files + Input, O: Write + Drop, E: Write + Drop>(
     rt: &R,
     console: &mut Console<O, E>,
     task: &Task<'a, '_>,
@@ -123,10 +115,10 @@ pub fn read_subject<'a, S: ClaimSearch, R: Files + Input, O: Write + Drop, E: Wr
 {
     let claim = read_claim(rt, console.alloc, task.certificate)?;
     let mut apart = heard(console.means());
-    match read_library_for::<S, _, _, _>(rt, &mut apart, task.library, setup_of(task)) {
-        Ok(Some(sourced)) => {
+    match read_library_for(rt, &mut apart, task.library, setup_of(task)) {
+        Ok(Some(read)) => {
             say_unless_quiet(&mut console.voice, apart);
-            Ok(Some(Subject { sourced, claim }))
+            Ok(Some(Subject { read, claim }))
         }
         Ok(None) => {
             repeat(console, apart)?;
@@ -185,11 +177,14 @@ fn refuse_by_claim<S: ClaimSearch, O: Write + Drop, E: Write + Drop>(
     console: &mut Console<O, E>,
     subject: &Subject<'_>,
     entry: Reg,
-    unaccepted: Unaccepted,
+    refused: UnacceptedMacro<'_>,
 ) -> Result<Outcome, AnswerFault>
     ensures { Refuses (O.contents console.old.out) (O.contents console.new.out) result }
 {
-    let sourced = &subject.sourced;
+    let UnacceptedMacro {
+        sourced,
+        unaccepted,
+    } = refused;
     match &subject.claim {
         None => refuse_macro::<S, _, _>(console, sourced, entry, unaccepted),
         Some(claim) => refuse_claim(console, sourced, entry, claim, unaccepted.refusal),
@@ -201,12 +196,12 @@ pub fn refuse_subject<S: ClaimSearch, O: Write + Drop, E: Write + Drop>(
     console: &mut Console<O, E>,
     subject: &Subject<'_>,
     entry: Reg,
-    unaccepted: Unaccepted,
+    refused: UnacceptedMacro<'_>,
 ) -> Result<Outcome, ToolFault>
     ensures { Refuses (O.contents console.old.out) (O.contents console.new.out) result }
 {
     console.voice.speak();
-    match refuse_by_claim::<S, _, _>(console, subject, entry, unaccepted) {
+    match refuse_by_claim::<S, _, _>(console, subject, entry, refused) {
         Ok(outcome) => {
             tell_claim(&mut console.voice, subject, entry);
             Ok(outcome)
@@ -224,7 +219,7 @@ fn tell_claim<E: Write + Drop>(voice: &mut Voice<E>, subject: &Subject<'_>, entr
         library,
         method,
         ..
-    } = &subject.sourced;
+    } = &subject.read.sourced;
     let is_by_claims = claim.edition_by(*method) == Edition::Second;
     if !is_by_claims || !is_whole(claim, entry) || other_edition(&claim.bytes, *method).is_some() {
         return;
@@ -240,13 +235,13 @@ pub fn say_refused<S: ClaimSearch, O: Write + Drop, E: Write + Drop>(
     console: &mut Console<O, E>,
     subject: &Subject<'_>,
     entry: Reg,
-    unaccepted: Unaccepted,
+    refused: UnacceptedMacro<'_>,
 ) -> Result<Outcome, ToolFault>
     ensures printed { console.new.out ≡ console.old.out }
     ensures outcome { IfOk result (λ outcome. outcome ≡ Refused) }
 {
     let mut apart = heard(console.means());
-    let outcome = refuse_subject::<S, _, _>(&mut apart, subject, entry, unaccepted)?;
+    let outcome = refuse_subject::<S, _, _>(&mut apart, subject, entry, refused)?;
     say_all(&mut console.voice, apart);
     Ok(outcome)
 }

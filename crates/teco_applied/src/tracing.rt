@@ -4,36 +4,33 @@ ghost use Rattle.teco_jobs.specs.Traces.{Traces};
 use crate::subject::{refuse_empty, setup_of};
 use std::io::{Input, Write};
 use std::rt::Files;
-use teco_acceptance::{read_library_for, verified_by};
+use teco_acceptance::{AcceptedMacro, ReadFor, UnacceptedMacro, read_library_for};
 use teco_console::{Console, Outcome, Premise, Sourced};
 use teco_hosts::Host;
 use teco_jobs::{Listing, Task, TracedMacro, trace_library};
 use teco_paths::search::ClaimSearch;
 use teco_tools::{Reporting, ToolFault};
 
-// Is a macro refused that is accepted, but with a promise that holds for no text? That is said. Without
-// strict terms it is not asked, and nothing is verified.
-fn is_refused<S: ClaimSearch, O: Write + Drop, E: Write + Drop>(
+// The library of a macro that is traced; none where the macro is accepted, but with a promise that holds
+// for no text, which is said. Without strict terms that is not asked.
+fn traced_library<'r, S: ClaimSearch, O: Write + Drop, E: Write + Drop>(
     console: &mut Console<O, E>,
     task: &Task<'_, '_>,
-    sourced: &Sourced,
-) -> Result<bool, ToolFault> {
-    if !task.is_strict {
-        return Ok(false);
+    read: &'r ReadFor,
+) -> Result<Option<&'r Sourced>, ToolFault> {
+    if !task.is_strict && read.alone.is_none() {
+        return Ok(Some(&read.sourced));
     }
-    let Ok(accepted) = verified_by::<S>(
-        console.means(),
-        &sourced.library,
-        task.entry,
-        sourced.method,
-    ) else {
-        return Ok(false);
-    };
-    if Premise::of_promise(&accepted.promise()).is_empty() {
-        refuse_empty(console, sourced, &accepted)?;
-        return Ok(true);
+    match read.accepted::<S>(console.means(), task.entry, None) {
+        Ok(AcceptedMacro { sourced, accepted }) => {
+            if task.is_strict && Premise::of_promise(&accepted.promise()).is_empty() {
+                refuse_empty(console, sourced, &accepted)?;
+                return Ok(None);
+            }
+            Ok(Some(sourced))
+        }
+        Err(UnacceptedMacro { sourced, .. }) => Ok(Some(sourced)),
     }
-    Ok(false)
 }
 
 /// Lists the steps of a macro of a library on a file, up to the most: the number of each, the
@@ -56,13 +53,12 @@ pub fn trace_macro<
 ) -> Result<Outcome, ToolFault>
     ensures { Traces task.now listing.entry.most (H.files host.new) result }
 {
-    let Some(sourced) = read_library_for::<S, _, _, _>(rt, console, task.library, setup_of(task))?
-    else {
+    let Some(read) = read_library_for(rt, console, task.library, setup_of(task))? else {
         return Ok(Outcome::Refused);
     };
-    if is_refused::<S, _, _>(console, task, &sourced)? {
+    let Some(sourced) = traced_library::<S, _, _>(console, task, &read)? else {
         return Ok(Outcome::Refused);
-    }
+    };
     let subject = TracedMacro {
         task,
         library: &sourced.library,

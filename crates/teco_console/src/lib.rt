@@ -35,7 +35,7 @@ pub use reading::{ReadLibrary, read_source};
 pub use request::{Origin, Request};
 pub use searches::filled;
 pub use setting::Setting;
-pub use showing::{explain, explain_all, show, show_source};
+pub use showing::{explain, explain_all, show, show_source, tell_near};
 pub use sourced::{NAMES, Sourced, macro_named};
 pub use stated_words::explain_as_json;
 pub use stating::{Stated, all_stated};

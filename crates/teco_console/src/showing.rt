@@ -98,7 +98,7 @@ fn explain_command<O: Write + Drop, E: Write + Drop>(
     Ok(())
 }
 
-/// Says which words are near to one that explains nothing.
+/// Says that nothing is called by a word, and which words are near.
 pub fn tell_near<O: Write + Drop, E: Write + Drop>(
     console: &mut Console<O, E>,
     word: &str,
@@ -115,8 +115,7 @@ pub fn tell_near<O: Write + Drop, E: Write + Drop>(
     Ok(())
 }
 
-/// Prints what a code, a refusal or a command means, or none where the word is none of them; then it
-/// says which words are near.
+/// Prints what a code, a refusal or a command means; none where the word is none of them.
 pub fn explain<O: Write + Drop, E: Write + Drop>(
     console: &mut Console<O, E>,
     word: &str,
@@ -128,7 +127,6 @@ pub fn explain<O: Write + Drop, E: Write + Drop>(
     } else if let Some(name) = command_named(word) {
         explain_command(console, name)?;
     } else {
-        tell_near(console, word)?;
         return Ok(None);
     }
     Ok(Some(Outcome::Done))

@@ -2,7 +2,6 @@
 use crate::console::{Console, write_bytes};
 use crate::fault::{AnswerFault, written};
 use crate::outcome::Outcome;
-use crate::showing::tell_near;
 use std::io::Write;
 use teco_explain::{
     CardRow, Explanation, SECTIONS, code_named, command_named, note_of_code, note_of_refusal,
@@ -74,8 +73,8 @@ fn print_commands<O: Write + Drop, E: Write + Drop>(
     Ok(())
 }
 
-/// Prints what a code, a refusal or a command means, an object of JSON in each line, or none where the
-/// word is none of them; then it says which words are near.
+/// Prints what a code, a refusal or a command means, an object of JSON in each line; none where the word
+/// is none of them.
 pub fn explain_as_json<O: Write + Drop, E: Write + Drop>(
     console: &mut Console<O, E>,
     word: &str,
@@ -87,7 +86,6 @@ pub fn explain_as_json<O: Write + Drop, E: Write + Drop>(
     } else if let Some(name) = command_named(word) {
         print_commands(console, name)?;
     } else {
-        tell_near(console, word)?;
         return Ok(None);
     }
     Ok(Some(Outcome::Done))

@@ -14,7 +14,6 @@ ghost use Rattle.teco_edits.specs.Objects.{report_object};
 ghost use Rattle.teco_hosts.specs.HostFiles.{Notes};
 ghost use Rattle.teco_pages.specs.Texts.{noted_texts};
 
-use crate::breaches::tell_broken;
 use crate::object::{Counts, FileReport};
 use crate::outcome::EditOutcome;
 use std::alloc::{AllocError, Global};
@@ -29,9 +28,10 @@ use teco_edit_parts::{
 use teco_files::{Backup, Closing, Handling, ProcessFacts, System};
 use teco_hosts::Host;
 use teco_jobs::{Job, OneWork, Replaced, rewrite_by};
+use teco_judging::{Breaking, tell_broken};
 use teco_options::{Change, Keeping, Look, NAME, Naming};
 use teco_pages::{EditTerms, FileHost, InputAhead, PolicyHost, Texts};
-use teco_policy::Policy;
+use teco_policy::{Broken, Policy};
 use teco_session::SessionFault;
 use teco_source::Shown;
 use teco_tools::ToolFault;
@@ -598,6 +598,18 @@ impl<'f, R: System + Copy> Editing<'_, '_, '_, 'f, R> {
         }
     }
 
+    // The policy that the edit of a file would break, if it would break one.
+    fn breaking<'h>(&'h self, host: &'h PolicyHost<'f, R>) -> Option<Breaking<'h>> {
+        let Broken { policy, breach } = host.broken()?;
+        let texts = host.texts()?;
+        Some(Breaking {
+            policy: self.given.policies.get(policy)?,
+            breach,
+            old: &texts.old,
+            new: &texts.new,
+        })
+    }
+
     // Says that a file is left as it was, and which policy its edit would break.
     fn tell_failed<E: Write + Drop>(
         &self,
@@ -605,11 +617,9 @@ impl<'f, R: System + Copy> Editing<'_, '_, '_, 'f, R> {
         name: &[u8],
         host: &PolicyHost<'f, R>,
     ) {
-        match (host.broken(), host.texts()) {
-            (Some(broken), Some(texts)) => {
-                tell_broken(voice, name, self.given.policies, broken, texts);
-            }
-            _ => {
+        match self.breaking(host) {
+            Some(breaking) => tell_broken(voice, name, &breaking),
+            None => {
                 let shown = Shown(name);
                 voice.complain(format_args!("{shown} is left as it was"));
             }

@@ -1,7 +1,6 @@
 //! Edits of files in place, by what is promised of a macro.
 #![tactic(auto)]
 
-mod breaches;
 mod editing;
 mod object;
 mod outcome;

@@ -1,5 +1,5 @@
 //! Texts made of what a macro looks for, on which it may do what was not meant.
-use crate::keeping::{first_broken, is_exact};
+use crate::keeping::{first_breaking, is_exact};
 use crate::running::TextRun;
 use memchr::memmem;
 use std::alloc::{AllocError, Global};
@@ -15,6 +15,7 @@ use teco_model::{Element, Kind};
 use teco_notes::{Example, FoundNote, NoPolicy, Note, element_at, notes_of, prototype_of};
 use teco_options::LetterCase;
 use teco_paths::search::ClaimSearch;
+use teco_policy::first_broken;
 use teco_source::Shown;
 use teco_tools::ToolFault;
 
@@ -393,7 +394,7 @@ fn tell_breach<O: Write + Drop, E: Write + Drop>(
 ) -> Result<(), ToolFault> {
     let entry = trial.subject.entry;
     let policies = &trial.example.policies;
-    let Some(breaking) = first_broken(policies, &doubt.text, &doubt.first) else {
+    let Some(breaking) = first_breaking(policies, &doubt.text, &doubt.first) else {
         return Ok(());
     };
     let name = char::from(entry.name());

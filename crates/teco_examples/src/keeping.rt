@@ -1,28 +1,31 @@
 //! Policies that the comments of a library ask for, where a macro is run on texts in memory.
+ghost use Rattle.std.specs.Prelude.{IsNone};
+ghost use Rattle.teco_policy.specs.Policies.{KeepEach};
+
 use std::io;
 use std::io::Write;
 use teco_console::Console;
 use teco_judging::Breaking;
 use teco_options::LetterCase;
-use teco_policy::Policy;
+use teco_policy::{Broken, Policy, first_broken};
 
 /// The first of these policies that the edit of a text would break.
-pub fn first_broken<'a>(
+pub fn first_breaking<'a>(
     policies: &'a [Policy],
     old: &'a [u8],
     new: &'a [u8],
-) -> Option<Breaking<'a>> {
-    for policy in policies {
-        if let Some(breach) = policy.breach(old, new) {
-            return Some(Breaking {
-                policy,
-                breach,
-                old,
-                new,
-            });
-        }
+) -> Option<Breaking<'a>>
+    ensures { IsNone result → KeepEach policies.now old.now new.now }
+{
+    match first_broken(policies, old, new) {
+        Some(Broken { policy, breach }) => Some(Breaking {
+            policy: &policies[policy],
+            breach,
+            old,
+            new,
+        }),
+        None => None,
     }
-    None
 }
 
 /// Prints the line that breaks a policy, as it was and as it would be.

@@ -8,4 +8,4 @@ mod running;
 mod testing;
 
 pub use fuzzing::fuzz_macro;
-pub use testing::{Tests, test_examples};
+pub use testing::{Tests, test_examples, test_notes};

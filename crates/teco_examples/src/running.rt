@@ -1,4 +1,7 @@
 //! Runs of macros on the texts of examples.
+ghost use Rattle.std.specs.Prelude.{◌≡◌, IfOk};
+ghost use Rattle.teco_examples.specs.Examples.{MakesAsIn};
+
 use std::alloc::Global;
 use teco_acceptance::verified_by;
 use teco_base::Reg;
@@ -30,7 +33,10 @@ impl TextRun {
         sourced: &Sourced,
         entry: Reg,
         case: Option<LetterCase>,
-    ) -> TextRun {
+    ) -> TextRun
+        ensures entry { result.entry ≡ entry }
+        ensures case { result.case ≡ case }
+    {
         let pages = pages_of::<S>(means, sourced, entry);
         TextRun {
             alloc: means.alloc,
@@ -46,7 +52,9 @@ impl TextRun {
         library: &Library,
         example: &Example,
         text: &[u8],
-    ) -> Result<Came, ToolFault> {
+    ) -> Result<Came, ToolFault>
+        ensures { IfOk result (MakesAsIn library.now self.now example.now text.now) }
+    {
         let start = Start {
             settings: &example.settings,
             case: self.case,

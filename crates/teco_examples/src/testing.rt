@@ -1,5 +1,10 @@
 //! `test`: the examples of a library are tried.
-use crate::keeping::{first_broken, is_exact, print_lines};
+ghost use Rattle.std.specs.Prelude.{◌≡◌, false, IfOk, IsTrue};
+ghost use Rattle.teco_console.specs.declared.outcome.Outcome.TheVariants.{Done};
+ghost use Rattle.teco_examples.specs.Examples.{AllHold, Holds, IsAsked, NoteHolds};
+ghost use Rattle.teco_policy.specs.Policies.{KeepEach};
+
+use crate::keeping::{first_breaking, is_exact, print_lines};
 use crate::report::ExampleReport;
 use crate::running::TextRun;
 use std::fmt;
@@ -32,7 +37,9 @@ pub struct Tests {
 
 impl Tests {
     // Is an example tried of the macro of this register?
-    fn has(&self, register: Reg) -> bool {
+    fn has(&self, register: Reg) -> bool
+        ensures { IsAsked self.now.entry register → IsTrue result }
+    {
         match self.entry {
             Some(entry) => entry.index() == register.index(),
             None => true,
@@ -49,7 +56,9 @@ struct ExampleTally {
 
 impl ExampleTally {
     // With one more that was tried.
-    fn with(self, holds: bool) -> ExampleTally {
+    fn with(self, holds: bool) -> ExampleTally
+        ensures { result.failed ≡ 0 → (self.failed ≡ 0) × IsTrue holds }
+    {
         let failed = if holds { 0 } else { 1 };
         ExampleTally {
             tried: self.tried.saturating_add(1),
@@ -81,7 +90,9 @@ fn tell_text<O: Write + Drop, E: Write + Drop>(
     finding: &FoundNote,
     look: Look,
     texts: (&[u8], &[u8]),
-) -> Result<bool, ToolFault> {
+) -> Result<bool, ToolFault>
+    ensures { IfOk result (λ is_wanted. IsTrue is_wanted → texts.entry.1.now ≡ texts.entry.0.now) }
+{
     let (wanted, made) = texts;
     if *made == *wanted {
         return Ok(true);
@@ -99,7 +110,9 @@ fn tell_code<O: Write + Drop, E: Write + Drop>(
     source: &Source,
     finding: &FoundNote,
     code: Code,
-) -> Result<bool, ToolFault> {
+) -> Result<bool, ToolFault>
+    ensures { IfOk result (λ is_kept. is_kept ≡ false) }
+{
     let name = letters(code);
     let summary = note_of_code(code).summary;
     let what = format!(in console.alloc; "?{name}: {summary}")?;
@@ -114,13 +127,23 @@ fn tell_broken<O: Write + Drop, E: Write + Drop>(
     finding: &FoundNote,
     example: &Example,
     made: &[u8],
-) -> Result<bool, ToolFault> {
-    let Some(breaking) = first_broken(&example.policies, &example.before, made) else {
+) -> Result<bool, ToolFault>
+    ensures { IfOk result (λ is_kept.
+        IsTrue is_kept → KeepEach example.now.policies.items example.now.before.items made.now) }
+{
+    let Some(breaking) = first_breaking(&example.policies, &example.before, made) else {
         return Ok(true);
     };
     tell_failed(console, source, finding, breaking)?;
     print_lines(console, &breaking)?;
     Ok(false)
+}
+
+// Do both hold?
+fn are_both(one: bool, other: bool) -> bool
+    ensures { IsTrue result → IsTrue one × IsTrue other }
+{
+    one && other
 }
 
 // A library whose examples are tried, with its notes, and how that is done.
@@ -138,14 +161,18 @@ impl Trial<'_> {
         console: &mut Console<O, E>,
         finding: &FoundNote,
         example: &Example,
-    ) -> Result<bool, ToolFault> {
+    ) -> Result<bool, ToolFault>
+        ensures { IfOk result (λ holds. IsTrue holds → Holds self.now.sourced.now.library
+            finding.now.register self.now.tests.now.case example.now) }
+    {
         let source = &self.sourced.source;
         let Tests { case, look, .. } = *self.tests;
         let subject = TextRun::of::<S>(console.means(), self.sourced, finding.register, case);
         match subject.run_on(&self.sourced.library, example, &example.before)? {
             Came::Text(made) => {
                 let wanted = tell_text(console, source, finding, look, (&example.after, &made))?;
-                Ok(tell_broken(console, source, finding, example, &made)? && wanted)
+                let kept = tell_broken(console, source, finding, example, &made)?;
+                Ok(are_both(wanted, kept))
             }
             Came::Code(code) => tell_code(console, source, finding, code),
         }
@@ -158,7 +185,11 @@ impl Trial<'_> {
         console: &mut Console<O, E>,
         finding: &FoundNote,
         tally: ExampleTally,
-    ) -> Result<ExampleTally, ToolFault> {
+    ) -> Result<ExampleTally, ToolFault>
+        ensures { IfOk result (λ after. after.failed ≡ 0 → (tally.failed ≡ 0)
+            × NoteHolds self.now.sourced.now.library self.now.tests.now.case
+            finding.now.register finding.now.note) }
+    {
         let source = &self.sourced.source;
         match &finding.note {
             Note::Example(Some(example)) => {
@@ -208,7 +239,11 @@ impl Trial<'_> {
         console: &mut Console<O, E>,
         finding: &FoundNote,
         tally: ExampleTally,
-    ) -> Result<ExampleTally, ToolFault> {
+    ) -> Result<ExampleTally, ToolFault>
+        ensures { IfOk result (λ after. after.failed ≡ 0 → (tally.failed ≡ 0)
+            × NoteHolds self.now.sourced.now.library self.now.tests.now.case
+            finding.now.register finding.now.note) }
+    {
         let mut apart = console.apart();
         let after = self.try_note::<S, _, _>(&mut apart, finding, tally)?;
         let (printed, _) = apart.into_parts();
@@ -218,11 +253,32 @@ impl Trial<'_> {
         Ok(after)
     }
 
+    // Tries a note, and prints an object of it if objects are asked for.
+    fn try_one<S: ClaimSearch, O: Write + Drop, E: Write + Drop>(
+        &self,
+        console: &mut Console<O, E>,
+        finding: &FoundNote,
+        tally: ExampleTally,
+    ) -> Result<ExampleTally, ToolFault>
+        ensures { IfOk result (λ after. after.failed ≡ 0 → (tally.failed ≡ 0)
+            × NoteHolds self.now.sourced.now.library self.now.tests.now.case
+            finding.now.register finding.now.note) }
+    {
+        if self.tests.prints_objects {
+            self.try_as_object::<S, _, _>(console, finding, tally)
+        } else {
+            self.try_note::<S, _, _>(console, finding, tally)
+        }
+    }
+
     // Tries those of the notes that are asked for.
     fn try_all<S: ClaimSearch, O: Write + Drop, E: Write + Drop>(
         &self,
         console: &mut Console<O, E>,
-    ) -> Result<ExampleTally, ToolFault> {
+    ) -> Result<ExampleTally, ToolFault>
+        ensures { IfOk result (λ tally. tally.failed ≡ 0 → AllHold self.now.sourced.now.library
+            self.now.tests.now.case self.now.tests.now.entry self.now.notes.now) }
+    {
         let mut tally = ExampleTally {
             tried: 0,
             failed: 0,
@@ -231,37 +287,19 @@ impl Trial<'_> {
             if !self.tests.has(finding.register) {
                 continue;
             }
-            tally = if self.tests.prints_objects {
-                self.try_as_object::<S, _, _>(console, finding, tally)?
-            } else {
-                self.try_note::<S, _, _>(console, finding, tally)?
-            };
+            tally = self.try_one::<S, _, _>(console, finding, tally)?;
         }
         Ok(tally)
     }
-}
-
-// Tries the examples of a library that are asked for, and says how many that were.
-fn test_library<S: ClaimSearch, O: Write + Drop, E: Write + Drop>(
-    console: &mut Console<O, E>,
-    sourced: &Sourced,
-    tests: &Tests,
-) -> Result<Outcome, ToolFault> {
-    let notes = notes_of(console.alloc, sourced.source.text(), is_exact(tests.case))?;
-    let trial = Trial {
-        sourced,
-        notes: &notes,
-        tests,
-    };
-    let tally = trial.try_all::<S, _, _>(console)?;
-    Ok(tell_tally(console, tally))
 }
 
 // Says how many examples were tried.
 fn tell_tally<O: Write + Drop, E: Write + Drop>(
     console: &mut Console<O, E>,
     tally: ExampleTally,
-) -> Outcome {
+) -> Outcome
+    ensures { result ≡ Done → tally.failed ≡ 0 }
+{
     let ExampleTally { tried, failed } = tally;
     console.say(format_args!("examples: {tried}, failed: {failed}"));
     if failed > 0 {
@@ -271,16 +309,37 @@ fn tell_tally<O: Write + Drop, E: Write + Drop>(
     }
 }
 
-/// Tries the examples of a library: prints what differs where a macro makes another text of one, and
-/// which policy of the macro it breaks. The macros need not be ones that are accepted.
+/// Tries those of a library's notes that are asked for: prints what differs where a macro makes another
+/// text of an example, and which policy of the macro it breaks. The macros need not be ones that are
+/// accepted. Where all is done, all of them hold.
+pub fn test_notes<S: ClaimSearch, O: Write + Drop, E: Write + Drop>(
+    console: &mut Console<O, E>,
+    sourced: &Sourced,
+    notes: &[FoundNote],
+    tests: &Tests,
+) -> Result<Outcome, ToolFault>
+    ensures { IfOk result (λ outcome. outcome ≡ Done
+        → AllHold sourced.now.library tests.now.case tests.now.entry notes.now) }
+{
+    let trial = Trial {
+        sourced,
+        notes,
+        tests,
+    };
+    let tally = trial.try_all::<S, _, _>(console)?;
+    Ok(tell_tally(console, tally))
+}
+
+/// Reads a library, and tries what is noted in its comments.
 pub fn test_examples<S: ClaimSearch, R: Files + Input, O: Write + Drop, E: Write + Drop>(
     rt: &R,
     console: &mut Console<O, E>,
     request: Request<'_>,
     tests: Tests,
 ) -> Result<Outcome, ToolFault> {
-    match read_library(rt, console, request)? {
-        Some(sourced) => test_library::<S, _, _>(console, &sourced, &tests),
-        None => Ok(Outcome::Refused),
-    }
+    let Some(sourced) = read_library(rt, console, request)? else {
+        return Ok(Outcome::Refused);
+    };
+    let notes = notes_of(console.alloc, sourced.source.text(), is_exact(tests.case))?;
+    test_notes::<S, _, _>(console, &sourced, &notes, &tests)
 }

@@ -73,6 +73,13 @@ pub struct Finish<'a> {
     pub old: Option<&'a [u8]>,
 }
 
+impl Finish<'_> {
+    // Is it known that the output has the bytes of its target, which need not be written again then?
+    fn is_needless(&self) -> bool {
+        self.is_same == Some(true) && self.handling.closing != Closing::Replaces
+    }
+}
+
 /// An output that is not closed yet: a new file beside its target.
 #[derive(Drop)]
 pub struct Unfinished<F: Write + Drop> {
@@ -166,6 +173,9 @@ impl<F: OpenFile + Write + Drop> Unfinished<F> {
         input: Option<&F>,
         how: Finish<'_>,
     ) -> Result<Ended, TroubleReason> {
+        if how.is_needless() {
+            return self.left(rt, Closed::Same);
+        }
         match self.settle(rt, alloc, input, how) {
             Ok(Settled::Moved) => Ok(self.moved()),
             Ok(Settled::Left(closed)) => self.left(rt, closed),

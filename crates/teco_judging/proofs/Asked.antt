@@ -1,31 +1,23 @@
 -- Policies that are asked for, and others behind them; and what is noted, one call further.
 use Rattle.std.proofs.Common.{List, [], ◌∷◌, ◌++◌, ◌≡◌, ◌∙◌, ◌==◌, true, false, Bool, ℕ, Option, Some, ap, cond}
 use Rattle.std.proofs.Common.{length, refl, subst, sym, take}
-use Rattle.std.proofs.lemmas.List.Elements.{All-cons, All-head, All-nil, All-tail}
-use Rattle.std.specs.Prelude.{All}
 use Rattle.teco_hosts.specs.Events.{Event, ended, gave}
 use Rattle.teco_hosts.specs.HostFiles.{Notes}
 use Rattle.teco_hosts.specs.Noting.{event_of_reading}
 use Rattle.teco_pages.proofs.Policies.{implied, is_closing, other_met, told_kept}
 use Rattle.teco_pages.specs.Policies.{AreKept, IsMet, MeetTerms}
-use Rattle.teco_pages.specs.Texts.{AreNoted, Follow, IsTextOf, edit_texts, texts_of}
+use Rattle.teco_pages.specs.Texts.{AreNoted, EditTexts, Follow, IsTextOf, edit_texts, texts_of}
 use Rattle.teco_pages.specs.declared.texts.Texts.{Texts}
-use Rattle.teco_policy.specs.Policies.{ImplyEach, KeepEach, Keeps}
+use Rattle.teco_policy.proofs.Keeping.{in_front, none_yet}
+use Rattle.teco_policy.specs.Policies.{ImplyEach, KeepEach}
 use Rattle.teco_policy.specs.declared.policy.Policy.{Policy}
-
--- those in front
-front : (P : Policy → Type 0) (asked more : List Policy) → All P (asked ++ more) → All P asked
-front P [] more all = All-nil P
-front P (policy ∷ asked) more all =
-    All-cons P policy asked (All-head P policy (asked ++ more) all)
-    (front P asked more (All-tail P policy (asked ++ more) all))
 
 -- what is noted keeps whatever those say that are asked
 pub asked_met : (asked more policies : List Policy) (noted : List Event) → ImplyEach asked policies
     → MeetTerms (asked ++ more) true noted → IsMet policies true (Notes noted)
 asked_met asked more policies noted imply met =
     implied (asked ++ more) policies true true noted
-    (λ old new keeps. imply old new (front (λ policy. Keeps policy old new) asked more keeps)) refl met
+    (λ old new keeps. imply old new (in_front asked more old new keeps)) refl met
 
 -- ---- one call more
 pub now_noted : (old new : List Event) (event : Event) (before after : Option Texts) → new ≡ old ++ event ∷ []
@@ -50,6 +42,10 @@ pub quiet_reading : (n : ℕ) (buffer : List ℕ) → is_closing (event_of_readi
 quiet_reading n buffer = quiet_some (n == 0) (length buffer == 0) (take n buffer)
 
 -- ---- what is judged
+pub none_asked : (policies : List Policy) (texts : EditTexts) → policies ≡ [] → AreKept policies texts
+none_asked policies texts none =
+    subst (λ (it : List Policy). AreKept it texts) (sym none) ∣ none_yet [] texts.old texts.new ∣₁
+
 noted_text : (texts : Texts) (events : List Event) → IsTextOf events texts → edit_texts texts ≡ texts_of events
 noted_text texts events is = ap (λ old. record { old = old; new = texts.new.items }) is.0
     ∙ ap (λ new. record { old = (texts_of events).old; new = new }) is.1

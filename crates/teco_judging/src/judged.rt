@@ -1,19 +1,17 @@
 //! A host whose outputs take their names only where they keep policies.
-ghost use Rattle.std.specs.Prelude.{◌≡◌, ◌≤◌, ◌<◌, ◌+◌, ◌++◌, [], length, take, true, IsNone, IsErr, IsTrue, OnOk};
-ghost use Rattle.teco_hosts.specs.Events.{opened_input, opened_output, wrote};
+ghost use Rattle.std.specs.Prelude.{◌≡◌, ◌≤◌, ◌<◌, ◌+◌, ◌++◌, [], true, IsNone, IsErr, IsTrue, OnOk};
 ghost use Rattle.teco_hosts.specs.HostCalls.{Counts};
 ghost use Rattle.teco_hosts.specs.HostFiles.{Notes};
-ghost use Rattle.teco_hosts.specs.Noting.{event_of_reading};
 ghost use Rattle.teco_pages.specs.Policies.{AreKept, IsMet, MeetTerms};
-ghost use Rattle.teco_pages.specs.Texts.{AreNoted, Follow, texts_of};
-ghost use Rattle.teco_policy.specs.Policies.{KeepEach, Keeps};
+ghost use Rattle.teco_pages.specs.Texts.{AreNoted, texts_of};
+ghost use Rattle.teco_policy.specs.Policies.{KeepEach};
 
 use crate::breaches::Breaking;
 use std::alloc::Global;
 use teco_files::{Purpose, Trouble, TroubleReason, name_to_tell};
 use teco_hosts::{Count, Failed, History, Host};
-use teco_pages::{Broken, Texts};
-use teco_policy::{Breach, Policy, say_same};
+use teco_pages::{Texts, note_input, note_output, note_read, note_written};
+use teco_policy::{Broken, Policy, say_same};
 use teco_tools::{Reporting, told_name};
 
 // Nothing was read or written; that is kept, unless nothing is asked of outputs.
@@ -29,90 +27,14 @@ fn no_texts(alloc: Global, asks_nothing: bool) -> Option<Texts>
     })
 }
 
-// Adds bytes to a text, if there is memory for them.
-fn is_added(text: &mut Vec<u8>, bytes: &[u8]) -> bool
-    ensures { result ≡ true → text.new.items ≡ text.old.items ++ bytes.now }
-{
-    text.extend_from_slice(bytes).is_ok()
-}
-
-// An input was opened.
-#[tactic(auto, using(teco_pages::proofs::Following::follows))]
-fn note_input(kept: &mut Option<Texts>, _name: &[u8])
-    ensures { Follow (opened_input _name.now) kept.old kept.new }
-{
-    if let Some(texts) = kept {
-        texts.old.clear();
-    }
-}
-
-// The first bytes of a buffer were read. Where memory for them is refused the texts are kept no more.
-#[tactic(auto, using(teco_pages::proofs::Following::follows_reading))]
-fn note_read(kept: &mut Option<Texts>, buf: &[u8], n: usize)
-    requires { n ≤ length buf.now }
-    ensures { Follow (event_of_reading n buf.now) kept.old kept.new }
-{
-    let is_kept = match kept {
-        Some(texts) => is_added(&mut texts.old, &buf[..n]),
-        None => return,
-    };
-    if !is_kept {
-        *kept = None;
-    }
-}
-
-// An output was opened.
-#[tactic(auto, using(teco_pages::proofs::Following::follows))]
-fn note_output(kept: &mut Option<Texts>, _name: &[u8])
-    ensures { Follow (opened_output _name.now) kept.old kept.new }
-{
-    if let Some(texts) = kept {
-        texts.new.clear();
-    }
-}
-
-// The first of some bytes were written. Where memory for them is refused the texts are kept no more.
-#[tactic(auto, using(teco_pages::proofs::Following::follows))]
-fn note_written(kept: &mut Option<Texts>, bytes: &[u8], n: usize)
-    requires { n ≤ length bytes.now }
-    ensures { Follow (wrote (take n bytes.now)) kept.old kept.new }
-{
-    let is_kept = match kept {
-        Some(texts) => is_added(&mut texts.new, &bytes[..n]),
-        None => return,
-    };
-    if !is_kept {
-        *kept = None;
-    }
-}
-
-// Where a policy is broken by the edit of a text.
-fn breach_of(asked: &Policy, texts: &Texts) -> Option<Breach>
-    ensures { IsNone result → Keeps asked.now texts.now.old.items texts.now.new.items }
-{
-    asked.breach(&texts.old, &texts.new)
-}
-
-// The first policy that is broken.
-fn first_broken(policies: &[Policy], texts: &Texts) -> Option<Broken>
-    ensures { IsNone result → KeepEach policies.now texts.now.old.items texts.now.new.items }
-{
-    for (policy, asked) in policies.iter().enumerate() {
-        if let Some(breach) = breach_of(asked, texts) {
-            return Some(Broken { policy, breach });
-        }
-    }
-    None
-}
-
 // The first policy that is broken, of those that are asked and others.
 fn first_of_both(asked: &[Policy], more: &[Policy], texts: &Texts) -> Option<Broken>
     ensures { IsNone result → KeepEach (asked.now ++ more.now) texts.now.old.items texts.now.new.items }
 {
-    if let Some(broken) = first_broken(asked, texts) {
+    if let Some(broken) = texts.first_broken(asked) {
         return Some(broken);
     }
-    match first_broken(more, texts) {
+    match texts.first_broken(more) {
         Some(Broken { policy, breach }) => Some(Broken {
             policy: asked.len().saturating_add(policy),
             breach,

@@ -13,7 +13,7 @@ mod calls;
 
 use self::calls::Calls;
 use crate::ahead::{InputAhead, open_source};
-use crate::texts::{Texts, no_texts, open_input, open_output, read, write};
+use crate::texts::{Texts, no_texts, note_input, note_output, note_read, note_written};
 use std::alloc::Global;
 use std::fs::{Files, OpenFile};
 use std::io::{Read, Write};
@@ -255,7 +255,7 @@ impl<R: System> Host for FileHost<R> {
             Ok(file) => {
                 self.input = Some(file);
                 self.given = 0;
-                open_input(&mut self.texts, name);
+                note_input(&mut self.texts, name);
                 self.calls.opened_input(name);
                 Ok(())
             }
@@ -267,7 +267,7 @@ impl<R: System> Host for FileHost<R> {
         match read_some(&mut self.input, self.given, buf) {
             Ok(n) => {
                 self.given += n;
-                read(&mut self.texts, buf, n);
+                note_read(&mut self.texts, buf, n);
                 self.calls.history.gave(buf, n);
                 Ok(n)
             }
@@ -285,7 +285,7 @@ impl<R: System> Host for FileHost<R> {
         };
         match begin_output(&self.rt, self.alloc, &mut self.output, begin) {
             Ok(()) => {
-                open_output(&mut self.texts, name);
+                note_output(&mut self.texts, name);
                 self.calls.opened_output(name);
                 Ok(())
             }
@@ -296,7 +296,7 @@ impl<R: System> Host for FileHost<R> {
     fn write(&mut self, bytes: &[u8]) -> Result<usize, Failed> {
         match write_some(&mut self.output, bytes) {
             Ok(n) => {
-                write(&mut self.texts, bytes, n);
+                note_written(&mut self.texts, bytes, n);
                 self.calls.history.wrote(bytes, n);
                 Ok(n)
             }

@@ -1,15 +1,14 @@
 //! A host of files whose outputs take their names only where they keep policies.
-ghost use Rattle.std.specs.Prelude.{◌≡◌, ◌↔◌, [], IfSome, IsNone, IsTrue, OnOk};
+ghost use Rattle.std.specs.Prelude.{◌≡◌, ◌↔◌, [], IfSome, IsTrue, OnOk};
 ghost use Rattle.teco_hosts.specs.HostFiles.{Notes};
 ghost use Rattle.teco_pages.specs.Policies.{AreKept, IsMet, MeetTerms};
 ghost use Rattle.teco_pages.specs.Texts.{Differ, edit_texts, noted_texts};
-ghost use Rattle.teco_policy.specs.Policies.{Keeps};
 
 use crate::file_host::FileHost;
 use crate::texts::Texts;
 use teco_files::{System, TroubleReason};
 use teco_hosts::{Failed, Host};
-use teco_policy::{Breach, Policy, say_same};
+use teco_policy::{Broken, Policy, say_same};
 
 /// What is asked of an edit.
 #[derive(Clone, Copy)]
@@ -20,37 +19,11 @@ pub struct EditTerms<'p> {
     pub closes: bool,
 }
 
-/// A policy that an edit breaks, by its place among those that were asked, and where.
-#[derive(Clone, Copy)]
-pub struct Broken {
-    pub policy: usize,
-    pub breach: Breach,
-}
-
 // Is the new text another than the old one?
 fn do_differ(texts: &Texts) -> bool
     ensures { IsTrue result ↔ Differ (edit_texts texts.now) }
 {
     texts.new.as_slice() != texts.old.as_slice()
-}
-
-// Where a policy is broken by the edit of a text.
-fn breach_of(asked: &Policy, texts: &Texts) -> Option<Breach>
-    ensures { IsNone result → Keeps asked.now texts.now.old.items texts.now.new.items }
-{
-    asked.breach(&texts.old, &texts.new)
-}
-
-// The first policy that is broken.
-fn first_broken(policies: &[Policy], texts: &Texts) -> Option<Broken>
-    ensures { IsNone result → AreKept policies.now (edit_texts texts.now) }
-{
-    for (policy, asked) in policies.iter().enumerate() {
-        if let Some(breach) = breach_of(asked, texts) {
-            return Some(Broken { policy, breach });
-        }
-    }
-    None
 }
 
 /// The files of the system, as a `FileHost` has them. An output takes its name only where the edit of the
@@ -124,7 +97,7 @@ impl<'p, R: System> PolicyHost<'p, R> {
         let Some(texts) = self.host.texts() else {
             return Err(None);
         };
-        match first_broken(self.terms.policies, texts) {
+        match texts.first_broken(self.terms.policies) {
             None => Ok(()),
             Some(broken) => Err(Some(broken)),
         }

@@ -1,6 +1,6 @@
 -- What an edit must not do to a text, by the text before it and the one behind it.
 use Rattle.std.specs.Prelude.{◌≡◌, ◌≢◌, ◌↔◌, ℕ, ◌+◌, ◌*◌, ◌/◌, ◌<◌, ◌≤◌, List, [], length, take, All, Option}
-use Rattle.std.specs.Prelude.{MatchOption}
+use Rattle.std.specs.Prelude.{MatchOption, slice_index_or}
 use Rattle.std.specs.List.{AllZip, count_by}
 use Rattle.teco_base.specs.Bytes.{is_line_end}
 use Rattle.teco_policy.specs.Lines.{ChangesAtMost, EndAlike, IsFirstUnlike, lines}
@@ -9,6 +9,7 @@ use Rattle.teco_policy.specs.Wordings.{IsSameOrFound}
 use Rattle.teco_policy.specs.declared.breach.Breach.{Breach}
 use Rattle.teco_policy.specs.declared.breach.Breach.TheVariants.{Added, Changed, Line, Resized, Taken}
 use Rattle.teco_policy.specs.declared.breach.Place.{Place}
+use Rattle.teco_policy.specs.declared.broken.Broken.{Broken}
 use Rattle.teco_policy.specs.declared.policy.Policy.{Policy}
 use Rattle.teco_policy.specs.declared.policy.Policy.TheVariants as policy
 
@@ -38,7 +39,7 @@ Keeps (policy.Most n) old new = ChangesAtMost n (lines old) (lines new)
 Keeps (policy.MostPercent n) old new = ChangesAtMost (percent_of n old) (lines old) (lines new)
 
 -- an edit with these texts keeps each of the policies
-abbrev pub KeepEach : List Policy → List ℕ → List ℕ → Type 0
+unfoldable pub KeepEach : List Policy → List ℕ → List ℕ → Type 0
 KeepEach policies old new = All (λ policy. Keeps policy old new) policies
 
 -- whatever keeps a policy keeps the other
@@ -94,6 +95,14 @@ Breaks (policy.AddOnly characters) old new = IsAdded characters.items old new
 Breaks (policy.TakeOnly characters) old new = IsTaken characters.items old new
 Breaks (policy.Most n) old new = IsChangedTooMuch n old new
 Breaks (policy.MostPercent n) old new = IsChangedTooMuch (percent_of n old) old new
+
+-- the first of some policies that is broken, by its place, and where: those before it are kept
+pub record IsFirstBroken (policies : List Policy) (old new : List ℕ) (broken : Broken) : Type 0 where
+  pub before : KeepEach (take broken.policy policies) old new
+  pub within : broken.policy < length policies
+  pub asked : Policy
+  pub stands : asked ≡ slice_index_or policies broken.policy asked
+  pub breaks : Breaks asked old new broken.breach
 
 -- A policy is kept, or it is not and this is where.
 abbrev pub Tells : Type 0 → (Breach → Type 0) → Option Breach → Type 0

@@ -4,6 +4,7 @@
 
 mod alike;
 mod breach;
+mod broken;
 mod changes;
 mod lines;
 mod percent;
@@ -16,6 +17,7 @@ mod walks;
 mod words;
 
 pub use breach::{Breach, Place};
+pub use broken::{Broken, first_broken};
 pub use percent::Percent;
 pub use policy::Policy;
 pub use refusal::PolicyRefusal;

@@ -1,4 +1,4 @@
-use Rattle.std.proofs.Common.{ℕ, List, All, take}
+use Rattle.std.proofs.Common.{ℕ, List, take}
 use Rattle.teco_policy.specs.Policies.{KeepEach}
 use Rattle.teco_policy.proofs.sameness.say_same.Given as goal
 

@@ -2,7 +2,7 @@ use Rattle.std.proofs.Common.{refl, subst, take}
 use Rattle.teco_hosts.specs.Events.{wrote}
 use Rattle.teco_pages.proofs.Following.{follows}
 use Rattle.teco_pages.specs.Texts.{AreNoted}
-use Rattle.teco_judging.proofs.judged.note_written.Goals as goal
+use Rattle.teco_pages.proofs.texts.note_written.Goals as goal
 
 pub returns-else-not-is_kept : goal.returns-else-not-is_kept
 returns-else-not-is_kept c = λ events noted.

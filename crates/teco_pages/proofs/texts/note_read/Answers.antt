@@ -1,7 +1,7 @@
 use Rattle.std.proofs.Common.{refl, subst}
 use Rattle.teco_pages.proofs.Following.{follows_reading}
 use Rattle.teco_pages.specs.Texts.{AreNoted}
-use Rattle.teco_pages.proofs.texts.read.Goals as goal
+use Rattle.teco_pages.proofs.texts.note_read.Goals as goal
 
 pub returns-else-not-is_kept : goal.returns-else-not-is_kept
 returns-else-not-is_kept c = λ events noted.

@@ -2,7 +2,7 @@ use Rattle.std.proofs.Common.{refl, subst}
 use Rattle.teco_hosts.specs.Events.{opened_output}
 use Rattle.teco_pages.proofs.Following.{follows}
 use Rattle.teco_pages.specs.Texts.{AreNoted}
-use Rattle.teco_judging.proofs.judged.note_output.Goals as goal
+use Rattle.teco_pages.proofs.texts.note_output.Goals as goal
 
 pub returns-in-Some : goal.returns-in-Some
 returns-in-Some c = λ events noted.

@@ -1,6 +1,0 @@
-use Rattle.std.proofs.Common.{take}
-use Rattle.teco_policy.specs.Policies.{KeepEach}
-use Rattle.teco_judging.proofs.judged.first_broken.Given as goal
-
-abbrev pub invariant-loop-policy : goal.invariant-loop-policy
-invariant-loop-policy l = KeepEach (take l.policy l.policies) l.texts.old.items l.texts.new.items
